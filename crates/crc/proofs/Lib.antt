@@ -1,0 +1,5 @@
+-- Laws of the division and of the register, that the remainder is the only one, and the table's rule.
+pub mod Table
+pub mod Laws
+pub mod Euclid
+pub mod Rule
