@@ -6,7 +6,7 @@ use mathlib.Core.List.{List, [], _∷_, _++_}
 use native.Mathlib.Omega.{arith}
 use lib.ListN.{length, length-append}
 use Rattle.crc.specs.Fcs.{add, lower, generator, divide, zeros}
-use Rattle.crc.proofs.Laws.{add-assoc, add-zeros, add-cancel, add-length, lower-length, zeros-length, linear, divide-zeros}
+use Rattle.crc.proofs.Laws.{add-assoc, add-zeros, add-length, lower-length, zeros-length, linear, divide-zeros}
 
 -- q times the generator: 32 terms more than q
 unfoldable pub times : List Bool → List Bool

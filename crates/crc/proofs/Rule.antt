@@ -1,11 +1,11 @@
 -- The table's rule, at all of its 256 entries by one test that antt computes: each is a number of 32 bits that are the remainder for its place.
 -- Assumes nothing.
-use Prim.Native.Nat.{ℕ, _<_, _^_}
+use Prim.Native.Nat.{ℕ}
 use mathlib.Core.Path.{_≡_, refl, ap}
 use mathlib.Core.Bool.{Bool, true, false}
 use mathlib.Core.List.{List, [], _∷_}
 use lib.Dec.{T, ltb, ltb→lt}
-use lib.ListN.{length, getD}
+use lib.ListN.{getD}
 use Rattle.crc.specs.Fcs.{add, lower, divide, remainder, zeros, bits}
 use Rattle.crc.specs.Register.{entryOf, Rule}
 use Rattle.crc.proofs.Table.{both, both-left, both-right, every, at}

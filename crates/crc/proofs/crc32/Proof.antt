@@ -1,6 +1,5 @@
 -- `crc::crc32` meets its contract: the register of 32 ones takes the octets, and its complement is the check sequence.
 -- Assumes nothing.
-use Prim.Native.Nat.{ℕ}
 use mathlib.Core.Path.{sym}
 use native.Mathlib.Omega.{arith}
 use Rattle.crc.proofs.Laws.{takes-crc}

@@ -1,0 +1,19 @@
+-- Casts of whole numbers that keep low bits. Floats to whole numbers are `lib.Ieee`'s `toSigned` and `toUnsigned`: toward zero, held to the range, 0 for not-a-number.
+-- Assumes nothing.
+use Prim.Native.Nat.{ℕ, _-_, _%_}
+use mathlib.Core.Bool.{cond}
+use lib.Dec.{ltb}
+use lib.IntN.{ℤ, pos, negsuc}
+
+-- z modulo 2 ^ 16: the number that its low 16 bits stand for
+abbrev pub lowBits : ℤ → ℕ
+lowBits (pos n) = n % 65536
+lowBits (negsuc n) = 65535 - n % 65536
+
+-- 16 bits read in two's complement
+abbrev pub signed16 : ℕ → ℤ
+signed16 n = cond (ltb n 32768) (pos n) (negsuc (65535 - n))
+
+-- Rust's `z as i16`: document 01, "keeps the low 16 bits"
+abbrev pub low16 : ℤ → ℤ
+low16 z = signed16 (lowBits z)

@@ -1,0 +1,110 @@
+// Rust's casts from floats to whole numbers, which cut toward zero, hold to the range and make 0 of not-a-number, and the cast that keeps low bits.
+ghost use mathlib.Core.Path.{_≡_};
+ghost use lib.Ieee.{toSigned, toUnsigned};
+ghost use Rattle.num.specs.Cast.{lowBits, low16};
+
+// Rust's `x as i64`. The others hold its answer to their own range as whole numbers.
+pub fn i64_of_f32(x: f32) -> i64
+    ensures { λ r. ⌜ r ≡ toSigned 63 x ⌝ }
+{
+    if x >= -9223372036854775808.0 {
+        if x < 9223372036854775808.0 {
+            return std::num::truncating_f32_to_i64(x);
+        }
+        return 9223372036854775807;
+    }
+    if x < 0.0 {
+        return -9223372036854775808;
+    }
+    0
+}
+
+// Rust's `x as i32`.
+pub fn i32_of_f32(x: f32) -> i32
+    ensures { λ r. ⌜ r ≡ toSigned 31 x ⌝ }
+{
+    let t = i64_of_f32(x);
+    if t < -2147483648 {
+        return -2147483648;
+    }
+    if t > 2147483647 {
+        return 2147483647;
+    }
+    t as i32
+}
+
+// Rust's `x as i16`.
+pub fn i16_of_f32(x: f32) -> i16
+    ensures { λ r. ⌜ r ≡ toSigned 15 x ⌝ }
+{
+    let t = i64_of_f32(x);
+    if t < -32768 {
+        return -32768;
+    }
+    if t > 32767 {
+        return 32767;
+    }
+    t as i16
+}
+
+// Rust's `x as u32`.
+pub fn u32_of_f32(x: f32) -> u32
+    ensures { λ r. ⌜ r ≡ toUnsigned 32 x ⌝ }
+{
+    let t = i64_of_f32(x);
+    if t < 0 {
+        return 0;
+    }
+    if t > 4294967295 {
+        return 4294967295;
+    }
+    t as u32
+}
+
+// Rust's `x as u8`.
+pub fn u8_of_f32(x: f32) -> u8
+    ensures { λ r. ⌜ r ≡ toUnsigned 8 x ⌝ }
+{
+    let t = i64_of_f32(x);
+    if t < 0 {
+        return 0;
+    }
+    if t > 255 {
+        return 255;
+    }
+    t as u8
+}
+
+// Rust's `x as u64` of a double.
+pub fn u64_of_f64(x: f64) -> u64
+    ensures { λ r. ⌜ r ≡ toUnsigned 64 x ⌝ }
+{
+    if x > -1.0 {
+        if x < 18446744073709551616.0 {
+            return std::num::truncating_f64_to_u64(x);
+        }
+        return 18446744073709551615;
+    }
+    0
+}
+
+// The low 16 bits of z.
+fn low_bits(z: i32) -> u32
+    ensures { λ r. ⌜ r ≡ lowBits z ⌝ }
+{
+    if z >= 0 {
+        return (z as u32) % 65536;
+    }
+    65535 - ((-1 - z) as u32) % 65536
+}
+
+// Rust's `z as i16`.
+pub fn i16_of_i32(z: i32) -> i16
+    ensures { λ r. ⌜ r ≡ low16 z ⌝ }
+{
+    let low = low_bits(z);
+    if low < 32768 {
+        return low as i16;
+    }
+    -1 - ((65535 - low) as i16)
+}
