@@ -1,0 +1,2 @@
+-- The table of bench lines.
+pub mod Lines
