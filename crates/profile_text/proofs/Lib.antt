@@ -1,0 +1,2 @@
+-- The laws that the proofs of `profile_text` share.
+pub mod Laws

@@ -1,0 +1,3 @@
+-- The text of the program `profile`, and how its writers go about it.
+pub mod Text
+pub mod Appended

@@ -1,0 +1,60 @@
+-- What the program `profile` prints, from the bytes of its input: document 01, "Program `profile`". Text is a list of ASCII codes.
+-- Assumes nothing.
+use Prim.Native.Nat.{ℕ, zero, suc, _+_, _*_, _/_, _%_}
+use mathlib.Core.Bool.{_&&_, cond}
+use mathlib.Core.List.{List, [], _∷_, _++_}
+use lib.Dec.{leb, ltb, eqb}
+use lib.ListN.{length}
+use lib.IntN.{ℤ, pos, negsuc}
+use lib.Signed.{quotZ}
+use Rattle.num.specs.Cast.{signed16}
+
+-- ---- numbers
+
+-- n in decimal with no leading zeros, where k digits are enough
+unfoldable pub digits : ℕ → ℕ → List ℕ
+digits zero n = []
+digits (suc k) n = cond (ltb n 10) ((48 + n) ∷ []) (digits k (n / 10) ++ ((48 + n % 10) ∷ []))
+
+-- 20 are enough for 64 bits
+unfoldable pub decimal : ℕ → List ℕ
+decimal n = digits 20 n
+
+-- with a '-' before a negative one
+abbrev pub signed : ℤ → List ℕ
+signed (pos n) = decimal n
+signed (negsuc n) = 45 ∷ decimal (suc n)
+
+-- ---- lines
+
+-- decimetres in whole metres, cut toward zero
+abbrev pub wholeMetres : ℤ → ℤ
+wholeMetres z = quotZ z (pos 10)
+
+-- metres ahead, 20 a sample; a blank; the rise; a line end
+unfoldable pub line : ℕ → ℤ → List ℕ
+line i z = decimal (20 * i) ++ (32 ∷ (signed (wholeMetres z) ++ (10 ∷ [])))
+
+unfoldable pub lines : ℕ → List ℤ → List ℕ
+lines i [] = []
+lines i (z ∷ zs) = line i z ++ lines (i + 1) zs
+
+-- ---- the input
+
+-- signed 16-bit numbers, the low byte first
+unfoldable pub samples : List ℕ → List ℤ
+samples [] = []
+samples (lo ∷ []) = []
+samples (lo ∷ hi ∷ bs) = signed16 (lo + hi * 256) ∷ samples bs
+
+-- "distance rise" and a line end
+unfoldable pub heading : List ℕ
+heading = 100 ∷ 105 ∷ 115 ∷ 116 ∷ 97 ∷ 110 ∷ 99 ∷ 101 ∷ 32 ∷ 114 ∷ 105 ∷ 115 ∷ 101 ∷ 10 ∷ []
+
+-- "bad input" and a line end
+unfoldable pub badInput : List ℕ
+badInput = 98 ∷ 97 ∷ 100 ∷ 32 ∷ 105 ∷ 110 ∷ 112 ∷ 117 ∷ 116 ∷ 10 ∷ []
+
+-- up to 501 samples and no odd byte; no input is the heading alone
+unfoldable pub profile : List ℕ → List ℕ
+profile bs = cond (leb (length bs) 1002 && eqb (length bs % 2) 0) (heading ++ lines 0 (samples bs)) badInput
