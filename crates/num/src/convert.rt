@@ -68,13 +68,20 @@ pub fn f32_of_usize(n: usize) -> f32
 }
 
 // Rust's `z as f32`. -z does not fit at the least number, so z + 1 is negated and the one added back.
-pub fn f32_of_i32(z: i32) -> f32
+pub fn f32_of_i64(z: i64) -> f32
     ensures { λ r. ⌜ r ≡ ofInt binary32 z ⌝ }
 {
     if z >= 0 {
         return nearest(z as u64, 1074);
     }
     -nearest(((0 - (z + 1)) as u64) + 1, 1074)
+}
+
+// Rust's `z as f32`.
+pub fn f32_of_i32(z: i32) -> f32
+    ensures { λ r. ⌜ r ≡ ofInt binary32 z ⌝ }
+{
+    f32_of_i64(z as i64)
 }
 
 // Rust's `n as f32` of a byte, which a single float holds exactly.

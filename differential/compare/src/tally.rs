@@ -1,0 +1,80 @@
+//! What was compared and what differed.
+use crate::{Scale, random::Random};
+use std::{fmt::Debug, thread, time::Instant};
+
+#[derive(Default)]
+pub struct Tally {
+    name: String,
+    compared: u64,
+    differed: u64,
+    /// The first difference in words.
+    first: Option<String>,
+    /// A difference is shown and fails nothing.
+    pub shown_only: bool,
+    /// For bearings, the most degrees from the Rust and from f64 atan2.
+    most: [f64; 2],
+}
+
+impl Tally {
+    pub fn new(name: &str) -> Self {
+        Self { name: name.into(), ..Self::default() }
+    }
+
+    /// One step for each of 0..total, split over threads that have a tally and random numbers of
+    /// their own. Says how long it took.
+    pub fn over(
+        name: &str,
+        scale: &Scale,
+        total: u64,
+        step: impl Fn(&mut Self, &mut Random, u64) + Sync,
+    ) -> Self {
+        let start = Instant::now();
+        eprint!("{name} .. ");
+        let part = &|k: u64| {
+            let (mut tally, mut random) = (Self::new(name), Random(k));
+            let range = total * k / scale.threads..total * (k + 1) / scale.threads;
+            range.for_each(|n| step(&mut tally, &mut random, n));
+            tally
+        };
+        let tally = thread::scope(|scope| {
+            let parts: Vec<_> = (0..scale.threads).map(|k| scope.spawn(move || part(k))).collect();
+            parts.into_iter().map(|part| part.join().unwrap()).fold(Self::new(name), Self::add)
+        });
+        eprintln!("{:.1} s", start.elapsed().as_secs_f64());
+        tally
+    }
+
+    fn add(mut self, other: Self) -> Self {
+        self.compared += other.compared;
+        self.differed += other.differed;
+        self.first = self.first.or(other.first);
+        self.far(other.most);
+        self
+    }
+
+    pub fn count(&mut self, same: bool, given: impl Debug, port: impl Debug, rust: impl Debug) {
+        self.compared += 1;
+        if !same {
+            self.differed += 1;
+            self.first.get_or_insert_with(|| format!("{given:x?}: {port:x?}, not {rust:x?}"));
+        }
+    }
+
+    pub fn far(&mut self, degrees: [f64; 2]) {
+        self.most = [0, 1].map(|k| self.most[k].max(degrees[k]));
+    }
+
+    pub fn failed(&self) -> bool {
+        self.differed > 0 && !self.shown_only
+    }
+
+    pub fn print(&self) {
+        print!("{:<24} compared {:>11}  differed {}", self.name, self.compared, self.differed);
+        let [rust, exact] = self.most;
+        if exact > 0.0 {
+            print!("; at most {rust:.9} degrees from the Rust, {exact:.9} from f64 atan2");
+        }
+        println!("{}", if self.shown_only { "; not judged" } else { "" });
+        self.first.iter().for_each(|first| println!("    first: {first}"));
+    }
+}
