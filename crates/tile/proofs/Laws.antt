@@ -1,0 +1,69 @@
+-- Laws about conjunctions, about a test of every number below a bound, and about a list of clauses. Assumes nothing.
+use Prim.Native.Nat.{ℕ, zero, suc, _+_, _<_}
+use mathlib.Core.Path.{_≡_, refl, sym, ap, _∙_}
+use mathlib.Core.Bool.{Bool, true, false, _&&_, true≢false}
+use mathlib.Core.List.{List, [], _∷_}
+use native.Mathlib.Numerals.{add-one}
+use native.Mathlib.Omega.{arith}
+use lib.Dec.{eqb}
+use lib.ListN.{getD}
+use borrow.Author.Tests.{eqb-true, eqb-false}
+use Rattle.pack.specs.Sector.{allOf}
+use Rattle.tile.specs.Parse.{allBelow}
+
+-- ---- a conjunction
+
+pub and-left : (a b : Bool) → (a && b) ≡ true → a ≡ true
+and-left true b e = refl
+and-left false b e = absurd (true≢false (sym e))
+
+pub and-right : (a b : Bool) → (a && b) ≡ true → b ≡ true
+and-right true b e = e
+and-right false b e = absurd (true≢false (sym e))
+
+-- ---- every number below a bound
+
+pub all-none : (p : ℕ → Bool) → allBelow p 0 ≡ true
+unfolding allBelow
+all-none p = refl
+
+pub all-more : (p : ℕ → Bool) (i : ℕ) → allBelow p i ≡ true → p i ≡ true → allBelow p (i + 1) ≡ true
+unfolding allBelow
+all-more p i h t = rw (add-one, h, t)
+
+-- each of them has it
+pub all-at : (p : ℕ → Bool) (i n : ℕ) → i < n → allBelow p n ≡ true → p i ≡ true
+unfolding allBelow
+all-at p i zero h e = absurd (omega arith)
+all-at p i (suc n) h e = go (eqb i n) refl (λ k. all-at p i n k (and-left (allBelow p n) (p n) e))
+  where
+    go : (t : Bool) → eqb i n ≡ t → (i < n → p i ≡ true) → p i ≡ true
+    go true q r = ap p (eqb-true i n q) ∙ and-right (allBelow p n) (p n) e
+    go false q r = r (omega (arith, eqb-false i n q))
+
+pub all-end : (p : ℕ → Bool) (i n : ℕ) → i ≡ n → allBelow p i ≡ true → true ≡ allBelow p n
+all-end p i n q e = sym (rw q at e)
+
+-- one that fails
+pub all-miss : (p : ℕ → Bool) (i n : ℕ) → i < n → p i ≡ false → allBelow p n ≡ false
+all-miss p i n h t = go (allBelow p n) refl
+  where
+    go : (b : Bool) → allBelow p n ≡ b → b ≡ false
+    go true e = absurd (true≢false (sym (all-at p i n h e) ∙ t))
+    go false e = refl
+
+-- ---- a list of clauses
+
+-- the clause at k of a list that holds
+pub clause : (k : ℕ) (bs : List Bool) → allOf bs ≡ true → getD bs k true ≡ true
+clause k [] e = refl
+clause zero (b ∷ bs) e = and-left b (allOf bs) e
+clause (suc k) (b ∷ bs) e = clause k bs (and-right b (allOf bs) e)
+
+-- a list with a clause that fails
+pub clause-miss : (k : ℕ) (bs : List Bool) → getD bs k true ≡ false → allOf bs ≡ false
+clause-miss k bs t = go (allOf bs) refl
+  where
+    go : (b : Bool) → allOf bs ≡ b → b ≡ false
+    go true e = absurd (true≢false (sym (clause k bs e) ∙ t))
+    go false e = refl

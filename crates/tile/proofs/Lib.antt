@@ -1,0 +1,5 @@
+-- Laws about a tile's definitions.
+pub mod Laws
+pub mod Clauses
+pub mod Search
+pub mod Within

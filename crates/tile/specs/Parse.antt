@@ -1,0 +1,97 @@
+-- When a tile's bytes are accepted: document 01, "tile.rs", as a list of named clauses. Whatever fails, the number is 4.
+-- Assumes nothing.
+use Prim.Native.Nat.{ℕ, zero, suc, _+_, _*_, _/_, min}
+use mathlib.Core.Bool.{Bool, true, _&&_, cond}
+use mathlib.Core.List.{List, [], _∷_}
+use lib.Dec.{leb, ltb, eqb}
+use lib.ListN as ListN
+use Rattle.crc.specs.Fcs.{crc32Skipping}
+use Rattle.pack.specs.Bytes.{byteAt, u16At, u32At}
+use Rattle.pack.specs.Sector.{allOf}
+use Rattle.pack.specs.declared.TileKey.{TileKey}
+use Rattle.tile.specs.Layout.{nodesOf, edgesOf, verticesOf, length, nodeStart, entryStart, edgeStart, headOf}
+use Rattle.tile.specs.declared.Parsed.{Parsed}
+use Rattle.tile.specs.declared.Parsed.the-variants as Parsed
+
+-- every number below n has it
+unfoldable pub allBelow : (ℕ → Bool) → ℕ → Bool
+allBelow p zero = true
+allBelow p (suc n) = allBelow p n && p n
+
+-- ---- the head
+
+abbrev pub isLong : List ℕ → Bool
+isLong bs = leb 32 (ListN.length bs)
+
+-- "VT"
+abbrev pub isMagic : List ℕ → Bool
+isMagic bs = eqb (u16At bs 0) 0x5456
+
+abbrev pub isVersion : List ℕ → Bool
+isVersion bs = eqb (byteAt bs 2) 1
+
+-- CRC at 24, taken as zero when summed
+abbrev pub isSum : List ℕ → Bool
+isSum bs = eqb (crc32Skipping bs 24) (u32At bs 24)
+
+abbrev pub isKey : List ℕ → TileKey → Bool
+isKey bs key = eqb (u16At bs 4) (key .row) && eqb (u16At bs 6) (key .col)
+
+abbrev pub isLength : List ℕ → Bool
+isLength bs = eqb (length (nodesOf bs) (edgesOf bs) (verticesOf bs)) (ListN.length bs)
+
+abbrev pub hasLon : List ℕ → Bool
+hasLon bs = ltb 0 (u32At bs 16)
+
+-- ---- the records
+
+-- a node lies within the tile, its adjacency start within the entries
+unfoldable pub nodeOk : List ℕ → ℕ → ℕ → Bool
+nodeOk bs size i =
+    leb (u16At bs (nodeStart i)) size
+    && (leb (u16At bs (nodeStart i + 2)) size
+    && leb (u16At bs (nodeStart i + 6)) (edgesOf bs * 2))
+
+-- any size is cut to 65,535
+abbrev pub nodesGood : List ℕ → ℕ → Bool
+nodesGood bs size = allBelow (nodeOk bs (min size 65535)) (nodesOf bs)
+
+-- the edge that stands at `at`: its two nodes are there, and its vertices
+unfoldable pub edgeFits : List ℕ → ℕ → ℕ → ℕ → Bool
+edgeFits bs nodes vertices at =
+    ltb (u16At bs at) nodes && (ltb (u16At bs (at + 2)) nodes && leb (u32At bs (at + 4) + u16At bs (at + 8)) vertices)
+
+abbrev pub edgeOk : List ℕ → ℕ → Bool
+edgeOk bs i = edgeFits bs (nodesOf bs) (verticesOf bs) (edgeStart bs i)
+
+abbrev pub edgesGood : List ℕ → Bool
+edgesGood bs = allBelow (edgeOk bs) (edgesOf bs)
+
+-- an adjacency entry names an edge
+unfoldable pub entryOk : List ℕ → ℕ → Bool
+entryOk bs j = ltb (u16At bs (entryStart bs j) / 2) (edgesOf bs)
+
+abbrev pub entriesGood : List ℕ → Bool
+entriesGood bs = allBelow (entryOk bs) (edgesOf bs * 2)
+
+-- ---- parse
+
+abbrev pub clauses : List ℕ → TileKey → ℕ → List Bool
+clauses bs key size =
+    isLong bs
+    ∷ isMagic bs
+    ∷ isVersion bs
+    ∷ isSum bs
+    ∷ isKey bs key
+    ∷ isLength bs
+    ∷ hasLon bs
+    ∷ nodesGood bs size
+    ∷ edgesGood bs
+    ∷ entriesGood bs
+    ∷ []
+
+unfoldable pub accepts : List ℕ → TileKey → ℕ → Bool
+accepts bs key size = allOf (clauses bs key size)
+
+unfoldable pub parse : List ℕ → TileKey → ℕ → Parsed
+parse bs key size = cond (accepts bs key size) (Parsed.Tile (headOf bs)) (Parsed.Refused 4)

@@ -1,0 +1,136 @@
+// The clauses of `parse`, one function for each that is more than a comparison.
+use pack::TileKey;
+ghost use mathlib.Core.Path.{_≡_};
+ghost use mathlib.Core.Bool.{_&&_};
+ghost use Prim.Native.Nat.{_+_, _*_, _^_, _<_};
+ghost use Rattle.tile.specs.Layout as Layout;
+ghost use Rattle.tile.specs.Parse as Parse;
+
+// Long enough for a head, its magic and its version.
+pub fn is_head(bytes: &[u8]) -> bool
+    ensures { λ r. ⌜ r ≡ (Parse.isLong (now (bytes .entry)) && (Parse.isMagic (now (bytes .entry)) && Parse.isVersion (now (bytes .entry)))) ⌝ }
+{
+    if bytes.len() < 32 {
+        return false;
+    }
+    if pack::bytes::u16_at(bytes, 0) != 0x5456 {
+        return false;
+    }
+    pack::bytes::byte_at(bytes, 2) == 1
+}
+
+pub fn is_sum(bytes: &[u8]) -> bool
+    ensures { λ r. ⌜ r ≡ Parse.isSum (now (bytes .entry)) ⌝ }
+{
+    crc::crc32_skipping(bytes, 24) == pack::bytes::u32_at(bytes, 24)
+}
+
+pub fn is_key(bytes: &[u8], key: TileKey) -> bool
+    ensures { λ r. ⌜ r ≡ Parse.isKey (now (bytes .entry)) key ⌝ }
+{
+    if pack::bytes::u16_at(bytes, 4) == key.row {
+        return pack::bytes::u16_at(bytes, 6) == key.col;
+    }
+    false
+}
+
+pub fn is_length(bytes: &[u8]) -> bool
+    ensures { λ r. ⌜ r ≡ Parse.isLength (now (bytes .entry)) ⌝ }
+{
+    let nodes = pack::bytes::u16_at(bytes, 8) as u64;
+    let edges = pack::bytes::u16_at(bytes, 10) as u64;
+    let vertices = pack::bytes::u32_at(bytes, 12) as u64;
+    32 + nodes * 8 + edges * 20 + vertices * 6 == bytes.len() as u64
+}
+
+fn node_ok(bytes: &[u8], size: u32, last: u32, index: u32) -> bool
+    requires { ⌜ last ≡ Layout.edgesOf (now bytes) * 2 ⌝ }
+    ensures { λ r. ⌜ r ≡ Parse.nodeOk (now (bytes .entry)) size index ⌝ }
+{
+    let at = 32 + (index as usize) * 8;
+    if size < pack::bytes::u16_at(bytes, at) as u32 {
+        return false;
+    }
+    if size < pack::bytes::u16_at(bytes, at + 2) as u32 {
+        return false;
+    }
+    pack::bytes::u16_at(bytes, at + 6) as u32 <= last
+}
+
+// Every node lies within the tile, and its adjacency start within the entries.
+fn all_nodes(bytes: &[u8], size: u32) -> bool
+    ensures { λ r. ⌜ r ≡ Parse.allBelow (Parse.nodeOk (now (bytes .entry)) size) (Layout.nodesOf (now (bytes .entry))) ⌝ }
+{
+    let nodes = pack::bytes::u16_at(bytes, 8) as u32;
+    let last = (pack::bytes::u16_at(bytes, 10) as u32) * 2;
+    let mut index: u32 = 0;
+    while index < nodes {
+        if !node_ok(bytes, size, last, index) {
+            return false;
+        }
+        index += 1;
+    }
+    true
+}
+
+// Any size is cut to 65,535.
+pub fn nodes_good(bytes: &[u8], size: u32) -> bool
+    ensures { λ r. ⌜ r ≡ Parse.nodesGood (now (bytes .entry)) size ⌝ }
+{
+    if 65535 < size {
+        return all_nodes(bytes, 65535);
+    }
+    all_nodes(bytes, size)
+}
+
+// An edge's two nodes are there, and its vertices. `at` is where the edge stands.
+fn edge_ok(bytes: &[u8], nodes: u16, vertices: u32, at: usize) -> bool
+    requires { ⌜ at + 16 < 2 ^ 64 ⌝ }
+    ensures { λ r. ⌜ r ≡ Parse.edgeFits (now (bytes .entry)) nodes vertices at ⌝ }
+{
+    if nodes <= pack::bytes::u16_at(bytes, at) {
+        return false;
+    }
+    if nodes <= pack::bytes::u16_at(bytes, at + 2) {
+        return false;
+    }
+    let first = pack::bytes::u32_at(bytes, at + 4) as u64;
+    let count = pack::bytes::u16_at(bytes, at + 8) as u64;
+    first + count <= vertices as u64
+}
+
+// Every edge's nodes and vertices are there.
+pub fn edges_good(bytes: &[u8]) -> bool
+    ensures { λ r. ⌜ r ≡ Parse.edgesGood (now (bytes .entry)) ⌝ }
+{
+    let nodes = pack::bytes::u16_at(bytes, 8);
+    let edges = pack::bytes::u16_at(bytes, 10);
+    let vertices = pack::bytes::u32_at(bytes, 12);
+    let base = 32 + (nodes as usize) * 8 + (edges as usize) * 4;
+    let mut index: u16 = 0;
+    while index < edges {
+        if !edge_ok(bytes, nodes, vertices, base + (index as usize) * 16) {
+            return false;
+        }
+        index += 1;
+    }
+    true
+}
+
+// Every adjacency entry names an edge.
+pub fn entries_good(bytes: &[u8]) -> bool
+    ensures { λ r. ⌜ r ≡ Parse.entriesGood (now (bytes .entry)) ⌝ }
+{
+    let nodes = pack::bytes::u16_at(bytes, 8) as usize;
+    let edges = pack::bytes::u16_at(bytes, 10);
+    let last = (edges as u32) * 2;
+    let base = 32 + nodes * 8;
+    let mut entry: u32 = 0;
+    while entry < last {
+        if edges <= pack::bytes::u16_at(bytes, base + (entry as usize) * 2) / 2 {
+            return false;
+        }
+        entry += 1;
+    }
+    true
+}
