@@ -1,46 +1,45 @@
 -- `pack::header_at` meets its contract. A call for each field, in the order of the struct.
 -- Assumes nothing.
 use mir.Syntax.{w32}
-use borrow.Author.Needs.{needs}
 use Rattle.pack.proofs.Signed.{got}
 use Rattle.pack.proofs.header_at.Statement.{statement}
 use Rattle.pack.proofs.header_at.Tie as tie
 
 u32-at-requires : tie.Need-u32-at-requires
-u32-at-requires c κs = search needs
+u32-at-requires c κs = tt
 
 i32-at-requires : tie.Need-i32-at-requires
-i32-at-requires c κs = search needs
+i32-at-requires c κs = tt
 
 i32-at-requires-2 : tie.Need-i32-at-requires-2
-i32-at-requires-2 c κs = search needs
+i32-at-requires-2 c κs = tt
 
 u16-at-requires : tie.Need-u16-at-requires
-u16-at-requires c κs = search needs
+u16-at-requires c κs = tt
 
 u16-at-requires-2 : tie.Need-u16-at-requires-2
-u16-at-requires-2 c κs = search needs
+u16-at-requires-2 c κs = tt
 
 u32-at-requires-2 : tie.Need-u32-at-requires-2
-u32-at-requires-2 c κs = search needs
+u32-at-requires-2 c κs = tt
 
 u32-at-requires-3 : tie.Need-u32-at-requires-3
-u32-at-requires-3 c κs = search needs
+u32-at-requires-3 c κs = tt
 
 u32-at-requires-4 : tie.Need-u32-at-requires-4
-u32-at-requires-4 c κs = search needs
+u32-at-requires-4 c κs = tt
 
 u32-at-requires-5 : tie.Need-u32-at-requires-5
-u32-at-requires-5 c κs = search needs
+u32-at-requires-5 c κs = tt
 
 u64-at-requires : tie.Need-u64-at-requires
-u64-at-requires c κs = search needs
+u64-at-requires c κs = tt
 
 u32-at-requires-6 : tie.Need-u32-at-requires-6
-u32-at-requires-6 c κs = search needs
+u32-at-requires-6 c κs = tt
 
 u32-at-requires-7 : tie.Need-u32-at-requires-7
-u32-at-requires-7 c κs = search needs
+u32-at-requires-7 c κs = tt
 
 returns : tie.Need-returns
 returns c =

@@ -1,19 +1,18 @@
 -- `pack::is_magic` meets its contract. Each return by the tests that led there.
 -- Assumes nothing.
 use mathlib.Core.Bool.{and-true}
-use borrow.Author.Needs.{needs}
 use borrow.Author.Tests.{eq-eqb, ne-eqb}
 use Rattle.pack.proofs.is_magic.Statement.{statement}
 use Rattle.pack.proofs.is_magic.Tie as tie
 
 u32-at-requires : tie.Need-u32-at-requires
-u32-at-requires c κs = search needs
+u32-at-requires c κs = tt
 
 returns : tie.Need-returns
 returns c = rw (← c .before .u32-at .ensures, ne-eqb _ _ (c .if1 .taken))
 
 u32-at-requires-2 : tie.Need-u32-at-requires-2
-u32-at-requires-2 c κs = search needs
+u32-at-requires-2 c κs = tt
 
 returns-2 : tie.Need-returns-2
 returns-2 c =
@@ -22,7 +21,7 @@ returns-2 c =
     rw (← vana .u32-at .ensures, eq-eqb _ _ (first .if1 .left), ← c .before .u32-at2 .ensures, ne-eqb _ _ (c .if2 .taken))
 
 u32-at-requires-3 : tie.Need-u32-at-requires-3
-u32-at-requires-3 c κs = search needs
+u32-at-requires-3 c κs = tt
 
 returns-3 : tie.Need-returns-3
 returns-3 c =
@@ -41,7 +40,7 @@ returns-3 c =
     )
 
 u32-at-requires-4 : tie.Need-u32-at-requires-4
-u32-at-requires-4 c κs = search needs
+u32-at-requires-4 c κs = tt
 
 returns-4 : tie.Need-returns-4
 returns-4 c =

@@ -2,21 +2,20 @@
 -- Assumes nothing.
 use mathlib.Core.Path.{sym, _∙_}
 use mir.Facts.{toZ-ofZ}
-use borrow.Author.Needs.{needs}
 use borrow.Author.Tests.{not-true, not-false}
 use Rattle.pack.specs.Grid.{checked}
 use Rattle.pack.proofs.Header.checked.Statement.{statement}
 use Rattle.pack.proofs.Header.checked.Tie as tie
 
 rules-requires : tie.Need-rules-requires
-rules-requires c κs = search needs
+rules-requires c κs = tt
 
 returns : tie.Need-returns
 unfolding checked
 returns c = rw (sym (c .before .rules .ensures) ∙ not-true _ (c .if1 .taken))
 
 checked-of-requires : tie.Need-checked-of-requires
-checked-of-requires c κs = search needs
+checked-of-requires c κs = tt
 
 returns-2 : tie.Need-returns-2
 unfolding checked

@@ -1,21 +1,20 @@
 -- `pack::Header::entry` meets its contract. Each return by the tests that led there.
 -- Assumes nothing.
 use mathlib.Core.Path.{sym, _∙_}
-use borrow.Author.Needs.{needs}
 use borrow.Author.Tests.{not-true, not-false}
 use Rattle.pack.specs.Grid.{entry}
 use Rattle.pack.proofs.Header.entry.Statement.{statement}
 use Rattle.pack.proofs.Header.entry.Tie as tie
 
 rules-requires : tie.Need-rules-requires
-rules-requires c κs = search needs
+rules-requires c κs = tt
 
 returns : tie.Need-returns
 unfolding entry
 returns c = rw (sym (c .before .rules .ensures) ∙ not-true _ (c .if1 .taken))
 
 in-grid-requires : tie.Need-in-grid-requires
-in-grid-requires c κs = search needs
+in-grid-requires c κs = tt
 
 returns-2 : tie.Need-returns-2
 unfolding entry
@@ -26,7 +25,7 @@ returns-2 c =
     )
 
 entry-of-requires : tie.Need-entry-of-requires
-entry-of-requires c κs = search needs
+entry-of-requires c κs = tt
 
 returns-3 : tie.Need-returns-3
 unfolding entry

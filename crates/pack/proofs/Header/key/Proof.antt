@@ -2,21 +2,20 @@
 -- Assumes nothing.
 use mathlib.Core.Path.{sym, _∙_}
 use mir.Facts.{toZ-ofZ}
-use borrow.Author.Needs.{needs}
 use borrow.Author.Tests.{not-true, not-false}
 use Rattle.pack.specs.Grid.{key}
 use Rattle.pack.proofs.Header.key.Statement.{statement}
 use Rattle.pack.proofs.Header.key.Tie as tie
 
 rules-requires : tie.Need-rules-requires
-rules-requires c κs = search needs
+rules-requires c κs = tt
 
 returns : tie.Need-returns
 unfolding key
 returns c = rw (sym (c .before .rules .ensures) ∙ not-true _ (c .if1 .taken))
 
 is-point-requires : tie.Need-is-point-requires
-is-point-requires c κs = search needs
+is-point-requires c κs = tt
 
 returns-2 : tie.Need-returns-2
 unfolding key
@@ -30,7 +29,7 @@ returns-2 c =
     )
 
 key-of-requires : tie.Need-key-of-requires
-key-of-requires c κs = search needs
+key-of-requires c κs = tt
 
 returns-3 : tie.Need-returns-3
 unfolding key

@@ -1,21 +1,20 @@
 -- `pack::Header::origin` meets its contract. Each return by the tests that led there.
 -- Assumes nothing.
 use mathlib.Core.Path.{sym, _∙_}
-use borrow.Author.Needs.{needs}
 use borrow.Author.Tests.{not-true, not-false}
 use Rattle.pack.specs.Grid.{origin}
 use Rattle.pack.proofs.Header.origin.Statement.{statement}
 use Rattle.pack.proofs.Header.origin.Tie as tie
 
 rules-requires : tie.Need-rules-requires
-rules-requires c κs = search needs
+rules-requires c κs = tt
 
 returns : tie.Need-returns
 unfolding origin
 returns c = rw (sym (c .before .rules .ensures) ∙ not-true _ (c .if1 .taken))
 
 in-grid-requires : tie.Need-in-grid-requires
-in-grid-requires c κs = search needs
+in-grid-requires c κs = tt
 
 returns-2 : tie.Need-returns-2
 unfolding origin
@@ -26,7 +25,7 @@ returns-2 c =
     )
 
 corner-of-requires : tie.Need-corner-of-requires
-corner-of-requires c κs = search needs
+corner-of-requires c κs = tt
 
 returns-3 : tie.Need-returns-3
 unfolding origin

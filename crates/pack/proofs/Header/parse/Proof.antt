@@ -1,27 +1,26 @@
 -- `pack::Header::parse` meets its contract. Each return by the tests that led there, in the definition's order.
 -- Assumes nothing.
 use mathlib.Core.Path.{sym, _∙_}
-use borrow.Author.Needs.{needs}
 use borrow.Author.Tests.{not-true, not-false, eq-eqb, ne-eqb}
 use Rattle.pack.specs.Sector.{parse}
 use Rattle.pack.proofs.Header.parse.Statement.{statement}
 use Rattle.pack.proofs.Header.parse.Tie as tie
 
 is-sum-requires : tie.Need-is-sum-requires
-is-sum-requires c κs = search needs
+is-sum-requires c κs = tt
 
 refused-requires : tie.Need-refused-requires
-refused-requires c κs = search needs
+refused-requires c κs = tt
 
 returns : tie.Need-returns
 unfolding parse
 returns c = rw (c .refused .ensures, sym (c .before .before .is-sum .ensures) ∙ not-true _ (c .before .if1 .taken))
 
 is-magic-requires : tie.Need-is-magic-requires
-is-magic-requires c κs = search needs
+is-magic-requires c κs = tt
 
 refused-requires-2 : tie.Need-refused-requires-2
-refused-requires-2 c κs = search needs
+refused-requires-2 c κs = tt
 
 returns-2 : tie.Need-returns-2
 unfolding parse
@@ -37,10 +36,10 @@ returns-2 c =
     )
 
 u16-at-requires : tie.Need-u16-at-requires
-u16-at-requires c κs = search needs
+u16-at-requires c κs = tt
 
 refused-requires-3 : tie.Need-refused-requires-3
-refused-requires-3 c κs = search needs
+refused-requires-3 c κs = tt
 
 returns-3 : tie.Need-returns-3
 unfolding parse
@@ -60,13 +59,13 @@ returns-3 c =
     )
 
 header-at-requires : tie.Need-header-at-requires
-header-at-requires c κs = search needs
+header-at-requires c κs = tt
 
 rules-requires : tie.Need-rules-requires
-rules-requires c κs = search needs
+rules-requires c κs = tt
 
 refused-requires-4 : tie.Need-refused-requires-4
-refused-requires-4 c κs = search needs
+refused-requires-4 c κs = tt
 
 returns-4 : tie.Need-returns-4
 unfolding parse

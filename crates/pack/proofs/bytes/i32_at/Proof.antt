@@ -1,17 +1,16 @@
 -- `pack::bytes::i32_at` meets its contract. Two calls, and the result read back from its bits.
 -- Assumes nothing.
 use mir.Syntax.{w32}
-use borrow.Author.Needs.{needs}
 use Rattle.pack.specs.Bytes.{i32At}
 use Rattle.pack.proofs.Signed.{got}
 use Rattle.pack.proofs.bytes.i32_at.Statement.{statement}
 use Rattle.pack.proofs.bytes.i32_at.Tie as tie
 
 u32-at-requires : tie.Need-u32-at-requires
-u32-at-requires c κs = search needs
+u32-at-requires c κs = tt
 
 signed-32-requires : tie.Need-signed-32-requires
-signed-32-requires c κs = search needs
+signed-32-requires c κs = tt
 
 returns : tie.Need-returns
 unfolding i32At

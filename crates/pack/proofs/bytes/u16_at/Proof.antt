@@ -11,7 +11,7 @@ returns : tie.Need-returns
 returns c = sym (u16-past (c .before .before .args .bytes .now) (c .before .before .args .at) (c .if1 .taken))
 
 byte-at-requires : tie.Need-byte-at-requires
-byte-at-requires c κs = search needs
+byte-at-requires c κs = tt
 
 cast-low : tie.Need-cast-low
 cast-low c = search needs
@@ -20,7 +20,7 @@ add-byte-at : tie.Need-add-byte-at
 add-byte-at c = search needs
 
 byte-at-requires-2 : tie.Need-byte-at-requires-2
-byte-at-requires-2 c κs = search needs
+byte-at-requires-2 c κs = tt
 
 cast-high : tie.Need-cast-high
 cast-high c = search needs

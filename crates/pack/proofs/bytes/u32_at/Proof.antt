@@ -11,7 +11,7 @@ returns : tie.Need-returns
 returns c = sym (u32-past (c .before .before .args .bytes .now) (c .before .before .args .at) (c .if1 .taken))
 
 u16-at-requires : tie.Need-u16-at-requires
-u16-at-requires c κs = search needs
+u16-at-requires c κs = tt
 
 cast-low : tie.Need-cast-low
 cast-low c = search needs
@@ -20,7 +20,7 @@ add-u16-at : tie.Need-add-u16-at
 add-u16-at c = search needs
 
 u16-at-requires-2 : tie.Need-u16-at-requires-2
-u16-at-requires-2 c κs = search needs
+u16-at-requires-2 c κs = tt
 
 cast-high : tie.Need-cast-high
 cast-high c = search needs

@@ -11,7 +11,7 @@ returns : tie.Need-returns
 returns c = sym (u64-past (c .before .before .args .bytes .now) (c .before .before .args .at) (c .if1 .taken))
 
 u32-at-requires : tie.Need-u32-at-requires
-u32-at-requires c κs = search needs
+u32-at-requires c κs = tt
 
 cast-low : tie.Need-cast-low
 cast-low c = search needs
@@ -20,7 +20,7 @@ add-u32-at : tie.Need-add-u32-at
 add-u32-at c = search needs
 
 u32-at-requires-2 : tie.Need-u32-at-requires-2
-u32-at-requires-2 c κs = search needs
+u32-at-requires-2 c κs = tt
 
 cast-high : tie.Need-cast-high
 cast-high c = search needs

@@ -1,17 +1,16 @@
 -- `pack::grid::corner_of` meets its contract. Two calls, their arguments and results read back from their bits.
 -- Assumes nothing.
 use mir.Syntax.{w32}
-use borrow.Author.Needs.{needs}
 use Rattle.pack.specs.Grid.{cornerOf}
 use Rattle.pack.proofs.Signed.{got}
 use Rattle.pack.proofs.grid.corner_of.Statement.{statement}
 use Rattle.pack.proofs.grid.corner_of.Tie as tie
 
 along-requires : tie.Need-along-requires
-along-requires c κs = search needs
+along-requires c κs = tt
 
 along-requires-2 : tie.Need-along-requires-2
-along-requires-2 c κs = search needs
+along-requires-2 c κs = tt
 
 returns : tie.Need-returns
 unfolding cornerOf

@@ -56,7 +56,7 @@ floor-of-requires-2 : tie.Need-floor-of-requires-2
 floor-of-requires-2 c κs = search needs
 
 checked-of-requires : tie.Need-checked-of-requires
-checked-of-requires c κs = search needs
+checked-of-requires c κs = tt
 
 returns-2 : tie.Need-returns-2
 unfolding keyOf

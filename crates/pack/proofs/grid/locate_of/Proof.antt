@@ -7,10 +7,10 @@ use Rattle.pack.proofs.grid.locate_of.Statement.{statement}
 use Rattle.pack.proofs.grid.locate_of.Tie as tie
 
 u32-at-requires : tie.Need-u32-at-requires
-u32-at-requires c κs = search needs
+u32-at-requires c κs = tt
 
 u32-at-requires-2 : tie.Need-u32-at-requires-2
-u32-at-requires-2 c κs = search needs
+u32-at-requires-2 c κs = tt
 
 returns : tie.Need-returns
 unfolding locateOf
