@@ -3,8 +3,21 @@ use mathlib.Core.Path.{refl}
 use lib.Ieee.{ofInt, ofBits, toBits, units}
 use Rattle.crc.specs.Fcs.{add, lower, divide, remainder, zeros, bits, number, message, fcs, crc32}
 use Rattle.num.specs.Root.{rootIn, wholeRoot, nearRoot, squareRoot}
+use Rattle.pack.specs.Grid.{keyOf, checkedOf, entryOf}
 use Rattle.bench.specs.Lines.{Lines}
 
 pub lines : Lines
-unfolding add lower divide remainder zeros bits number message fcs crc32 ofInt rootIn wholeRoot nearRoot squareRoot ofBits toBits units
-lines = record { crc-of-digits = refl; crc-of-nothing = refl; float-below = refl; float-above = refl; root-of-two = refl }
+unfolding add lower divide remainder zeros bits number message fcs crc32 ofInt rootIn wholeRoot nearRoot squareRoot ofBits toBits units keyOf checkedOf entryOf
+lines = record {
+  crc-of-digits = refl;
+  crc-of-nothing = refl;
+  float-below = refl;
+  float-above = refl;
+  root-of-two = refl;
+  row-below = refl;
+  row-first = refl;
+  row-last = refl;
+  row-above = refl;
+  entry-offset = refl;
+  tile-length = refl;
+}

@@ -4,10 +4,39 @@ use Prim.Native.Nat.{ℕ}
 use mathlib.Core.Path.{_≡_}
 use mathlib.Core.Bool.{false}
 use mathlib.Core.List.{[], _∷_}
-use lib.IntN.{pos}
+use lib.IntN.{pos, negsuc}
 use lib.Ieee.{fin, binary32, ofInt, ofBits, toBits}
 use Rattle.crc.specs.Fcs.{crc32}
 use Rattle.num.specs.Root.{squareRoot}
+use Rattle.pack.specs.Grid.{keyOf, entryOf}
+use Rattle.pack.specs.declared.Header.{Header}
+use Rattle.pack.specs.declared.TileKey.{TileKey}
+use Rattle.pack.specs.declared.Keyed.the-variants.{In, Outside}
+use Rattle.tile.specs.Layout.{length}
+
+-- a header with these grid fields and all others 0
+abbrev gridOf : ℕ → ℕ → ℕ → ℕ → Header
+gridOf size rows cols directory = record {
+  tile = size;
+  south = pos 0;
+  west = pos 0;
+  rows = rows;
+  cols = cols;
+  directory = directory;
+  «data» = 0;
+  total = 0;
+  tiles = 0;
+  created = 0;
+  «attribution_offset» = 0;
+  «attribution_len» = 0;
+}
+
+abbrev key : ℕ → ℕ → TileKey
+key row col = record { row = row; col = col }
+
+-- south 0, size 1,000, 2 rows
+abbrev twoRows : Header
+twoRows = gridOf 1000 2 1 512
 
 pub record Lines : Type 0 where
   -- CRC of ASCII 123456789; of no bytes
@@ -18,3 +47,12 @@ pub record Lines : Type 0 where
   pub float-above : ofInt binary32 (pos 16777219) ≡ fin false 4194305 (pos 2)
   -- the root of 2.0, by its bits
   pub root-of-two : toBits binary32 (squareRoot binary32 (ofBits binary32 0x40000000)) ≡ 0x3fb504f3
+  -- the row of latitude -1, 0, 1,999 and 2,000: none, 0, 1, none
+  pub row-below : keyOf twoRows (negsuc 0) (pos 0) ≡ Outside
+  pub row-first : keyOf twoRows (pos 0) (pos 0) ≡ In (key 0 0)
+  pub row-last : keyOf twoRows (pos 1999) (pos 0) ≡ In (key 1 0)
+  pub row-above : keyOf twoRows (pos 2000) (pos 0) ≡ Outside
+  -- the entry of row 1, column 2 with the directory at 512 and 3 columns
+  pub entry-offset : entryOf (gridOf 1000 2 3 512) (key 1 2) ≡ 552
+  -- the length for 2 nodes, 1 edge, 3 vertices
+  pub tile-length : length 2 1 3 ≡ 86
