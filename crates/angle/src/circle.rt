@@ -1,4 +1,5 @@
-// The bearing of a finite vector in whole numbers, rounded to a single float at the end. One degree is 2 ^ 32.
+// The bearing of a vector in whole numbers, rounded to a single float at the end. One degree is 2 ^ 32.
+use crate::Degrees;
 ghost use mathlib.Core.Path.{_≡_};
 ghost use mathlib.Core.Bool.{true};
 ghost use Prim.Native.Nat.{_-_, _*_, _/_, _^_, _<_, _≤_};
@@ -109,7 +110,7 @@ fn western(east: f32, a: u64) -> u64
 }
 
 // The bearing of a finite vector.
-pub fn degrees(east: f32, north: f32) -> f32
+fn degrees(east: f32, north: f32) -> f32
     requires { ⌜ (isFinite east ≡ true) × (isFinite north ≡ true) ⌝ }
     ensures { λ r. ⌜ r ≡ Bearing.degrees east north ⌝ }
 {
@@ -125,4 +126,17 @@ pub fn degrees(east: f32, north: f32) -> f32
     );
     let b = western(east, southern(north, a));
     num::convert::nearest(b, 1042)
+}
+
+// The bearing of a vector. A figure that is not finite is 8.
+pub fn bearing(east: f32, north: f32) -> Degrees
+    ensures { λ r. ⌜ r ≡ Bearing.bearing east north ⌝ }
+{
+    if !num::order::is_finite(east) {
+        return Degrees::Refused(8);
+    }
+    if !num::order::is_finite(north) {
+        return Degrees::Refused(8);
+    }
+    Degrees::At(degrees(east, north))
 }

@@ -17,13 +17,7 @@ pub enum Degrees {
 pub fn bearing(east: f32, north: f32) -> Degrees
     ensures { λ r. ⌜ r ≡ Bearing.bearing east north ⌝ }
 {
-    if !num::order::is_finite(east) {
-        return Degrees::Refused(8);
-    }
-    if !num::order::is_finite(north) {
-        return Degrees::Refused(8);
-    }
-    Degrees::At(circle::degrees(east, north))
+    circle::bearing(east, north)
 }
 
 // engine.rs: micrometres per micro-degree of longitude at `lat` micro-degrees.

@@ -1,10 +1,10 @@
--- `angle::bearing` meets its contract: a figure that is not finite is refused, and else the bearing is that of `circle::degrees`. Assumes nothing.
+-- `circle::bearing` meets its contract: a figure that is not finite is refused, and else the bearing is that of `degrees`. Assumes nothing.
 use mathlib.Core.Path.{sym, _∙_}
 use borrow.Author.Tests.{not-true, not-false}
 use Rattle.angle.specs.Bearing as Bearing
 use borrow.Author.Needs.{needs}
-use Rattle.angle.proofs.bearing.Statement.{statement}
-use Rattle.angle.proofs.bearing.Tie as tie
+use Rattle.angle.proofs.circle.bearing.Statement.{statement}
+use Rattle.angle.proofs.circle.bearing.Tie as tie
 
 is-finite-requires : tie.Need-is-finite-requires
 is-finite-requires c κs = search needs
