@@ -10,7 +10,7 @@ const BEARING: &str = "    let degrees = libm::atan2f(east, north).to_degrees();
 ";
 /// The port's degrees as a whole; what it refuses goes on to the Rust's own lines.
 const BEARING_OF_PORT: &str = "    let mut degrees = 0.0;
-    if unsafe { crate::terrain_bearing(east, north, &mut degrees) } == 0 { return degrees; }
+    if crate::terrain_bearing(east, north, &mut degrees) == 0 { return degrees; }
 ";
 const LON_SCALE: &str = "(geo::LAT_UM * libm::cosf((lat as f32 * 1e-6).to_radians())) as u32";
 const LON_SCALE_OF_PORT: &str = "crate::terrain_lon_scale_um(lat)";

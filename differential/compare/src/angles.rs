@@ -18,7 +18,7 @@ pub fn lon_scale_of_rust(lat: i32) -> u32 {
 /// The port's code and what then stands in its place.
 pub fn bearing_of_port(east: f32, north: f32) -> (u32, f32) {
     let mut degrees = f32::from_bits(UNTOUCHED);
-    (ffi::bearing(east, north, &mut degrees), degrees)
+    (ffi::terrain_bearing(east, north, &mut degrees), degrees)
 }
 
 /// Degrees between two bearings on the circle.
@@ -35,14 +35,14 @@ fn in_eighths(east: f32, north: f32, degrees: f32) -> bool {
     // Each eighth turned onto the first quarter, where it holds what is steep or what is flat.
     let holds = |k: usize| {
         let east = if k < 4 { east } else { -east };
-        let north = if k < 2 || k >= 6 { north } else { -north };
+        let north = if (2..6).contains(&k) { -north } else { north };
         let steep = matches!(k, 0 | 3 | 4 | 7);
         east >= 0.0 && north >= 0.0 && if steep { east <= north } else { north <= east }
     };
     (0..8).all(|k| !holds(k) || within(k) || round(k))
 }
 
-/// In its place, and the second build's too.
+/// Near the original's and in the right eighths; the second build answers the same.
 fn count_bearing(tally: &mut Tally, (east, north): (f32, f32)) {
     let (code, degrees) = bearing_of_port(east, north);
     let rust = geo::bearing(east, north);
@@ -59,7 +59,7 @@ fn count_bearing(tally: &mut Tally, (east, north): (f32, f32)) {
     tally.count(good, (east, north), (code, degrees, second), (rust, exact));
 }
 
-/// From a fix to an earlier one a metre to eight kilometres away.
+/// From an earlier fix, a metre to eight kilometres away, to a new one.
 fn vector_of_fixes(random: &mut Random) -> (f32, f32) {
     let here = Point { lat: random.within(89_900_000), lon: random.within(180_000_000) };
     let (lon_um, reach_um) = (lon_scale_of_rust(here.lat), 1_000_000 << random.below(14));
@@ -126,7 +126,7 @@ fn lon_scale(name: &str, scale: &Scale, low: i64, high: i64) -> Tally {
         let size = low + place as i64 / 2;
         let lat = if place % 2 == 0 { -size as i32 } else { size as i32 };
         let (port, rust) = (ffi::terrain_lon_scale_um(lat), lon_scale_of_rust(lat));
-        tally.count(port == rust, lat, port, rust);
+        tally.count(port == rust, format_args!("{lat}"), port, rust);
     })
 }
 

@@ -50,17 +50,17 @@ pub fn run() -> Vec<Tally> {
     let floats = some(|r| r.bits() as i32 as f32 / 65_536.0);
     let vectors = some(|r| (r.within(8_000) as f32, r.within(8_000) as f32));
     let latitudes = some(|r| r.within(90_000_000));
-    let port = |(east, north)| bearing_of_port(east, north).1;
-    let mut bearing = beside("bearing", &vectors, port, |(east, north)| geo::bearing(east, north));
-    // It need only be near; the gate looks at that.
-    bearing.shown_only = true;
-    let port = |lat| terrain_lon_scale_um(lat);
-    vec![
+    let bearing = |(east, north)| bearing_of_port(east, north).1;
+    let lon_scale = |lat| terrain_lon_scale_um(lat);
+    let mut tallies = vec![
         beside("crc32 of 48 KiB", &[&tile[..]; 8], crc32, tile::crc32),
         beside("sqrt", &roots, |x| terrain_sqrt(x), f32::sqrt),
         beside("f32_of_i32", &wholes, |n| terrain_f32_of_i32(n), |n| n as f32),
         beside("i32_of_f32", &floats, |x| terrain_i32_of_f32(x), |x| x as i32),
-        bearing,
-        beside("lon_scale_um", &latitudes, port, lon_scale_of_rust),
-    ]
+        beside("lon_scale_um", &latitudes, lon_scale, lon_scale_of_rust),
+        beside("bearing", &vectors, bearing, |(east, north)| geo::bearing(east, north)),
+    ];
+    // A bearing need only be near, and the gate looks at that.
+    tallies[5].shown_only = true;
+    tallies
 }

@@ -1,9 +1,9 @@
-//! The functions of include/terrain.h.
+//! The functions of include/terrain.h. Those on numbers and on one place to write to are safe for
+//! every argument that Rust's types allow.
 
 unsafe extern "C" {
     fn terrain_crc32(bytes: *const u8, len: usize) -> u32;
     fn terrain_crc32_skipping(bytes: *const u8, len: usize, at: usize) -> u32;
-    fn terrain_bearing(east: f32, north: f32, out: *mut f32) -> u32;
     pub safe fn terrain_f32_of_i32(z: i32) -> f32;
     pub safe fn terrain_f32_of_u32(n: u32) -> f32;
     pub safe fn terrain_f32_of_usize(n: usize) -> f32;
@@ -20,6 +20,8 @@ unsafe extern "C" {
     pub safe fn terrain_total_cmp(a: f32, b: f32) -> i32;
     pub safe fn terrain_is_finite(x: f32) -> u32;
     pub safe fn terrain_sqrt(x: f32) -> f32;
+    /// 0, or 8 with `out` left alone.
+    pub safe fn terrain_bearing(east: f32, north: f32, out: &mut f32) -> u32;
     pub safe fn terrain_lon_scale_um(lat: i32) -> u32;
 }
 
@@ -31,10 +33,4 @@ pub fn crc32(bytes: &[u8]) -> u32 {
 pub fn crc32_skipping(bytes: &[u8], at: usize) -> u32 {
     // SAFETY: as above; `at` is a number, and any is allowed.
     unsafe { terrain_crc32_skipping(bytes.as_ptr(), bytes.len(), at) }
-}
-
-/// 0, or 8 with `out` left alone.
-pub fn bearing(east: f32, north: f32, out: &mut f32) -> u32 {
-    // SAFETY: the function writes at most this one float.
-    unsafe { terrain_bearing(east, north, out) }
 }

@@ -56,8 +56,8 @@ fn wide(low: u32, high: u32) -> u64 {
     u64::from(high) << 32 | u64::from(low)
 }
 
-/// The black box keeps LLVM from taking `sqrt(x)` for "not-a-number or else `sqrt(x)`", which
-/// lets other bits of a not-a-number through.
+/// Without the black box LLVM drops the choice after a square root, which has not-a-number of its
+/// own for the same arguments, and other bits come through.
 fn bits(x: f32) -> u32 {
     let x = black_box(x);
     if x.is_nan() { 0x7fc00000 } else { x.to_bits() }
@@ -105,7 +105,7 @@ impl Function {
 
 /// Whole numbers and single floats at which some function of this file turns, and those beside.
 pub fn turns(reach: i32) -> BTreeSet<u32> {
-    let small = [0.5, 1.0, 1.5, 2.5, 255.0, 256.0, 32_767.0, 32_768.0, 16_777_216.0];
+    let small = [0.5, 1.0, 1.5, 2.5, 255.0, 256.0, 32_767.0, 32_768.0, 32_769.0, 16_777_216.0];
     let large = [2_147_483_648.0, 4_294_967_296.0, f32::MIN_POSITIVE, f32::INFINITY, f32::NAN];
     let floats = small.into_iter().chain(large).flat_map(|x| [x, -x]).map(f32::to_bits);
     let wholes = (0..32).map(|power| 1 << power).chain([0x1000003, 0x7fffffc0, 0xffffff80]);
@@ -116,7 +116,7 @@ pub fn turns(reach: i32) -> BTreeSet<u32> {
 /// The turns, the ends and the middle of each binade, and the high words of doubles at half the
 /// least single, the least, the least normal, the greatest, infinity.
 fn edges() -> Vec<u32> {
-    let fractions = [0, 1, 2, 0x3fffff, 0x400000, 0x400001, 0x7ffffe, 0x7fffff];
+    let fractions = [0, 1, 0x3fffff, 0x400000, 0x400001, 0x7fffff];
     let binades = (0..512).flat_map(|binade| fractions.map(|fraction| binade << 23 | fraction));
     let doubles = [0x36900000, 0x36a00000, 0x380fffff, 0x38100000, 0x47efffff, 0x7ff00000];
     let edges: BTreeSet<u32> = turns(3).into_iter().chain(binades).chain(doubles).collect();

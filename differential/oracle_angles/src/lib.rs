@@ -11,6 +11,6 @@ mod changed {
 pub use changed::*;
 
 unsafe extern "C" {
-    fn terrain_bearing(east: f32, north: f32, out: *mut f32) -> u32;
+    safe fn terrain_bearing(east: f32, north: f32, out: &mut f32) -> u32;
     safe fn terrain_lon_scale_um(lat: i32) -> u32;
 }
