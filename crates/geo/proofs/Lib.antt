@@ -1,0 +1,3 @@
+-- Laws of points and turns, for callers to cite, and the figures that the code writes as literals.
+pub mod Literals
+pub mod Laws
