@@ -47,6 +47,49 @@ uint32_t terrain_bearing(float east, float north, float *out);
 /* Micrometres per micro-degree of longitude at a latitude in micro-degrees. */
 uint32_t terrain_lon_scale_um(int32_t lat);
 
+/* ---- The format and the geometry.
+ * Records are words in the order of their fields, signed numbers in two's complement:
+ *   a header is 13: tile size, south, west, rows, cols, directory, data, total, tiles, created (low, high), attribution offset and length;
+ *   a key is row and col; a node is x, y, z; an edge is from, to, first vertex, vertices, class, flags, group.
+ * Of a word for a 16-bit or an 8-bit field the low bits count.
+ * Each function answers 0 and writes its result, TERRAIN_NONE where there is none, or the refusal's number; then nothing is written. */
+#define TERRAIN_NONE 256u
+
+/* Whether a pack has `len` bytes from `offset` on: 0, or 2. */
+uint32_t terrain_pack_read(const uint8_t *pack, size_t pack_len, uint64_t offset, size_t len);
+
+/* The header of a sector: 4 for its CRC, then 3. */
+uint32_t terrain_header_parse(const uint8_t sector[512], uint32_t out[13]);
+
+/* The key of a point (12, 8) and of a row and a column (12), none outside the grid; a tile's south-west corner and the offset of its directory entry (12, 9);
+ * the offset and length that an entry holds (12, 4), none where it has no tile. */
+uint32_t terrain_header_key(const uint32_t header[13], int32_t lat, int32_t lon, uint32_t out[2]);
+uint32_t terrain_header_checked(const uint32_t header[13], int64_t row, int64_t col, uint32_t out[2]);
+uint32_t terrain_header_origin(const uint32_t header[13], uint32_t row, uint32_t col, uint32_t out[2]);
+uint32_t terrain_header_entry(const uint32_t header[13], uint32_t row, uint32_t col, uint64_t *out);
+uint32_t terrain_header_locate(const uint32_t header[13], const uint8_t entry[8], uint32_t out[2]);
+
+/* A tile's bytes: 4, or its row, col, nodes, edges, vertices and lon_um. */
+uint32_t terrain_tile_parse(const uint8_t *bytes, size_t len, uint32_t row, uint32_t col, uint32_t size, uint32_t out[6]);
+
+/* Readers of a tile's bytes: 7 for an index past its count. A point number past an edge's vertices is its end node. The entries of a node are a range of
+ * places; an entry is an edge and whether it ends there. */
+uint32_t terrain_tile_node(const uint8_t *bytes, size_t len, uint32_t index, uint32_t out[3]);
+uint32_t terrain_tile_edge(const uint8_t *bytes, size_t len, uint32_t index, uint32_t out[7]);
+uint32_t terrain_tile_point(const uint8_t *bytes, size_t len, const uint32_t edge[7], size_t index, uint32_t out[3]);
+uint32_t terrain_tile_incident(const uint8_t *bytes, size_t len, uint32_t node, uint32_t out[2]);
+uint32_t terrain_tile_entry(const uint8_t *bytes, size_t len, uint32_t entry, uint32_t out[2]);
+uint32_t terrain_tile_node_at(const uint8_t *bytes, size_t len, uint32_t x, uint32_t y, uint32_t *out);
+
+/* A point of an edge as latitude, longitude and elevation in decimetres: 12, 9, 7. */
+uint32_t terrain_edge_point(const uint32_t header[13], const uint8_t *bytes, size_t len, const uint32_t edge[7], size_t index, uint32_t out[3]);
+
+/* Metres east and north of a point; the length of a vector; the turn between two headings; the fraction and distance of p on the segment a-b: 8. */
+uint32_t terrain_metres_from(int32_t lat, int32_t lon, int32_t from_lat, int32_t from_lon, uint32_t lon_um, float out[2]);
+uint32_t terrain_length(float east, float north, float *out);
+uint32_t terrain_turn(float from, float to, float *out);
+uint32_t terrain_project(float p_east, float p_north, float a_east, float a_north, float b_east, float b_north, float out[2]);
+
 #ifdef __cplusplus
 }
 #endif

@@ -1,2 +1,4 @@
 -- How answers cross to C.
 pub mod Answers
+pub mod Figures
+pub mod Format

@@ -1,3 +1,4 @@
 -- Laws of points and turns, for callers to cite, and the figures that the code writes as literals.
 pub mod Literals
 pub mod Laws
+pub mod Settled

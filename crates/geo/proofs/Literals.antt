@@ -1,6 +1,6 @@
 -- The figures that the code writes as single floats, by the whole numbers that they are. Each is computed. Assumes nothing.
 use mathlib.Core.Path.{_≡_, refl}
-use lib.Ieee.{binary32, ofBits, ofInt, neg}
+use lib.Ieee.{binary32, ofBits, ofInt}
 use Rattle.geo.specs.Flat.{whole}
 
 pub literal-0 : ofBits binary32 0 ≡ whole 0
