@@ -65,21 +65,21 @@ uint32_t terrain_header_parse(const uint8_t sector[512], uint32_t out[13]);
  * the offset and length that an entry holds (12, 4), none where it has no tile. */
 uint32_t terrain_header_key(const uint32_t header[13], int32_t lat, int32_t lon, uint32_t out[2]);
 uint32_t terrain_header_checked(const uint32_t header[13], int64_t row, int64_t col, uint32_t out[2]);
-uint32_t terrain_header_origin(const uint32_t header[13], uint32_t row, uint32_t col, uint32_t out[2]);
-uint32_t terrain_header_entry(const uint32_t header[13], uint32_t row, uint32_t col, uint64_t *out);
+uint32_t terrain_header_origin(const uint32_t header[13], uint16_t row, uint16_t col, uint32_t out[2]);
+uint32_t terrain_header_entry(const uint32_t header[13], uint16_t row, uint16_t col, uint64_t *out);
 uint32_t terrain_header_locate(const uint32_t header[13], const uint8_t entry[8], uint32_t out[2]);
 
 /* A tile's bytes: 4, or its row, col, nodes, edges, vertices and lon_um. */
-uint32_t terrain_tile_parse(const uint8_t *bytes, size_t len, uint32_t row, uint32_t col, uint32_t size, uint32_t out[6]);
+uint32_t terrain_tile_parse(const uint8_t *bytes, size_t len, uint16_t row, uint16_t col, uint32_t size, uint32_t out[6]);
 
 /* Readers of a tile's bytes: 7 for an index past its count. A point number past an edge's vertices is its end node. The entries of a node are a range of
  * places; an entry is an edge and whether it ends there. */
-uint32_t terrain_tile_node(const uint8_t *bytes, size_t len, uint32_t index, uint32_t out[3]);
-uint32_t terrain_tile_edge(const uint8_t *bytes, size_t len, uint32_t index, uint32_t out[7]);
+uint32_t terrain_tile_node(const uint8_t *bytes, size_t len, uint16_t index, uint32_t out[3]);
+uint32_t terrain_tile_edge(const uint8_t *bytes, size_t len, uint16_t index, uint32_t out[7]);
 uint32_t terrain_tile_point(const uint8_t *bytes, size_t len, const uint32_t edge[7], size_t index, uint32_t out[3]);
-uint32_t terrain_tile_incident(const uint8_t *bytes, size_t len, uint32_t node, uint32_t out[2]);
+uint32_t terrain_tile_incident(const uint8_t *bytes, size_t len, uint16_t node, uint32_t out[2]);
 uint32_t terrain_tile_entry(const uint8_t *bytes, size_t len, uint32_t entry, uint32_t out[2]);
-uint32_t terrain_tile_node_at(const uint8_t *bytes, size_t len, uint32_t x, uint32_t y, uint32_t *out);
+uint32_t terrain_tile_node_at(const uint8_t *bytes, size_t len, uint16_t x, uint16_t y, uint32_t *out);
 
 /* A point of an edge as latitude, longitude and elevation in decimetres: 12, 9, 7. */
 uint32_t terrain_edge_point(const uint32_t header[13], const uint8_t *bytes, size_t len, const uint32_t edge[7], size_t index, uint32_t out[3]);

@@ -68,7 +68,7 @@ edgeOf ws = record {
 }
 
 abbrev pub keyOf : ℕ → ℕ → TileKey
-keyOf row col = record { row = row % 65536; col = col % 65536 }
+keyOf row col = record { row = row; col = col }
 
 -- the 32 bits of a signed number
 abbrev pub wordOf : ℤ → ℕ

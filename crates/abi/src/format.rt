@@ -121,13 +121,10 @@ fn write_tile(h: Head, out: &mut [u32; 6])
 }
 
 // A cell.
-fn key_of(row: u32, col: u32) -> TileKey
+fn key_of(row: u16, col: u16) -> TileKey
     ensures { λ r. ⌜ r ≡ Format.keyOf row col ⌝ }
 {
-    TileKey {
-        row: (row % 65536) as u16,
-        col: (col % 65536) as u16,
-    }
+    TileKey { row, col }
 }
 
 // What a question for a cell is answered, and one for a node or a point of an edge.
@@ -220,8 +217,8 @@ pub extern "C" fn terrain_header_checked(
 #[no_mangle]
 pub extern "C" fn terrain_header_origin(
     header: &[u32; 13],
-    row: u32,
-    col: u32,
+    row: u16,
+    col: u16,
     out: &mut [u32; 2],
 ) -> u32
     ensures { λ r. ⌜ r ≡ Format.originNumber (Grid.origin (Format.headerOf (now (header .entry))) (Format.keyOf row col)) ⌝ }
@@ -240,7 +237,7 @@ pub extern "C" fn terrain_header_origin(
 }
 
 #[no_mangle]
-pub extern "C" fn terrain_header_entry(header: &[u32; 13], row: u32, col: u32, out: &mut u64) -> u32
+pub extern "C" fn terrain_header_entry(header: &[u32; 13], row: u16, col: u16, out: &mut u64) -> u32
     ensures { λ r. ⌜ r ≡ Format.offsetNumber (Grid.entry (Format.headerOf (now (header .entry))) (Format.keyOf row col)) ⌝ }
     ensures { λ r. ⌜ now (out .exit) ≡ Format.offsetOut (Grid.entry (Format.headerOf (now (header .entry))) (Format.keyOf row col)) (now (out .entry)) ⌝ }
 {
@@ -280,8 +277,8 @@ pub extern "C" fn terrain_header_locate(
 #[no_mangle]
 pub extern "C" fn terrain_tile_parse(
     bytes: &[u8],
-    row: u32,
-    col: u32,
+    row: u16,
+    col: u16,
     size: u32,
     out: &mut [u32; 6],
 ) -> u32
@@ -299,19 +296,19 @@ pub extern "C" fn terrain_tile_parse(
 }
 
 #[no_mangle]
-pub extern "C" fn terrain_tile_node(bytes: &[u8], index: u32, out: &mut [u32; 3]) -> u32
-    ensures { λ r. ⌜ r ≡ Format.nodeNumber (Readers.node (now (bytes .entry)) (index % 65536)) ⌝ }
-    ensures { λ r. ⌜ now (out .exit) ≡ Format.nodeOut (Readers.node (now (bytes .entry)) (index % 65536)) (now (out .entry)) ⌝ }
+pub extern "C" fn terrain_tile_node(bytes: &[u8], index: u16, out: &mut [u32; 3]) -> u32
+    ensures { λ r. ⌜ r ≡ Format.nodeNumber (Readers.node (now (bytes .entry)) index) ⌝ }
+    ensures { λ r. ⌜ now (out .exit) ≡ Format.nodeOut (Readers.node (now (bytes .entry)) index) (now (out .entry)) ⌝ }
 {
-    answer_node(tile::read::node(bytes, (index % 65536) as u16), out)
+    answer_node(tile::read::node(bytes, index), out)
 }
 
 #[no_mangle]
-pub extern "C" fn terrain_tile_edge(bytes: &[u8], index: u32, out: &mut [u32; 7]) -> u32
-    ensures { λ r. ⌜ r ≡ Format.edgeNumber (Readers.edge (now (bytes .entry)) (index % 65536)) ⌝ }
-    ensures { λ r. ⌜ now (out .exit) ≡ Format.edgeOut (Readers.edge (now (bytes .entry)) (index % 65536)) (now (out .entry)) ⌝ }
+pub extern "C" fn terrain_tile_edge(bytes: &[u8], index: u16, out: &mut [u32; 7]) -> u32
+    ensures { λ r. ⌜ r ≡ Format.edgeNumber (Readers.edge (now (bytes .entry)) index) ⌝ }
+    ensures { λ r. ⌜ now (out .exit) ≡ Format.edgeOut (Readers.edge (now (bytes .entry)) index) (now (out .entry)) ⌝ }
 {
-    let answer = tile::read::edge(bytes, (index % 65536) as u16);
+    let answer = tile::read::edge(bytes, index);
     match answer {
         EdgeRead::At(e) => {
             write_edge(e, out);
@@ -336,11 +333,11 @@ pub extern "C" fn terrain_tile_point(
 }
 
 #[no_mangle]
-pub extern "C" fn terrain_tile_incident(bytes: &[u8], node: u32, out: &mut [u32; 2]) -> u32
-    ensures { λ r. ⌜ r ≡ Format.entriesNumber (Readers.incident (now (bytes .entry)) (node % 65536)) ⌝ }
-    ensures { λ r. ⌜ now (out .exit) ≡ Format.entriesOut (Readers.incident (now (bytes .entry)) (node % 65536)) (now (out .entry)) ⌝ }
+pub extern "C" fn terrain_tile_incident(bytes: &[u8], node: u16, out: &mut [u32; 2]) -> u32
+    ensures { λ r. ⌜ r ≡ Format.entriesNumber (Readers.incident (now (bytes .entry)) node) ⌝ }
+    ensures { λ r. ⌜ now (out .exit) ≡ Format.entriesOut (Readers.incident (now (bytes .entry)) node) (now (out .entry)) ⌝ }
 {
-    let answer = tile::read::incident(bytes, (node % 65536) as u16);
+    let answer = tile::read::incident(bytes, node);
     match answer {
         Entries::Range(start, end) => {
             out[0] = start;
@@ -368,11 +365,11 @@ pub extern "C" fn terrain_tile_entry(bytes: &[u8], entry: u32, out: &mut [u32; 2
 }
 
 #[no_mangle]
-pub extern "C" fn terrain_tile_node_at(bytes: &[u8], x: u32, y: u32, out: &mut u32) -> u32
-    ensures { λ r. ⌜ r ≡ Format.foundNumber (Readers.nodeAt (now (bytes .entry)) (x % 65536) (y % 65536)) ⌝ }
-    ensures { λ r. ⌜ now (out .exit) ≡ Format.foundOut (Readers.nodeAt (now (bytes .entry)) (x % 65536) (y % 65536)) (now (out .entry)) ⌝ }
+pub extern "C" fn terrain_tile_node_at(bytes: &[u8], x: u16, y: u16, out: &mut u32) -> u32
+    ensures { λ r. ⌜ r ≡ Format.foundNumber (Readers.nodeAt (now (bytes .entry)) x y) ⌝ }
+    ensures { λ r. ⌜ now (out .exit) ≡ Format.foundOut (Readers.nodeAt (now (bytes .entry)) x y) (now (out .entry)) ⌝ }
 {
-    let answer = tile::read::node_at(bytes, (x % 65536) as u16, (y % 65536) as u16);
+    let answer = tile::read::node_at(bytes, x, y);
     match answer {
         Found::At(i) => {
             *out = i as u32;

@@ -1,8 +1,8 @@
 //! Bearing and longitude scale against the original, which calls libm, and against the build of
 //! it that calls the port.
-use crate::{Scale, ffi, random::Random, tally::Tally};
+use crate::{Scale, expected::caught, ffi, random::Random, tally::Tally};
 use oracle::geo::{self, Point};
-use std::{hint::black_box, panic};
+use std::hint::black_box;
 
 /// Degrees that a bearing may lie from the original's.
 const ALLOWED: f64 = 0.05;
@@ -69,7 +69,7 @@ fn vector_of_fixes(random: &mut Random) -> (f32, f32) {
 }
 
 /// Every finite bit pattern as likely as any other.
-fn figure(random: &mut Random) -> f32 {
+pub fn figure(random: &mut Random) -> f32 {
     f32::from_bits(random.below(0x7f800000) as u32 | random.bits() & 1 << 31)
 }
 
@@ -134,11 +134,9 @@ fn lon_scale(name: &str, scale: &Scale, low: i64, high: i64) -> Tally {
 fn overflow_checks() -> Tally {
     use oracle_angles::geo::Point as Second;
     let mut tally = Tally::new("overflow checks");
-    panic::set_hook(Box::new(|_| {}));
     let (lat, lon) = black_box((i32::MIN, 0));
-    let first = panic::catch_unwind(|| Point::default().metres_from(Point { lat, lon }, 1));
-    let second = panic::catch_unwind(|| Second::default().metres_from(Second { lat, lon }, 1));
-    let _ = panic::take_hook();
+    let first = caught(|| Point::default().metres_from(Point { lat, lon }, 1));
+    let second = caught(|| Second::default().metres_from(Second { lat, lon }, 1));
     tally.count(first.is_err() && second.is_err(), lat, (first.ok(), second.ok()), "two panics");
     tally
 }

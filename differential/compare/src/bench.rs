@@ -1,7 +1,8 @@
 //! Nanoseconds a call, the port beside the Rust, on the same inputs in one run. Every argument
 //! and answer is held from the optimiser, so neither side is made into vector code.
 use crate::angles::{bearing_of_port, lon_scale_of_rust};
-use crate::{ffi::*, random::Random, tally::Tally};
+use crate::{expected as rust, ffi::*, ffi_format as port, packs, random::Random, tally::Tally};
+use oracle::pack::TileKey;
 use oracle::{geo, tile};
 use std::{fmt::Debug, hint::black_box, time::Instant};
 
@@ -43,6 +44,34 @@ fn some<T>(one: impl Fn(&mut Random) -> T) -> Vec<T> {
     (0..INPUTS).map(|_| one(&mut random)).collect()
 }
 
+/// Sectors and tiles that are accepted, so that nothing is left out.
+fn format() -> Vec<Tally> {
+    let words = some(|r| packs::words(&packs::header(r)));
+    let sectors: Vec<_> = words[..64].iter().map(packs::sector).collect();
+    let sectors: Vec<_> = sectors.iter().collect();
+    let mut tallies =
+        vec![beside("header parse", &sectors, port::header_parse, rust::header_parse)];
+    for (name, len) in [("tile parse of 20 KB", 20_000), ("tile parse of 48 KB", 49_152)] {
+        let (key, random) = (TileKey { row: 0, col: 0 }, &mut Random(0));
+        let nodes = packs::nodes(random, 20_000, len / 40);
+        let bytes = packs::tile(random, key, 20_000, nodes, len).bytes();
+        assert_eq!(bytes.len(), len);
+        let rust = |bytes| tile::Tile::parse(bytes, key, 20_000).is_ok();
+        let port = |bytes: &[u8]| port::tile_parse(bytes, 0, 0, 20_000).is_ok();
+        tallies.push(beside(name, &[&bytes[..]; 4], port, rust));
+    }
+    let segments = some(|r| [0; 6].map(|_| r.within(8_000_000) as f32 / 1_000.0));
+    let port = |[px, py, ax, ay, bx, by]: [f32; 6]| {
+        let mut out = [0; 2];
+        // SAFETY: the function writes at most these two words. Marks would show in the time.
+        unsafe { port::terrain_project(px, py, ax, ay, bx, by, out.as_mut_ptr()) };
+        Ok(out)
+    };
+    let rust = |[px, py, ax, ay, bx, by]: [f32; 6]| rust::project(px, py, ax, ay, bx, by);
+    tallies.push(beside("project", &segments, port, rust));
+    tallies
+}
+
 pub fn run() -> Vec<Tally> {
     let tile = Random(0).bytes(48 * 1024);
     let roots = some(|r| r.bits() as f32 / 4_096.0);
@@ -50,17 +79,19 @@ pub fn run() -> Vec<Tally> {
     let floats = some(|r| r.bits() as i32 as f32 / 65_536.0);
     let vectors = some(|r| (r.within(8_000) as f32, r.within(8_000) as f32));
     let latitudes = some(|r| r.within(90_000_000));
-    let bearing = |(east, north)| bearing_of_port(east, north).1;
-    let lon_scale = |lat| terrain_lon_scale_um(lat);
+    let port = |(east, north)| bearing_of_port(east, north).1;
+    let mut bearing = beside("bearing", &vectors, port, |(east, north)| geo::bearing(east, north));
+    // It need only be near; the gate looks at that.
+    bearing.shown_only = true;
+    let port = |lat| terrain_lon_scale_um(lat);
     let mut tallies = vec![
         beside("crc32 of 48 KiB", &[&tile[..]; 8], crc32, tile::crc32),
         beside("sqrt", &roots, |x| terrain_sqrt(x), f32::sqrt),
         beside("f32_of_i32", &wholes, |n| terrain_f32_of_i32(n), |n| n as f32),
         beside("i32_of_f32", &floats, |x| terrain_i32_of_f32(x), |x| x as i32),
-        beside("lon_scale_um", &latitudes, lon_scale, lon_scale_of_rust),
-        beside("bearing", &vectors, bearing, |(east, north)| geo::bearing(east, north)),
+        bearing,
+        beside("lon_scale_um", &latitudes, port, lon_scale_of_rust),
     ];
-    // A bearing need only be near, and the gate looks at that.
-    tallies[5].shown_only = true;
+    tallies.extend(format());
     tallies
 }

@@ -1,10 +1,29 @@
 //! Compares libabi.a with the Rust original.
+
+/// A function's name, the port's answer and the Rust's; each may have a first argument of its own,
+/// and common ones are names, as they stand here twice.
+macro_rules! both {
+    ($name:ident; $($arg:ident),*) => {
+        (stringify!($name), port::$name($($arg),*), rust::$name($($arg),*))
+    };
+    ($name:ident, $port:expr, $rust:expr $(, $arg:ident)*) => {
+        (stringify!($name), port::$name($port $(, $arg)*), rust::$name($rust $(, $arg)*))
+    };
+}
+
 mod angles;
 mod bench;
 mod crc;
+mod expected;
 mod ffi;
+mod ffi_format;
+mod format;
+mod geometry;
 mod list;
+mod list_format;
 mod numbers;
+mod packs;
+mod panics;
 mod random;
 mod tally;
 
@@ -20,14 +39,22 @@ pub struct Scale {
     random: u64,
     /// Every length to this for CRC-32, and an eighth as many large inputs.
     crc_len: u64,
+    /// What the numbers of headers, tiles and packs go by.
+    packs: u64,
 }
 
-const GATE: Scale = Scale { threads: 1, every: false, random: 10_000_000, crc_len: 512 };
-const FULL: Scale = Scale { threads: 2, every: true, random: 50_000_000, crc_len: 4_096 };
+const GATE: Scale =
+    Scale { threads: 1, every: false, random: 10_000_000, crc_len: 512, packs: 1_000 };
+const FULL: Scale =
+    Scale { threads: 2, every: true, random: 50_000_000, crc_len: 4_096, packs: 20_000 };
 
 fn compare(scale: &Scale) -> Vec<Tally> {
-    let parts = [numbers::compare(scale), crc::compare(scale), angles::compare(scale)];
-    parts.into_iter().flatten().collect()
+    let leaves = [numbers::compare(scale), crc::compare(scale), angles::compare(scale)];
+    leaves.into_iter().flatten().chain(format_and_geometry(scale)).collect()
+}
+
+fn format_and_geometry(scale: &Scale) -> Vec<Tally> {
+    format::compare(scale).into_iter().chain(geometry::compare(scale)).collect()
 }
 
 fn main() -> ExitCode {
@@ -35,10 +62,13 @@ fn main() -> ExitCode {
     let tallies = match words.iter().map(String::as_str).collect::<Vec<_>>()[..] {
         [] | ["gate"] => compare(&GATE),
         ["full"] => compare(&FULL),
+        ["try"] => format_and_geometry(&Scale { packs: 100, random: 1_000_000, ..GATE }),
         ["bench"] => bench::run(),
         ["list", file] => list::write(file),
+        ["list_format", file] => list_format::write(file),
+        ["panics"] => panics::print(),
         _ => {
-            eprintln!("usage: run [gate | full | bench | list FILE]");
+            eprintln!("usage: run [gate | full | bench | panics | list FILE | list_format FILE]");
             return ExitCode::from(2);
         }
     };

@@ -23,6 +23,11 @@ impl Random {
         (self.below(2 * limit as u64 + 1) as i64 - i64::from(limit)) as i32
     }
 
+    /// From low to high, both reached.
+    pub fn between(&mut self, low: i64, high: i64) -> i64 {
+        low + self.below((high - low) as u64 + 1) as i64
+    }
+
     /// A whole number of any length with any count of zeros at its end, or one beside it:
     /// rounding to nearest meets ties, and neighbours of ties.
     pub fn whole(&mut self) -> u32 {
@@ -34,4 +39,9 @@ impl Random {
     pub fn bytes(&mut self, len: usize) -> Vec<u8> {
         (0..len).map(|_| self.next() as u8).collect()
     }
+}
+
+/// One of several; they stand before the random numbers so that some may come from there.
+pub fn pick<T: Copy>(of: &[T], random: &mut Random) -> T {
+    of[random.below(of.len() as u64) as usize]
 }

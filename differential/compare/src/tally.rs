@@ -56,8 +56,18 @@ impl Tally {
         self.compared += 1;
         if !same {
             self.differed += 1;
-            self.first.get_or_insert_with(|| format!("{given:x?}: {port:x?}, not {rust:x?}"));
+            // Of a long input the end would be all there is to see.
+            let told =
+                |what: &dyn Debug| format!("{what:x?}").chars().take(1_000).collect::<String>();
+            let words = || format!("{}: {}, not {}", told(&given), told(&port), told(&rust));
+            self.first.get_or_insert_with(words);
         }
+    }
+
+    /// A function's name, the port's answer and the Rust's.
+    pub fn same<A: PartialEq + Debug>(&mut self, given: impl Debug, both: (&str, A, A)) {
+        let (name, port, rust) = both;
+        self.count(port == rust, (name, given), &port, &rust);
     }
 
     pub fn far(&mut self, degrees: [f64; 2]) {

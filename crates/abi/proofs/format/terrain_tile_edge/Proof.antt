@@ -4,9 +4,6 @@ use borrow.Author.Needs.{needs}
 use Rattle.abi.proofs.format.terrain_tile_edge.Statement.{statement}
 use Rattle.abi.proofs.format.terrain_tile_edge.Tie as tie
 
-cast-edge : tie.Need-cast-edge
-cast-edge c = search needs
-
 edge-requires : tie.Need-edge-requires
 edge-requires c κs = search needs
 
@@ -29,7 +26,6 @@ pub terrain-tile-edge-spec : {M : Type 1} → statement M
 terrain-tile-edge-spec =
     tie.close
     (tie.spec
-    cast-edge
     edge-requires
     enum-known-answer
     write-edge-requires

@@ -4,9 +4,6 @@ use borrow.Author.Needs.{needs}
 use Rattle.abi.proofs.format.terrain_tile_incident.Statement.{statement}
 use Rattle.abi.proofs.format.terrain_tile_incident.Tie as tie
 
-cast-incident : tie.Need-cast-incident
-cast-incident c = search needs
-
 incident-requires : tie.Need-incident-requires
 incident-requires c κs = search needs
 
@@ -32,7 +29,6 @@ pub terrain-tile-incident-spec : {M : Type 1} → statement M
 terrain-tile-incident-spec =
     tie.close
     (tie.spec
-    cast-incident
     incident-requires
     enum-known-answer
     element-write-out

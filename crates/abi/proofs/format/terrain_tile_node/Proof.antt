@@ -3,9 +3,6 @@ use borrow.Author.Needs.{needs}
 use Rattle.abi.proofs.format.terrain_tile_node.Statement.{statement}
 use Rattle.abi.proofs.format.terrain_tile_node.Tie as tie
 
-cast-node : tie.Need-cast-node
-cast-node c = search needs
-
 node-requires : tie.Need-node-requires
 node-requires c κs = search needs
 
@@ -16,4 +13,4 @@ returns : tie.Need-returns
 returns c = rw (c .before .before .node .ensures) at (c .answer-node .ensures)
 
 pub terrain-tile-node-spec : {M : Type 1} → statement M
-terrain-tile-node-spec = tie.close (tie.spec cast-node node-requires answer-node-requires returns)
+terrain-tile-node-spec = tie.close (tie.spec node-requires answer-node-requires returns)

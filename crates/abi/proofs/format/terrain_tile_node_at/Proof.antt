@@ -4,12 +4,6 @@ use borrow.Author.Needs.{needs}
 use Rattle.abi.proofs.format.terrain_tile_node_at.Statement.{statement}
 use Rattle.abi.proofs.format.terrain_tile_node_at.Tie as tie
 
-cast-node-at : tie.Need-cast-node-at
-cast-node-at c = search needs
-
-cast-node-at-2 : tie.Need-cast-node-at-2
-cast-node-at-2 c = search needs
-
 node-at-requires : tie.Need-node-at-requires
 node-at-requires c κs = search needs
 
@@ -32,8 +26,6 @@ pub terrain-tile-node-at-spec : {M : Type 1} → statement M
 terrain-tile-node-at-spec =
     tie.close
     (tie.spec
-    cast-node-at
-    cast-node-at-2
     node-at-requires
     enum-known-answer
     cast-out
