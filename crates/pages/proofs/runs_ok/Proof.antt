@@ -1,0 +1,65 @@
+-- `pages::runs_ok` meets its contract. The loop's invariant: the pages passed are as they must be. Assumes nothing.
+use Prim.Native.Nat.{_≤_, _-_}
+use mathlib.Core.Path.{_≡_, sym, _∙_}
+use mathlib.Core.Bool.{true}
+use native.Mathlib.Omega.{arith}
+use borrow.Author.Tests.{not-true, not-false, lt-leb, le-leb}
+use borrow.Author.Needs.{needs}
+use Rattle.pages.specs.Runs.{allBelow, pageOk}
+use Rattle.pages.proofs.Below.{all-none, all-more, all-miss, all-end}
+use Rattle.pages.proofs.runs_ok.Statement.{statement}
+use Rattle.pages.proofs.runs_ok.Tie as tie
+
+abbrev Inv-loop : tie.InvT-loop
+Inv-loop g p₀ p = (p ≤ 96) × ((g .count ≤ 96) × (allBelow (pageOk (g .slots) (g .count)) p ≡ true))
+
+abbrev μ-loop : tie.MeasureT-loop
+μ-loop g p₀ p = 96 - p
+
+returns : tie.Need-returns Inv-loop μ-loop
+returns c = rw (lt-leb _ _ (c .if1 .taken))
+
+loop-holds : tie.Need-loop-holds Inv-loop μ-loop
+loop-holds c = (search needs, (search needs, all-none _))
+
+page-ok-requires : tie.Need-page-ok-requires Inv-loop μ-loop
+page-ok-requires c κs = omega arith
+
+returns-2 : tie.Need-returns-2 Inv-loop μ-loop
+returns-2 c =
+    let turn = c .before .before in
+    let at-loop = turn .before .loop in
+    rw (le-leb _ _ (at-loop .inv .1 .0))
+    (sym (all-miss _ (at-loop .p) 96 (turn .loop-test .taken) (sym (c .before .page-ok .ensures) ∙ not-true _ (c .if2 .taken))))
+
+add-p : tie.Need-add-p Inv-loop μ-loop
+add-p c = search needs
+
+loop-less : tie.Need-loop-less Inv-loop μ-loop
+loop-less c = search needs
+
+loop-again : tie.Need-loop-again Inv-loop μ-loop
+loop-again c =
+    let at-loop = c .before .before .before .loop in
+    let hit = sym (c .before .page-ok .ensures) ∙ not-false _ (c .if2 .left) in
+    (omega arith, (at-loop .inv .1 .0, all-more _ (at-loop .p) (at-loop .inv .1 .1) hit))
+
+returns-3 : tie.Need-returns-3 Inv-loop μ-loop
+returns-3 c =
+    let at-loop = c .before .loop in
+    rw (le-leb _ _ (at-loop .inv .1 .0)) (all-end _ (at-loop .p) 96 (omega arith) (at-loop .inv .1 .1))
+
+pub runs-ok-spec : {M : Type 1} → statement M
+runs-ok-spec =
+    tie.close
+    (tie.spec
+    Inv-loop
+    μ-loop
+    returns
+    loop-holds
+    page-ok-requires
+    returns-2
+    add-p
+    loop-less
+    loop-again
+    returns-3)
