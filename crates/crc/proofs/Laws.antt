@@ -6,7 +6,7 @@ use mathlib.Core.List.{List, [], _∷_, _++_, map, append-assoc, append-nil}
 use native.Mathlib.Nat.{add-zero, add-suc, pow-suc, div-eq-of-lt, min-eq-left, min-eq-right, le-of-lt}
 use native.Mathlib.Numerals.{add-one}
 use native.Mathlib.Omega.{arith}
-use lib.ListN.{length, take, drop, getD, length-append, length-take, length-drop, drop-of-length-le, replicate, length-replicate}
+use lib.ListN.{length, take, drop, getD, length-append, length-take, length-drop, drop-of-length-le, replicate, length-replicate, replicate-append-replicate}
 use lib.Dec.{eqb, leb}
 use borrow.Author.Tests.{leb-true, leb-false}
 use lib.Pow.{shr-shr, mod-mod-pow, field}
@@ -127,15 +127,15 @@ unfolding divide zeros
 divide-zeros zero p = refl
 divide-zeros (suc j) p = divide-zeros j p
 
-apart : (x y : List Bool) → 32 ≤ length y → add (zeros (length x) ++ y) (x ++ zeros 32) ≡ x ++ y
+apart : (n : ℕ) (x y : List Bool) → n ≤ length y → add (zeros (length x) ++ y) (x ++ zeros n) ≡ x ++ y
 unfolding add zeros
-apart [] y h = add-comm y (zeros 32) ∙ add-zeros 32 y h
-apart (a ∷ x) y h = ap (λ (l : List Bool). a ∷ l) (apart x y h)
+apart n [] y h = add-comm y (zeros n) ∙ add-zeros n y h
+apart n (a ∷ x) y h = ap (λ (l : List Bool). a ∷ l) (apart n x y h)
 
 -- the first terms of a dividend are divided by themselves, and the rest is added
 divide-first : (x y : List Bool) → 32 ≤ length y → divide (length x) (x ++ y) ≡ add (divide (length x) (x ++ zeros 32)) y
 divide-first x y h =
-    ap (divide (length x)) (sym (apart x y h))
+    ap (divide (length x)) (sym (apart 32 x y h))
     ∙ linear (length x) (zeros (length x) ++ y) (x ++ zeros 32)
     (omega (arith, length-append (zeros (length x)) y, zeros-length (length x)))
     (omega (arith, length-append x (zeros 32), zeros-length 32))
@@ -202,10 +202,10 @@ number-not (suc n) x h =
 
 -- ---- the register: 32 bits that stand under the first terms of what is left of the dividend
 
--- the table is asked at the low octet
-pub entry-low : (x : ℕ) → entryOf (x % 256) ≡ entryOf x
+-- a table is asked at the low octet
+pub entry-low : (k x : ℕ) → entryOf k (x % 256) ≡ entryOf k x
 unfolding entryOf
-entry-low x = ap (λ (l : List Bool). remainder (l ++ zeros 32)) (bits-low 8 x)
+entry-low k x = ap (λ (l : List Bool). remainder (l ++ zeros (8 * k + 32))) (bits-low 8 x)
 
 -- the register, shifted by n
 shifted : (j n c t : ℕ) → j + n ≡ 32 → c < 2 ^ 32 → bits 32 (bitXor t (c / 2 ^ n)) ≡ add (bits 32 t) (bits j (c / 2 ^ n))
@@ -219,29 +219,35 @@ shifted j n c t e h =
     ∙ add-tail (bits 32 t) (bits j y) n (omega (arith, bits-length 32 t, bits-length j y))
     ∙ add-comm (bits j y) (bits 32 t)
 
--- n bits at once, at most 32: the remainder for the register's low n bits plus these, and the register shifted by n
-pub taken : (j n c o t : ℕ) (m : List Bool) → j + n ≡ 32 → c < 2 ^ 32 → bits 32 t ≡ remainder (bits n (bitXor c o) ++ zeros 32)
-    → left c (bits n o ++ m) ≡ left (bitXor t (c / 2 ^ n)) m
+-- bits of the message at once: x is these plus the register above them, s what is left of the register, and t the remainder for x
+taken-bits : (x s o m : List Bool) (c t : ℕ) → length x ≡ length o → length s ≤ 32 → add (bits 32 c) ((o ++ m) ++ zeros 32) ≡ x ++ add s (m ++ zeros 32)
+    → bits 32 t ≡ remainder (x ++ zeros 32) → left c (o ++ m) ≡ divide (length m) (add (add (bits 32 t) s) (m ++ zeros 32))
 unfolding left remainder
-taken j n c o t m w h e =
-    let x : List Bool = bits n (bitXor c o) in
-    let s : List Bool = bits j (c / 2 ^ n) in
+taken-bits x s o m c t n h first e =
     let y : List Bool = add s (m ++ zeros 32) in
-    let k : length (bits n o ++ m) ≡ length m + length x = omega (arith, length-append (bits n o) m, bits-length n o, bits-length n (bitXor c o)) in
+    let k : length (o ++ m) ≡ length m + length x = omega (arith, length-append o m) in
     let z : length (m ++ zeros 32) ≡ length m + 32 = length-append m (zeros 32) ∙ ap (λ (i : ℕ). length m + i) (zeros-length 32) in
-    let l : length y ≡ length (m ++ zeros 32) = add-length s (m ++ zeros 32) (omega (arith, bits-length j (c / 2 ^ n))) in
+    let l : length y ≡ length (m ++ zeros 32) = add-length s (m ++ zeros 32) (omega arith) in
     let d : length (x ++ zeros 32) - 32 ≡ length x = omega (arith, length-append x (zeros 32), zeros-length 32) in
-    let first : add (bits 32 c) ((bits n o ++ m) ++ zeros 32) ≡ x ++ y =
-    ap₂ add (ap (λ (i : ℕ). bits i c) (sym w) ∙ bits-split j n c) (append-assoc (bits n o) m (zeros 32))
-    ∙ add-append (bits n c) (bits n o) s (m ++ zeros 32) (bits-length n c ∙ sym (bits-length n o))
-    ∙ ap (λ (l : List Bool). l ++ y) (sym (bits-xor n c o)) in
     ap₂ divide k first
     ∙ divide-more (length m) (length x) (x ++ y)
     ∙ ap (divide (length m))
     (divide-first x y (omega arith)
     ∙ ap (λ (l : List Bool). add l y) (ap (λ (i : ℕ). divide i (x ++ zeros 32)) (sym d) ∙ sym e)
-    ∙ sym (add-assoc (bits 32 t) s (m ++ zeros 32))
-    ∙ ap (λ (l : List Bool). add l (m ++ zeros 32)) (sym (shifted j n c t w h)))
+    ∙ sym (add-assoc (bits 32 t) s (m ++ zeros 32)))
+
+-- n bits at once, at most 32: the remainder for the register's low n bits plus these, and the register shifted by n
+pub taken : (j n c o t : ℕ) (m : List Bool) → j + n ≡ 32 → c < 2 ^ 32 → bits 32 t ≡ remainder (bits n (bitXor c o) ++ zeros 32)
+    → left c (bits n o ++ m) ≡ left (bitXor t (c / 2 ^ n)) m
+unfolding left
+taken j n c o t m w h e =
+    let s : List Bool = bits j (c / 2 ^ n) in
+    let first : add (bits 32 c) ((bits n o ++ m) ++ zeros 32) ≡ bits n (bitXor c o) ++ add s (m ++ zeros 32) =
+    ap₂ add (ap (λ (i : ℕ). bits i c) (sym w) ∙ bits-split j n c) (append-assoc (bits n o) m (zeros 32))
+    ∙ add-append (bits n c) (bits n o) s (m ++ zeros 32) (bits-length n c ∙ sym (bits-length n o))
+    ∙ ap (λ (l : List Bool). l ++ add s (m ++ zeros 32)) (sym (bits-xor n c o)) in
+    taken-bits (bits n (bitXor c o)) s (bits n o) m c t (bits-length n (bitXor c o) ∙ sym (bits-length n o)) (omega (arith, bits-length j (c / 2 ^ n))) first e
+    ∙ ap (λ (l : List Bool). divide (length m) (add l (m ++ zeros 32))) (sym (shifted j n c t w h))
 
 -- ---- the loop over octets: its start, a turn, its end
 
@@ -266,12 +272,112 @@ start os =
     ∙ ap (divide (length m)) (add-tail (m ++ zeros 32) ones (length m) (omega (arith, bits-length 32 4294967295))))
 
 -- one octet more, t being the table's entry for the register's low octet plus this one
-pub turn : (c t i : ℕ) (os : List ℕ) (m : List Bool) → c < 2 ^ 32 → i < length os → bits 32 t ≡ entryOf (bitXor c (getD os i 0))
+pub turn : (c t i : ℕ) (os : List ℕ) (m : List Bool) → c < 2 ^ 32 → i < length os → bits 32 t ≡ entryOf 0 (bitXor c (getD os i 0))
     → left (bitXor t (c / 256)) (message (drop (i + 1) os) ++ m) ≡ left c (message (drop i os) ++ m)
 unfolding message entryOf
 turn c t i os m h l e =
     rw (add-one i, drop-cons os i 0 l, append-assoc (bits 8 (getD os i 0)) (message (drop (suc i) os)) m)
     (sym (taken 24 8 c (getD os i 0) t (message (drop (suc i) os) ++ m) refl h e))
+
+-- ---- many octets at once, four or more: the remainder for them plus the register is the sum of an entry for each
+
+pub message-length : (os : List ℕ) → length (message os) ≡ 8 * length os
+unfolding message
+message-length [] = refl
+message-length (o ∷ os) = omega (arith, length-append (bits 8 o) (message os), bits-length 8 o, message-length os)
+
+-- the octets with the n octets of the register c added to the first of them
+unfoldable pub mixed : ℕ → ℕ → List ℕ → List ℕ
+mixed zero c os = os
+mixed (suc n) c [] = []
+mixed (suc n) c (o ∷ os) = bitXor c o ∷ mixed n (c / 256) os
+
+mixed-length : (n c : ℕ) (os : List ℕ) → length (mixed n c os) ≡ length os
+unfolding mixed
+mixed-length zero c os = refl
+mixed-length (suc n) c [] = refl
+mixed-length (suc n) c (o ∷ os) = ap suc (mixed-length n (c / 256) os)
+
+mixed-message : (n c : ℕ) (os : List ℕ) (q : List Bool) → n ≤ length os → add (bits (8 * n) c) (message os ++ q) ≡ message (mixed n c os) ++ q
+unfolding mixed message
+mixed-message zero c os q h = unfold add bits in refl
+mixed-message (suc n) c [] q h = absurd (omega arith)
+mixed-message (suc n) c (o ∷ os) q h =
+    let w : 8 * suc n ≡ 8 * n + 8 = omega arith in
+    ap₂ add (ap (λ (k : ℕ). bits k c) w ∙ bits-split (8 * n) 8 c) (append-assoc (bits 8 o) (message os) q)
+    ∙ add-append (bits 8 c) (bits 8 o) (bits (8 * n) (c / 256)) (message os ++ q) (bits-length 8 c ∙ sym (bits-length 8 o))
+    ∙ ap₂ _++_ (sym (bits-xor 8 c o)) (mixed-message n (c / 256) os q (omega arith))
+    ∙ sym (append-assoc (bits 8 (bitXor c o)) (message (mixed n (c / 256) os)) q)
+
+-- the first octet's entry, and the remainder for the rest
+summed : (x : ℕ) (xs : List ℕ) → remainder (message (x ∷ xs) ++ zeros 32) ≡ add (entryOf (length xs) x) (remainder (message xs ++ zeros 32))
+unfolding message entryOf remainder
+summed x xs =
+    let k : ℕ = 8 * length xs in
+    let p : List Bool = bits 8 x ++ zeros (k + 32) in
+    let q : List Bool = message xs ++ zeros 32 in
+    let b : length (bits 8 x) ≡ 8 = bits-length 8 x in
+    let lp : length p ≡ 8 + (k + 32) = length-append (bits 8 x) (zeros (k + 32)) ∙ ap₂ _+_ b (zeros-length (k + 32)) in
+    let lq : length q ≡ k + 32 = length-append (message xs) (zeros 32) ∙ ap₂ _+_ (message-length xs) (zeros-length 32) in
+    let np : k + 8 ≡ length p - 32 = omega arith in
+    let nq : k ≡ length q - 32 = omega arith in
+    let n : length (bits 8 x ++ q) - 32 ≡ k + 8 = omega (arith, length-append (bits 8 x) q) in
+    ap (λ (l : List Bool). divide (length l - 32) l) (append-assoc (bits 8 x) (message xs) (zeros 32))
+    ∙ ap₂ divide n (sym (apart (k + 32) (bits 8 x) q (omega arith)) ∙ ap (λ (i : ℕ). add (zeros i ++ q) p) b ∙ add-comm (zeros 8 ++ q) p)
+    ∙ linear (k + 8) p (zeros 8 ++ q) (omega arith) (omega (arith, length-append (zeros 8) q, zeros-length 8))
+    ∙ ap₂ add (ap (λ (i : ℕ). divide i p) np)
+    (divide-more k 8 (zeros 8 ++ q) ∙ ap (divide k) (divide-zeros 8 q) ∙ ap (λ (i : ℕ). divide i q) nq)
+
+-- the entries of the octets, each for as many octets of zero as there are octets behind it
+unfoldable pub sums : List ℕ → List Bool
+sums [] = zeros 32
+sums (x ∷ []) = entryOf 0 x
+sums (x ∷ (y ∷ xs)) = add (entryOf (suc (length xs)) x) (sums (y ∷ xs))
+
+sums-are : (xs : List ℕ) → remainder (message xs ++ zeros 32) ≡ sums xs
+unfolding sums
+sums-are [] = unfold message remainder divide zeros in refl
+sums-are (x ∷ []) = unfold message entryOf in (ap (λ (l : List Bool). remainder (l ++ zeros 32)) (append-nil (bits 8 x)))
+sums-are (x ∷ (y ∷ xs)) = summed x (y ∷ xs) ∙ ap (add (entryOf (suc (length xs)) x)) (sums-are (y ∷ xs))
+
+pub takes-sum : (c t : ℕ) (os : List ℕ) → 4 ≤ length os → bits 32 t ≡ sums (mixed 4 c os) → Takes c os t
+unfolding Takes left add
+takes-sum c t os h e m =
+    let x : List Bool = message (mixed 4 c os) in
+    let l : length x ≡ length (message os) = omega (arith, message-length (mixed 4 c os), message-length os, mixed-length 4 c os) in
+    sym
+    (taken-bits x [] (message os) m c t l (omega arith)
+    (ap (add (bits 32 c)) (append-assoc (message os) m (zeros 32)) ∙ mixed-message 4 c os (m ++ zeros 32) h) (e ∙ sym (sums-are (mixed 4 c os)))
+    ∙ ap (λ (r : List Bool). divide (length m) (add r (m ++ zeros 32))) (add-comm (bits 32 t) []))
+
+-- ---- an octet of zero more behind an octet
+
+add-more : (g p q : List Bool) → length g ≤ length p → add g (p ++ q) ≡ add g p ++ q
+unfolding add
+add-more [] p q h = refl
+add-more (a ∷ g) [] q h = absurd (omega arith)
+add-more (a ∷ g) (b ∷ p) q h = ap (λ (l : List Bool). plus a b ∷ l) (add-more g p q (omega arith))
+
+divide-append : (k : ℕ) (p q : List Bool) → k + 32 ≤ length p → divide k (p ++ q) ≡ divide k p ++ q
+unfolding divide add
+divide-append zero p q h = refl
+divide-append (suc k) [] q h = absurd (omega arith)
+divide-append (suc k) (false ∷ p) q h = divide-append k p q (omega arith)
+divide-append (suc k) (true ∷ p) q h =
+    rw (add-more lower p q (omega (arith, lower-length))) (divide-append k (add lower p) q (omega (arith, add-length lower p (omega (arith, lower-length)))))
+
+pub entry-more : (k x : ℕ) → divide 8 (entryOf k x ++ zeros 8) ≡ entryOf (suc k) x
+unfolding entryOf remainder zeros
+entry-more k x =
+    let p : List Bool = bits 8 x ++ zeros (8 * k + 32) in
+    let l : length p ≡ 8 + (8 * k + 32) = length-append (bits 8 x) (zeros (8 * k + 32)) ∙ ap₂ _+_ (bits-length 8 x) (zeros-length (8 * k + 32)) in
+    let w : (8 * k + 32) + 8 ≡ 8 * suc k + 32 = omega arith in
+    let n : 8 + (length p - 32) ≡ length (p ++ zeros 8) - 32 = omega (arith, length-append p (zeros 8), zeros-length 8) in
+    ap (divide 8) (sym (divide-append (length p - 32) p (zeros 8) (omega arith)))
+    ∙ sym (divide-more 8 (length p - 32) (p ++ zeros 8))
+    ∙ ap (λ (i : ℕ). divide i (p ++ zeros 8)) n
+    ∙ ap (λ (l : List Bool). divide (length l - 32) l)
+    (append-assoc (bits 8 x) (zeros (8 * k + 32)) (zeros 8) ∙ ap (λ (l : List Bool). bits 8 x ++ l) (replicate-append-replicate (8 * k + 32) 8 false ∙ ap zeros w))
 
 -- ---- what `Takes` gives
 

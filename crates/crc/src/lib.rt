@@ -1,8 +1,13 @@
-// CRC-32 as ITU-T V.42 has it, an octet at a time by a table: `crc32`, `crc_update` and `crc32_skipping` of the Rust's tile.rs.
+// CRC-32 as ITU-T V.42 has it, an octet or eight at a time by tables: `crc32`, `crc_update` and `crc32_skipping` of the Rust's tile.rs.
 ghost use mathlib.Core.Path.{_≡_};
-ghost use Prim.Native.Nat.{_-_, min};
+ghost use Prim.Native.Nat.{_-_, _<_, min};
+ghost use lib.Bits.{bitXor};
+ghost use lib.ListN.{length};
 ghost use Rattle.crc.specs.Fcs as Fcs;
-ghost use Rattle.crc.specs.Register.{Rule, Takes};
+ghost use Rattle.crc.specs.Fcs.{bits};
+ghost use Rattle.crc.specs.Register.{entryOf, Rule, SlicesRule, Takes};
+
+mod slices;
 
 // What eight turns of the register make of each octet.
 const TABLE: [u32; 256] = [
@@ -264,20 +269,82 @@ const TABLE: [u32; 256] = [
     755167117,
 ];
 
-// The register after the octets. The table is lent, and put into a local once by each caller: a const that is indexed where it is named is written out anew
-// each time.
-fn crc_update(table: &[u32; 256], value: u32, bytes: &[u8]) -> u32
-    requires { ⌜ Rule (now table) ⌝ }
+// What the table has for the octet `o` plus the low octet of `c`.
+fn entry(table: &[u32; 256], c: u32, o: u8) -> u32
+    requires { ⌜ Rule 0 (now table) ⌝ }
+    ensures { λ r. ⌜ bits 32 r ≡ entryOf 0 (bitXor c o) ⌝ }
+{
+    table[((c ^ (o as u32)) & 0xff) as usize]
+}
+
+// What the slices have for the octet `o` plus the low octet of `c`, with `k` octets of zero behind it.
+fn slice_entry(slices: &[u32; 1792], k: usize, c: u32, o: u8) -> u32
+    requires { ⌜ SlicesRule (now slices) ⌝ }
+    requires { ⌜ 0 < k ⌝ }
+    requires { ⌜ k < 8 ⌝ }
+    ensures { λ r. ⌜ bits 32 r ≡ entryOf k (bitXor c o) ⌝ }
+{
+    slices[(k - 1) * 256 + ((c ^ (o as u32)) & 0xff) as usize]
+}
+
+// The register after the octets, one a turn.
+fn crc_octets(table: &[u32; 256], value: u32, bytes: &[u8]) -> u32
+    requires { ⌜ Rule 0 (now table) ⌝ }
     ensures { λ r. ⌜ Takes value (now (bytes .entry)) r ⌝ }
 {
     let mut c = value;
     let mut i = 0;
     while i < bytes.len() {
-        let n = (c ^ (bytes[i] as u32)) & 0xff;
-        c = table[n as usize] ^ (c >> 8);
+        c = entry(table, c, bytes[i]) ^ (c >> 8);
         i += 1;
     }
     c
+}
+
+// The register after eight octets: the sum of an entry for each, by how many octets are behind it. The register's four are added to the first four. The last four
+// go first, for they need not wait for the register.
+fn crc_eight(table: &[u32; 256], slices: &[u32; 1792], c: u32, o: &[u8]) -> u32
+    requires { ⌜ Rule 0 (now table) ⌝ }
+    requires { ⌜ SlicesRule (now slices) ⌝ }
+    requires { ⌜ length (now o) ≡ 8 ⌝ }
+    ensures { λ r. ⌜ Takes c (now (o .entry)) r ⌝ }
+{
+    let mut t = entry(table, 0, o[7]);
+    t = slice_entry(slices, 1, 0, o[6]) ^ t;
+    t = slice_entry(slices, 2, 0, o[5]) ^ t;
+    t = slice_entry(slices, 3, 0, o[4]) ^ t;
+    t = slice_entry(slices, 4, c >> 24, o[3]) ^ t;
+    t = slice_entry(slices, 5, c >> 16, o[2]) ^ t;
+    t = slice_entry(slices, 6, c >> 8, o[1]) ^ t;
+    slice_entry(slices, 7, c, o[0]) ^ t
+}
+
+// The register after the octets, eight a turn, and the rest one a turn.
+fn crc_slices(table: &[u32; 256], slices: &[u32; 1792], value: u32, bytes: &[u8]) -> u32
+    requires { ⌜ Rule 0 (now table) ⌝ }
+    requires { ⌜ SlicesRule (now slices) ⌝ }
+    ensures { λ r. ⌜ Takes value (now (bytes .entry)) r ⌝ }
+{
+    let mut c = value;
+    let mut i = 0;
+    while 8 <= bytes.len() - i {
+        c = crc_eight(table, slices, c, &bytes[i..i + 8]);
+        i += 8;
+    }
+    crc_octets(table, c, &bytes[i..])
+}
+
+// The register after the octets. A table is put into a local once and lent: a const that is indexed where it is named is written out anew each time. To write the
+// slices out takes as long as some fifty octets by the table alone, so a few go by the table.
+fn crc_update(table: &[u32; 256], value: u32, bytes: &[u8]) -> u32
+    requires { ⌜ Rule 0 (now table) ⌝ }
+    ensures { λ r. ⌜ Takes value (now (bytes .entry)) r ⌝ }
+{
+    if bytes.len() < 64 {
+        return crc_octets(table, value, bytes);
+    }
+    let slices = slices::SLICES;
+    crc_slices(table, &slices, value, bytes)
 }
 
 // CRC-32 of the bytes.
