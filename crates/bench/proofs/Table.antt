@@ -4,10 +4,12 @@ use lib.Ieee.{ofInt, ofBits, toBits, units}
 use Rattle.crc.specs.Fcs.{add, lower, divide, remainder, zeros, bits, number, message, fcs, crc32}
 use Rattle.num.specs.Root.{rootIn, wholeRoot, nearRoot, squareRoot}
 use Rattle.pack.specs.Grid.{keyOf, checkedOf, entryOf}
+use Rattle.pages.specs.Runs.{span}
+use Rattle.pages.specs.Victim.{age, leastOf, bestOf}
 use Rattle.bench.specs.Lines.{Lines}
 
 pub lines : Lines
-unfolding add lower divide remainder zeros bits number message fcs crc32 ofInt rootIn wholeRoot nearRoot squareRoot ofBits toBits units keyOf checkedOf entryOf
+unfolding add lower divide remainder zeros bits number message fcs crc32 ofInt rootIn wholeRoot nearRoot squareRoot ofBits toBits units keyOf checkedOf entryOf span age leastOf bestOf
 lines = record {
   crc-of-digits = refl;
   crc-of-nothing = refl;
@@ -20,4 +22,10 @@ lines = record {
   row-above = refl;
   entry-offset = refl;
   tile-length = refl;
+  pages-of-none = refl;
+  pages-of-one = refl;
+  pages-of-two = refl;
+  pages-of-six = refl;
+  one-wanted = refl;
+  five-wanted = refl;
 }

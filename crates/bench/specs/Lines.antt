@@ -4,6 +4,7 @@ use Prim.Native.Nat.{ℕ}
 use mathlib.Core.Path.{_≡_}
 use mathlib.Core.Bool.{false}
 use mathlib.Core.List.{[], _∷_}
+use lib.ListN.{replicate}
 use lib.IntN.{pos, negsuc}
 use lib.Ieee.{fin, binary32, ofInt, ofBits, toBits}
 use Rattle.crc.specs.Fcs.{crc32}
@@ -13,6 +14,10 @@ use Rattle.pack.specs.declared.Header.{Header}
 use Rattle.pack.specs.declared.TileKey.{TileKey}
 use Rattle.pack.specs.declared.Keyed.the-variants.{In, Outside}
 use Rattle.tile.specs.Layout.{length}
+use Rattle.pages.specs.Runs.{span, emptySlot}
+use Rattle.pages.specs.Victim.{victim}
+use Rattle.pages.specs.declared.Pages.{Pages}
+use Rattle.pages.specs.declared.victim.Found.the-variants as Found
 
 -- a header with these grid fields and all others 0
 abbrev gridOf : ℕ → ℕ → ℕ → ℕ → Header
@@ -38,6 +43,10 @@ key row col = record { row = row; col = col }
 abbrev twoRows : Header
 twoRows = gridOf 1000 2 1 512
 
+-- four pages, all empty
+abbrev fourEmpty : Pages
+fourEmpty = record { slots = replicate 96 emptySlot; used = replicate 96 0; count = 4; clock = 0 }
+
 pub record Lines : Type 0 where
   -- CRC of ASCII 123456789; of no bytes
   pub crc-of-digits : crc32 (49 ∷ 50 ∷ 51 ∷ 52 ∷ 53 ∷ 54 ∷ 55 ∷ 56 ∷ 57 ∷ []) ≡ 0xcbf43926
@@ -56,3 +65,11 @@ pub record Lines : Type 0 where
   pub entry-offset : entryOf (gridOf 1000 2 3 512) (key 1 2) ≡ 552
   -- the length for 2 nodes, 1 edge, 3 vertices
   pub tile-length : length 2 1 3 ≡ 86
+  -- pages for 0, 8,192, 8,193 and 49,152 bytes
+  pub pages-of-none : span 0 ≡ 1
+  pub pages-of-one : span 8192 ≡ 1
+  pub pages-of-two : span 8193 ≡ 2
+  pub pages-of-six : span 49152 ≡ 6
+  -- 4 empty pages, 1 wanted and 5 wanted
+  pub one-wanted : victim fourEmpty 1 ≡ Found.At 0
+  pub five-wanted : victim fourEmpty 5 ≡ Found.Nothing
