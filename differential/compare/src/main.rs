@@ -62,13 +62,15 @@ fn main() -> ExitCode {
     let tallies = match words.iter().map(String::as_str).collect::<Vec<_>>()[..] {
         [] | ["gate"] => compare(&GATE),
         ["full"] => compare(&FULL),
-        ["try"] => format_and_geometry(&Scale { packs: 100, random: 1_000_000, ..GATE }),
+        ["full", "format"] => {
+            crc::compare(&FULL).into_iter().chain(format_and_geometry(&FULL)).collect()
+        }
         ["bench"] => bench::run(),
         ["list", file] => list::write(file),
         ["list_format", file] => list_format::write(file),
         ["panics"] => panics::print(),
         _ => {
-            eprintln!("usage: run [gate | full | bench | panics | list FILE | list_format FILE]");
+            eprintln!("usage: run [gate | full [format] | bench | panics | list FILE | list_format FILE]");
             return ExitCode::from(2);
         }
     };
