@@ -5,7 +5,7 @@ mod grid;
 mod read;
 mod tiles;
 
-ghost use Prim.Native.Nat.{_+_, _≤_};
+ghost use Prim.Native.Nat.{_+_, _<_, _≤_};
 ghost use lib.ListN.{length};
 
 // What the list came to.
@@ -31,6 +31,20 @@ fn agrees(kind: u8, case: &[u8]) -> bool {
     }
 }
 
+// Where the next case begins: always further on, and at most the end.
+fn next(at: usize, len: usize, end: usize) -> usize
+    requires { ⌜ at < end ⌝ }
+    ensures { λ r. ⌜ (at < r) × (r ≤ end) ⌝ }
+{
+    if end - at < 4 {
+        return end;
+    }
+    if end - at - 4 < len {
+        return end;
+    }
+    at + 4 + len
+}
+
 fn replayed(list: &[u8]) -> Tally {
     let mut compared: u64 = 0;
     let mut differed: u64 = 0;
@@ -46,7 +60,7 @@ fn replayed(list: &[u8]) -> Tally {
             differed += 1;
         }
         compared += 1;
-        at = read::next(at, len, list.len());
+        at = next(at, len, list.len());
     }
     Tally { compared, differed }
 }

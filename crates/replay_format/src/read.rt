@@ -1,8 +1,5 @@
 // Parts of a case, and its numbers.
 use pack::Header;
-ghost use mathlib.Core.Path.{_≡_};
-ghost use Prim.Native.Nat.{_+_, _<_, _≤_};
-ghost use lib.ListN.{length};
 
 // `len` bytes from `from` on, or what there is of them.
 pub fn part(bytes: &[u8], from: usize, len: usize) -> &[u8] {
@@ -13,20 +10,6 @@ pub fn part(bytes: &[u8], from: usize, len: usize) -> &[u8] {
         return &bytes[from..];
     }
     &bytes[from..from + len]
-}
-
-// Where the next case begins: always further on, and at most the end.
-pub fn next(at: usize, len: usize, end: usize) -> usize
-    requires { ⌜ at < end ⌝ }
-    ensures { λ r. ⌜ (at < r) × (r ≤ end) ⌝ }
-{
-    if end - at < 4 {
-        return end;
-    }
-    if end - at - 4 < len {
-        return end;
-    }
-    at + 4 + len
 }
 
 pub fn word(bytes: &[u8], i: usize) -> u32 {
