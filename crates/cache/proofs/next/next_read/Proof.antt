@@ -1,0 +1,27 @@
+-- `cache::next::next_read` meets its contract: each return by the load under way and its key. Assumes nothing.
+use mathlib.Core.Path.{sym, _∙_}
+use borrow.Author.Needs.{needs}
+use Rattle.cache.proofs.next.next_read.Statement.{statement}
+use Rattle.cache.proofs.next.next_read.Tie as tie
+
+enum-told : tie.Need-enum-told
+enum-told c = search needs
+
+enum-known-loading : tie.Need-enum-known-loading
+enum-known-loading c = search needs
+
+same-key-requires : tie.Need-same-key-requires
+same-key-requires c κs = tt
+
+returns : tie.Need-returns
+returns c = rw (c .before .before .before .loading .given .1, sym (c .before .same-key .ensures) ∙ c .if1 .taken)
+
+returns-2 : tie.Need-returns-2
+returns-2 c = search needs
+
+returns-3 : tie.Need-returns-3
+returns-3 c = rw (c .before .before .before .loading .given .1, sym (c .before .same-key .ensures) ∙ c .if1 .left)
+
+pub next-read-spec : {M : Type 1} → statement M
+next-read-spec =
+    tie.close (tie.spec enum-told enum-known-loading same-key-requires returns returns-2 returns-3)

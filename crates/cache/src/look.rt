@@ -1,0 +1,114 @@
+// Lookups: the ring first, then the lowest ready run, which is checked again before it is handed out (the late check of number 12).
+use crate::Cache;
+use crate::Got;
+use crate::Lookup;
+use pack::TileKey;
+use pages::Pages;
+use pages::victim::Found;
+use tile::Parsed;
+ghost use mathlib.Core.Path.{_≡_};
+ghost use Rattle.cache.specs.Lookups as Lookups;
+
+// What a lookup lands on, before the run is checked.
+pub enum Landing {
+    Missing,
+    At(usize),
+    Nothing,
+}
+
+// The ring first, then the lowest ready run.
+pub fn lands_on(c: Cache, key: TileKey) -> Landing
+    ensures { λ r. ⌜ r ≡ Lookups.landsOn c key ⌝ }
+{
+    let ring = c.missing;
+    if crate::keys::in_ring(ring, key) {
+        return Landing::Missing;
+    }
+    let g = c.pages;
+    match crate::keys::ready_at(g, key) {
+        Found::At(i) => Landing::At(i),
+        Found::Nothing => Landing::Nothing,
+    }
+}
+
+// Pages of the tile's ready run, one where there is none. The ring is not asked, as in the Rust.
+pub fn pages_of(g: Pages, key: TileKey) -> usize
+    ensures { λ r. ⌜ r ≡ Lookups.pagesOf g key ⌝ }
+{
+    match crate::keys::ready_at(g, key) {
+        Found::At(i) => {
+            let s = pages::slot_at(g, i);
+            pages::span(s.len)
+        }
+        Found::Nothing => 1,
+    }
+}
+
+fn accepts(bytes: &[u8], key: TileKey, size: u32) -> bool
+    ensures { λ r. ⌜ r ≡ Lookups.accepts (now (bytes .entry)) key size ⌝ }
+{
+    match tile::parse(bytes, key, size) {
+        Parsed::Tile(_) => true,
+        Parsed::Refused(_) => false,
+    }
+}
+
+// Whether the run of `len` bytes from page `first` on lies in the arena and passes `Tile::parse` for its key.
+pub fn passes(arena: &[u8], first: usize, len: usize, key: TileKey, size: u32) -> bool
+    ensures { λ r. ⌜ r ≡ Lookups.passes (now (arena .entry)) first len key size ⌝ }
+{
+    if arena.len() / pages::PAGE_BYTES < first {
+        return false;
+    }
+    let at = first * pages::PAGE_BYTES;
+    if arena.len() - at < len {
+        return false;
+    }
+    accepts(&arena[at..at + len], key, size)
+}
+
+// The run from page `i` on as the most recently used.
+pub fn touch(c: Cache, i: usize) -> Cache
+    ensures { λ r. ⌜ r ≡ Lookups.touched c i ⌝ }
+{
+    let mut d = c;
+    let mut g = d.pages;
+    let now = std::num::wrapping_add_u32(g.clock, 1);
+    g.clock = now;
+    if i < pages::MAX_PAGES {
+        g.used[i] = now;
+    }
+    d.pages = g;
+    d
+}
+
+// A lookup in a cache whose state has been tested, of a key in the grid.
+pub fn got(c: Cache, arena: &[u8], size: u32, key: TileKey) -> Got
+    ensures { λ r. ⌜ r ≡ Lookups.got c (now (arena .entry)) size key ⌝ }
+{
+    match lands_on(c, key) {
+        Landing::Missing => Got {
+            answer: Lookup::Missing,
+            cache: c,
+        },
+        Landing::Nothing => Got {
+            answer: Lookup::Absent,
+            cache: c,
+        },
+        Landing::At(i) => {
+            let g = c.pages;
+            let s = pages::slot_at(g, i);
+            if passes(arena, i, s.len, key, size) {
+                let d = touch(c, i);
+                return Got {
+                    answer: Lookup::Ready(i, s.len),
+                    cache: d,
+                };
+            }
+            Got {
+                answer: Lookup::Refused(12),
+                cache: c,
+            }
+        }
+    }
+}
