@@ -9,7 +9,7 @@ use native.Mathlib.Omega.{arith}
 use Rattle.pages.proofs.Below.{same-or}
 use Rattle.pages.specs.declared.victim.Found.{Found}
 use Rattle.pages.specs.declared.victim.Found.the-variants as Found
-use Rattle.cache.specs.Search.{orElse, lowest}
+use Rattle.cache.specs.Search.{orElse, lowest, isFound}
 
 -- one number more: it was found before, or it is the last
 found-at : (x : Found) (t : Bool) (n i : ℕ) → orElse x (cond t (Found.At n) Found.Nothing) ≡ Found.At i
@@ -79,3 +79,11 @@ module _ (p : ℕ → Bool) where
   lowest-none (suc n) e i h =
       let q : (lowest p n ≡ Found.Nothing) × (p n ≡ false) = found-none (lowest p n) (p n) n e in
       ⊎-elim (λ z. ap p z ∙ q .1) (λ z. lowest-none n (q .0) i (omega (arith, z))) (same-or i n)
+
+  -- where something is found, what follows from each number that has it holds
+  pub lowest-some : (n : ℕ) {R : Type 0} → isFound (lowest p n) ≡ true → ((i : ℕ) → p i ≡ true → R) → R
+  lowest-some n {R} e f = by (lowest p n) refl e
+    where
+      by : (x : Found) → lowest p n ≡ x → isFound x ≡ true → R
+      by (Found.At i) q e = f i (lowest-at n i q .1)
+      by Found.Nothing q e = let z : _≡_ {A = ℕ} 0 1 = cc in absurd (omega arith)

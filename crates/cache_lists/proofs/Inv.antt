@@ -1,0 +1,239 @@
+-- The state's own invariant, with no premise on what was delivered (`Inv`): well-formed pages, a place in the ring, a load that has its
+-- run, an open fetch that the state makes. It is what number 12 tests (`inv-ok`), a fresh cache has it, and each change of the state keeps
+-- it. So live runs lie within the pages and apart (`inv-apart`). Assumes nothing.
+use Prim.Native.Nat.{ℕ, _+_, _-_, _<_, _≤_}
+use mathlib.Core.Path.{_≡_, refl, sym, ap, _∙_}
+use mathlib.Core.Bool.{Bool, true, false, not, cond, true≢false}
+use mathlib.Core.List.{List}
+use mathlib.Core.Logic.{inl, ⊎-elim}
+use native.Mathlib.Omega.{arith}
+use borrow.Author.Tests.{not-true, ltb-false, lt-ltb, eq-eqb}
+use lib.Dec.{ltb}
+use lib.ListN.{replicate, length-replicate}
+use Rattle.pack.specs.declared.TileKey.{TileKey}
+use Rattle.pages.specs.declared.Slot.{Slot}
+use Rattle.pages.specs.declared.Pages.{Pages}
+use Rattle.pages.specs.declared.MaybeKey.the-variants as MaybeKey
+use Rattle.pages.specs.Runs.{span, emptySlot, slotAt, Kind, bare, run, piece, kindOf, kindAt, noKey, blank, KindGood, Sound}
+use Rattle.pages.specs.Evict.{evicted, headSlot}
+use Rattle.pages.specs.Begin.{replaced}
+use Rattle.pages.proofs.Below.{and-left, and-right}
+use Rattle.pages.proofs.RunLaws.{span-pos, sound-ok, inside, apart}
+use Rattle.pages.proofs.EvictLaws.{SameOrEmpty, evicted-count, sound-evicted, evicted-either, placed-head, sound-set}
+use Rattle.pages.proofs.BeginLaws.{sound-replaced}
+use Rattle.cache.specs.declared.Cache.{Cache}
+use Rattle.cache.specs.declared.Loading.{Loading}
+use Rattle.cache.specs.declared.MaybeLoading.{MaybeLoading}
+use Rattle.cache.specs.declared.MaybeLoading.the-variants as MaybeLoading
+use Rattle.cache.specs.declared.Pending.{Pending}
+use Rattle.cache.specs.declared.Pending.the-variants as Pending
+use Rattle.cache.specs.declared.look.Landing.{Landing}
+use Rattle.cache.specs.declared.look.Landing.the-variants as Landing
+use Rattle.cache.specs.Keys.{readyAt, forgotten}
+use Rattle.cache.specs.Lookups.{landsOn, touched, nextAt, nextStep}
+use Rattle.cache.specs.State.{fresh, cleared, tileLoads, loadsOk, wantsChunkOf, pendingFits, pendingOk, isEntry, isChunk, stateOk}
+use Rattle.load.specs.Loads.{chunkLen, withdrawn, moved, forgot, withoutRun, dropped, newLoad, readySlot, withReady, readied, further}
+use Rattle.cache_lists.specs.Claims.{LoadsAt, Live, Apart}
+use Rattle.cache_lists.proofs.Lookups.{key-same}
+use Rattle.cache_lists.proofs.Stores.{getD-same}
+
+-- ---- the invariant
+
+-- the load has its run, not ready, with the load's key and length, and has not all of it
+pub record Loads (s : List Slot) (l : Loading) : Type 0 where
+  pub run : kindAt s (l .slot) ≡ run
+  pub key : slotAt s (l .slot) .key ≡ MaybeKey.Key (l .key)
+  pub len : slotAt s (l .slot) .len ≡ l .len
+  pub waits : slotAt s (l .slot) .ready ≡ false
+  pub below : l .done < l .len
+
+abbrev pub LoadIn : List Slot → MaybeLoading → Type 0
+LoadIn s MaybeLoading.Nothing = Unit
+LoadIn s (MaybeLoading.Tile l) = Loads s l
+
+pub record Inv (c : Cache) : Type 0 where
+  pub pages : Sound (c .pages)
+  pub ring : c .missing .next < 64
+  pub load : LoadIn (c .pages .slots) (c .loading)
+  pub pending : pendingOk c ≡ true
+
+-- ---- it is what number 12 tests
+
+loads-ok : (g : Pages) (x : MaybeLoading) → LoadIn (g .slots) x → loadsOk g x ≡ true
+unfolding tileLoads
+loads-ok g MaybeLoading.Nothing f = refl
+loads-ok g (MaybeLoading.Tile l) f = rw (f .run, f .key, key-same (l .key), eq-eqb _ _ (f .len), f .waits, lt-ltb (l .done) (l .len) (f .below))
+
+pub inv-ok : (c : Cache) → Inv c → stateOk c ≡ true
+unfolding stateOk
+inv-ok c f = rw (sound-ok (c .pages) (f .pages), lt-ltb (c .missing .next) 64 (f .ring), loads-ok (c .pages) (c .loading) (f .load), f .pending)
+
+-- ---- live runs
+
+blank-waits : (s : Slot) → blank s ≡ true → s .ready ≡ false
+unfolding blank
+blank-waits s e = not-true (s .ready) (and-left (not (s .ready)) _ (and-right (noKey (s .key)) _ e))
+
+-- a page that is ready starts a run
+ready-by : (s : List Slot) (count p : ℕ) (k : Kind) → KindGood s count p k → slotAt s p .ready ≡ true → k ≡ run
+ready-by s count p run g e = refl
+ready-by s count p (piece h) g e = absurd (true≢false (sym e ∙ blank-waits (slotAt s p) (g .blank)))
+ready-by s count p bare g e = absurd (true≢false (sym e ∙ blank-waits (slotAt s p) g))
+
+pub ready-run : (g : Pages) → Sound g → (p : ℕ) → slotAt (g .slots) p .ready ≡ true → kindAt (g .slots) p ≡ run
+ready-run g f p e = ready-by (g .slots) (g .count) p (kindAt (g .slots) p) (f .good p) e
+
+loads-run : (s : List Slot) (x : MaybeLoading) (h : ℕ) → LoadIn s x → LoadsAt x h → kindAt s h ≡ run
+loads-run s MaybeLoading.Nothing h f e = absurd e
+loads-run s (MaybeLoading.Tile l) h f e = rw (← e) (f .run)
+
+live-run : (c : Cache) → Inv c → (h : ℕ) → Live c h → kindAt (c .pages .slots) h ≡ run
+live-run c f h o = ⊎-elim (ready-run (c .pages) (f .pages) h) (loads-run (c .pages .slots) (c .loading) h (f .load)) o
+
+pub inv-apart : (c : Cache) → Inv c → Apart c
+inv-apart c f = record {
+  within = λ (h : ℕ) (o : Live c h). inside (c .pages .slots) (c .pages .count) (f .pages .good) h (live-run c f h o);
+  apart = λ (h1 h2 : ℕ) (o : Live c h1) (p : Live c h2) (l : h1 < h2).
+      apart (c .pages .slots) (c .pages .count) (f .pages .good) h1 h2 (live-run c f h1 o) (live-run c f h2 p) l;
+}
+
+-- ---- nothing in it
+
+sound-empty : (used : List ℕ) (count clock : ℕ) → count ≤ 96 → Sound (record { slots = replicate 96 emptySlot; used = used; count = count; clock = clock })
+unfolding blank
+sound-empty used count clock h = record {
+  size = length-replicate 96 emptySlot;
+  small = h;
+  good = λ (p : ℕ). let z : slotAt (replicate 96 emptySlot) p ≡ emptySlot = getD-same 96 p emptySlot in rw z (rw z);
+}
+
+pub inv-fresh : (n : ℕ) → n ≤ 96 → Inv (fresh n)
+unfolding fresh
+inv-fresh n h = record { pages = sound-empty (replicate 96 0) n 0 h; ring = omega arith; load = tt; pending = refl }
+
+pub inv-cleared : (c : Cache) → Inv c → Inv (cleared c)
+unfolding cleared
+inv-cleared c f = record {
+  pages = sound-empty (c .pages .used) (c .pages .count) (c .pages .clock) (f .pages .small);
+  ring = f .ring;
+  load = tt;
+  pending = refl;
+}
+
+-- ---- clock and ages: the next step towards a tile is as before, so an open fetch is still the state's
+
+touched-at : (c : Cache) (i : ℕ) (key : TileKey) (x : Landing) → nextAt x (touched c i) key ≡ nextAt x c key
+unfolding touched
+touched-at c i key (Landing.At j) = refl
+touched-at c i key Landing.Missing = refl
+touched-at c i key Landing.Nothing = refl
+
+touched-next : (c : Cache) (i : ℕ) (key : TileKey) → nextStep (touched c i) key ≡ nextStep c key
+unfolding nextStep landsOn readyAt touched
+touched-next c i key = touched-at c i key (landsOn c key)
+
+touched-chunk : (c : Cache) (i : ℕ) (x : MaybeLoading) → wantsChunkOf x (touched c i) ≡ wantsChunkOf x c
+touched-chunk c i MaybeLoading.Nothing = refl
+touched-chunk c i (MaybeLoading.Tile l) = ap isChunk (touched-next c i (l .key))
+
+touched-fits : (c : Cache) (i : ℕ) (p : Pending) → pendingFits p (touched c i) ≡ pendingFits p c
+unfolding touched
+touched-fits c i Pending.Nothing = refl
+touched-fits c i Pending.Header = refl
+touched-fits c i (Pending.Entry key) = ap isEntry (touched-next c i key)
+touched-fits c i Pending.Chunk = touched-chunk c i (c .loading)
+
+pub inv-touched : (c : Cache) (i : ℕ) → Inv c → Inv (touched c i)
+unfolding touched
+inv-touched c i f = record {
+  pages = record { size = f .pages .size; small = f .pages .small; good = f .pages .good };
+  ring = f .ring;
+  load = f .load;
+  pending = touched-fits c i (c .pending) ∙ f .pending;
+}
+
+-- ---- any other change ends an open fetch, but the header's, which every state makes
+
+withdrawn-fits : (p : Pending) (c : Cache) → pendingFits (withdrawn p) c ≡ true
+withdrawn-fits Pending.Nothing c = refl
+withdrawn-fits Pending.Header c = refl
+withdrawn-fits (Pending.Entry key) c = refl
+withdrawn-fits Pending.Chunk c = refl
+
+pub inv-forgot : (c : Cache) (key : TileKey) → Inv c → Inv (forgot c key)
+unfolding forgot forgotten
+inv-forgot c key f = record { pages = f .pages; ring = omega arith; load = f .load; pending = withdrawn-fits (c .pending) (forgot c key) }
+
+inv-moved : (c : Cache) (g : Pages) (x : MaybeLoading) → Inv c → Sound g → LoadIn (g .slots) x → Inv (moved c g x)
+unfolding moved
+inv-moved c g x f s l = record { pages = s; ring = f .ring; load = l; pending = withdrawn-fits (c .pending) (moved c g x) }
+
+-- ---- a load dropped, begun, gone on with, ended
+
+-- the load's run lies within the pages
+pub loads-within : (g : Pages) (l : Loading) → Sound g → Loads (g .slots) l → l .slot + span (l .len) ≤ g .count
+loads-within g l f r = rw (r .len) at (inside (g .slots) (g .count) (f .good) (l .slot) (r .run))
+
+module _ (g : Pages) where
+  pub without-count : (x : MaybeLoading) → withoutRun x g .count ≡ g .count
+  without-count MaybeLoading.Nothing = refl
+  without-count (MaybeLoading.Tile l) = evicted-count 1 (l .slot) g
+
+  first-within : (l : Loading) → Sound g → Loads (g .slots) l → l .slot + 1 ≤ g .count
+  first-within l f r = omega (arith, loads-within g l f r, span-pos (l .len))
+
+  sound-without : (x : MaybeLoading) → Sound g → LoadIn (g .slots) x → Sound (withoutRun x g)
+  sound-without MaybeLoading.Nothing f r = f
+  sound-without (MaybeLoading.Tile l) f r = sound-evicted 1 (l .slot) g f (first-within l f r)
+
+  pub without-either : (x : MaybeLoading) → Sound g → LoadIn (g .slots) x → (i : ℕ) → SameOrEmpty g (withoutRun x g) i
+  without-either MaybeLoading.Nothing f r i = inl refl
+  without-either (MaybeLoading.Tile l) f r i = evicted-either 1 (l .slot) g f (first-within l f r) i
+
+pub inv-dropped : (c : Cache) → Inv c → Inv (dropped c)
+unfolding dropped
+inv-dropped c f = inv-moved c (withoutRun (c .loading) (c .pages)) MaybeLoading.Nothing f (sound-without (c .pages) (c .loading) (f .pages) (f .load)) tt
+
+module _ (g : Pages) (s : ℕ) (key : TileKey) (len : ℕ) (f : Sound g) (fits : s + span len ≤ g .count) where
+  pub replaced-head : slotAt (replaced g s key len .slots) s ≡ headSlot key len
+  replaced-head = placed-head (evicted (span len) s g) s key len (omega (arith, sound-evicted (span len) s g f fits .size, span-pos len, f .small))
+
+  loads-new : (offset : ℕ) → 0 < len → Loads (replaced g s key len .slots) (newLoad key s offset len)
+  loads-new offset h = record { run = ap kindOf replaced-head; key = rw replaced-head; len = rw replaced-head; waits = rw replaced-head; below = h }
+
+pub inv-began : (c : Cache) (s : ℕ) (key : TileKey) (offset len : ℕ) → Inv c → s + span len ≤ c .pages .count → 0 < len
+    → Inv (moved c (replaced (c .pages) s key len) (MaybeLoading.Tile (newLoad key s offset len)))
+inv-began c s key offset len f fits h =
+    inv-moved c (replaced (c .pages) s key len) (MaybeLoading.Tile (newLoad key s offset len)) f
+    (sound-replaced (c .pages) s key len (f .pages) fits)
+    (loads-new (c .pages) s key len (f .pages) fits offset h)
+
+-- a chunk is part of what is left
+chunk-by : (l : Loading) (t : Bool) → ltb (l .len - l .done) 2048 ≡ t → l .done < l .len → l .done + cond t (l .len - l .done) 2048 ≤ l .len
+chunk-by l true e b = omega arith
+chunk-by l false e b = omega (arith, ltb-false (l .len - l .done) 2048 e)
+
+pub chunk-room : (l : Loading) → l .done < l .len → l .done + chunkLen l ≤ l .len
+unfolding chunkLen
+chunk-room l b = chunk-by l (ltb (l .len - l .done) 2048) refl b
+
+-- with the load that the state has
+module _ (c : Cache) (l : Loading) (f : Inv c) (r : Loads (c .pages .slots) l) where
+  pub inv-further : (come : ℕ) → come < l .len → Inv (further c l come)
+  unfolding further
+  inv-further come h = inv-moved c (c .pages) _ f (f .pages) (record { run = r .run; key = r .key; len = r .len; waits = r .waits; below = h })
+
+  sound-ready : Sound (withReady (c .pages) (l .slot))
+  sound-ready =
+      sound-set (c .pages) (l .slot) (readySlot (slotAt (c .pages .slots) (l .slot))) (f .pages)
+      (omega (arith, first-within (c .pages) l (f .pages) r))
+      (r .run) (r .run) refl
+
+  pub inv-readied : Inv (readied c l)
+  unfolding readied touched moved
+  inv-readied = record {
+    pages = record { size = sound-ready .size; small = sound-ready .small; good = sound-ready .good };
+    ring = f .ring;
+    load = tt;
+    pending = withdrawn-fits (c .pending) (readied c l);
+  }

@@ -1,0 +1,108 @@
+-- What a lookup tells of the state: a key in the ring stands in some place of it, the ready run that a lookup lands on is below the count,
+-- ready and of that key, and what the next step towards a tile says. By the laws of a search. Assumes nothing.
+use Prim.Native.Nat.{ℕ, _<_}
+use mathlib.Core.Path.{_≡_, refl, ap}
+use mathlib.Core.Bool.{Bool, true, false, _&&_, cond}
+use native.Mathlib.Omega.{arith}
+use borrow.Author.Tests.{eqb-true, eqb-false, eq-eqb}
+use lib.Dec.{eqb}
+use Rattle.pack.specs.declared.TileKey.{TileKey}
+use Rattle.pages.specs.declared.Pages.{Pages}
+use Rattle.pages.specs.declared.MaybeKey.{MaybeKey}
+use Rattle.pages.specs.declared.MaybeKey.the-variants as MaybeKey
+use Rattle.pages.specs.declared.victim.Found.{Found}
+use Rattle.pages.specs.declared.victim.Found.the-variants as Found
+use Rattle.pages.specs.Runs.{slotAt}
+use Rattle.pages.proofs.Below.{and-left, and-right}
+use Rattle.cache.specs.declared.Cache.{Cache}
+use Rattle.cache.specs.declared.Ring.{Ring}
+use Rattle.cache.specs.declared.Loading.{Loading}
+use Rattle.cache.specs.declared.MaybeLoading.{MaybeLoading}
+use Rattle.cache.specs.declared.MaybeLoading.the-variants as MaybeLoading
+use Rattle.cache.specs.declared.look.Landing.{Landing}
+use Rattle.cache.specs.declared.look.Landing.the-variants as Landing
+use Rattle.cache.specs.declared.next.Next.{Next}
+use Rattle.cache.specs.declared.next.Next.the-variants as Next
+use Rattle.cache.specs.Keys.{sameKey, holds, keyAt, inRing, isReady, readyAt}
+use Rattle.cache.specs.Lookups.{landedOn, landsOn, nextRead, nextAt, nextStep}
+use Rattle.cache.proofs.SearchLaws.{lowest-at, lowest-some}
+
+-- ---- keys
+
+same-key : (a b : TileKey) → sameKey a b ≡ true → a ≡ b
+same-key a b e =
+    let row : a .row ≡ b .row = eqb-true (a .row) (b .row) (and-left (eqb (a .row) (b .row)) _ e) in
+    let col : a .col ≡ b .col = eqb-true (a .col) (b .col) (and-right (eqb (a .row) (b .row)) _ e) in
+    λ i. record { row = row i; col = col i }
+
+pub key-same : (k : TileKey) → sameKey k k ≡ true
+key-same k = rw (eq-eqb (k .row) (k .row) refl, eq-eqb (k .col) (k .col) refl)
+
+holds-key : (m : MaybeKey) (key : TileKey) → holds m key ≡ true → m ≡ MaybeKey.Key key
+holds-key (MaybeKey.Key k) key e = ap MaybeKey.Key (same-key k key e)
+holds-key MaybeKey.Nothing key e = let z : _≡_ {A = ℕ} 0 1 = cc in absurd (omega arith)
+
+-- ---- the two searches
+
+pub in-ring : (r : Ring) (key : TileKey) {R : Type 0} → inRing r key ≡ true → ((i : ℕ) → keyAt r i ≡ MaybeKey.Key key → R) → R
+unfolding inRing
+in-ring r key e f =
+    lowest-some (λ (i : ℕ). holds (keyAt r i) key) 64 e (λ (i : ℕ) (h : holds (keyAt r i) key ≡ true). f i (holds-key (keyAt r i) key h))
+
+-- the run at i is ready, and the key's
+pub record ReadyAt (g : Pages) (key : TileKey) (i : ℕ) : Type 0 where
+  pub below : i < g .count
+  pub ready : slotAt (g .slots) i .ready ≡ true
+  pub keyIs : slotAt (g .slots) i .key ≡ MaybeKey.Key key
+
+pub ready-at : (g : Pages) (key : TileKey) (i : ℕ) → readyAt g key ≡ Found.At i → ReadyAt g key i
+unfolding readyAt isReady
+ready-at g key i e =
+    let r : (i < g .count) × ((slotAt (g .slots) i .ready && holds (slotAt (g .slots) i .key) key) ≡ true)
+    = lowest-at (λ (j : ℕ). isReady key (slotAt (g .slots) j)) (g .count) i e in
+    record {
+      below = r .0;
+      ready = and-left (slotAt (g .slots) i .ready) _ (r .1);
+      keyIs = holds-key (slotAt (g .slots) i .key) key (and-right (slotAt (g .slots) i .ready) _ (r .1));
+    }
+
+-- ---- what a lookup lands on, and what the next step towards a tile says of the state
+
+abbrev pub LandingIs : Cache → TileKey → Landing → Type 0
+LandingIs c key Landing.Missing = inRing (c .missing) key ≡ true
+LandingIs c key (Landing.At i) = readyAt (c .pages) key ≡ Found.At i
+LandingIs c key Landing.Nothing = Unit
+
+pub landing : (c : Cache) (key : TileKey) → LandingIs c key (landsOn c key)
+unfolding landsOn
+landing c key = by (inRing (c .missing) key) (readyAt (c .pages) key) refl refl
+  where
+    by : (t : Bool) (x : Found) → inRing (c .missing) key ≡ t → readyAt (c .pages) key ≡ x → LandingIs c key (cond t Landing.Missing (landedOn x))
+    by true x p q = p
+    by false (Found.At i) p q = q
+    by false Found.Nothing p q = tt
+
+abbrev pub NextIs : Cache → TileKey → Next → Type 0
+NextIs c key (Next.Ready i) = readyAt (c .pages) key ≡ Found.At i
+NextIs c key Next.Missing = inRing (c .missing) key ≡ true
+NextIs c key Next.NoPages = c .pages .count ≡ 0
+NextIs c key Next.Entry = c .pages .count ≡ 0 → ⊥
+NextIs c key (Next.Chunk l) = c .loading ≡ MaybeLoading.Tile l
+
+pub next-is : (c : Cache) (key : TileKey) → NextIs c key (nextStep c key)
+unfolding nextStep
+next-is c key = at (landsOn c key) (landing c key)
+  where
+    tile : (l : Loading) (u : Bool) → (c .pages .count ≡ 0 → ⊥) → c .loading ≡ MaybeLoading.Tile l → NextIs c key (cond u (Next.Chunk l) Next.Entry)
+    tile l true p q = q
+    tile l false p q = p
+
+    by : (t : Bool) (x : MaybeLoading) → eqb (c .pages .count) 0 ≡ t → c .loading ≡ x → NextIs c key (cond t Next.NoPages (nextRead x key))
+    by true x p q = eqb-true (c .pages .count) 0 p
+    by false MaybeLoading.Nothing p q = eqb-false (c .pages .count) 0 p
+    by false (MaybeLoading.Tile l) p q = tile l (sameKey (l .key) key) (eqb-false (c .pages .count) 0 p) q
+
+    at : (x : Landing) → LandingIs c key x → NextIs c key (nextAt x c key)
+    at Landing.Missing e = e
+    at (Landing.At i) e = e
+    at Landing.Nothing e = by (eqb (c .pages .count) 0) (c .loading) refl refl

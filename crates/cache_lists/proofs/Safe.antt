@@ -1,0 +1,173 @@
+-- With no premise: the state's invariant holds along every list of calls, and each call is safe. By the ways that a call goes.
+-- Assumes nothing.
+use Prim.Native.Nat.{ℕ, _+_, _*_, _≤_}
+use mathlib.Core.Path.{_≡_, refl, sym, _∙_}
+use mathlib.Core.Bool.{Bool, true, false, _&&_, cond}
+use mathlib.Core.List.{List, [], _∷_}
+use native.Mathlib.Nat.{add-zero}
+use native.Mathlib.Omega.{arith}
+use borrow.Author.Tests.{leb-true, eqb-true}
+use lib.Dec.{leb}
+use lib.ListN.{length}
+use Rattle.pack.specs.Grid.{inGrid}
+use Rattle.pack.specs.declared.TileKey.{TileKey}
+use Rattle.pack.specs.declared.Header.{Header}
+use Rattle.pack.proofs.Laws.{located}
+use Rattle.pages.specs.Runs.{span}
+use Rattle.pages.proofs.Below.{and-left, and-right}
+use Rattle.pages.proofs.VictimLaws.{victim-is}
+use Rattle.cache.specs.declared.Cache.{Cache}
+use Rattle.cache.specs.declared.Got.{Got}
+use Rattle.cache.specs.declared.Loading.{Loading}
+use Rattle.cache.specs.declared.Clearing.the-variants as Clearing
+use Rattle.cache.specs.declared.Lookup.{Lookup}
+use Rattle.cache.specs.declared.Lookup.the-variants as Lookup
+use Rattle.cache.specs.declared.next.Next.{Next}
+use Rattle.cache.specs.declared.next.Next.the-variants as Next
+use Rattle.cache.specs.Lookups.{runBytes, passes, lenAt, nextStep}
+use Rattle.cache.specs.State.{cleared, cacheOk}
+use Rattle.cache.specs.Calls as Cached
+use Rattle.load.specs.declared.Request.{Request}
+use Rattle.load.specs.declared.Request.the-variants as Request
+use Rattle.load.specs.Loads.{After, over, refused, fetched, readLen, takes, dropped, chunkLen, stepped}
+use Rattle.load.specs.Calls as Loaded
+use Rattle.tile.specs.Parse.{accepts}
+use Rattle.cache_lists.specs.Lists.{World, Call, capacity, loads, pages, get, fetch, load, loadFrom, clear, found, exec, Along}
+use Rattle.cache_lists.specs.Claims.{ofProgress, Passed, HandedOut, Read, readsOf, reads, bytesOf, TakesOnly, Safe}
+use Rattle.cache_lists.proofs.Steps.{Gets, denied, ringed, unknown, handed, get-is, Came, came-loading, Step, refuses, knows, uses, noPages, fails, lacks, begins, goesOn, readies, spoils, load-is, from-is}
+use Rattle.cache_lists.proofs.Inv.{Loads, Inv, inv-ok, inv-apart, inv-cleared, inv-touched, inv-forgot, inv-dropped, inv-began, inv-further, inv-readied}
+
+-- ---- the invariant after a call
+
+-- the load that a chunk is of
+came-loads : {c : Cache} {arena : List ℕ} {h : Header} {key : TileKey} {failure : ℕ} {bs : List ℕ} {l : Loading}
+    → Inv c → Came c arena h key failure bs (Next.Chunk l) → Loads (c .pages .slots) l
+came-loads f came = rw (came-loading came) at (f .load)
+
+inv-got : {c : Cache} {arena : List ℕ} {h : Header} {key : TileKey} {r : Got} → Inv c → Gets c arena h key r → Inv (r .cache)
+inv-got f (denied n s) = f
+inv-got f (ringed e) = f
+inv-got f unknown = f
+inv-got {c} f (handed i e p) = inv-touched c i f
+
+inv-step : {c : Cache} {arena : List ℕ} {h : Header} {key : TileKey} {failure : ℕ} {bs : List ℕ} {r : After}
+    → Inv c → Step c arena h key failure bs r → Inv (r .cache)
+inv-step f (refuses n s) = f
+inv-step f knows = f
+inv-step {c} f (uses i) = inv-touched c i f
+inv-step {c} {key = key} f (noPages e) = inv-forgot c key f
+inv-step {c} f (fails n) = inv-dropped c f
+inv-step {c} {key = key} f (lacks came s) = inv-forgot (dropped c) key (inv-dropped c f)
+inv-step {c} {h = h} {key = key} {bs = bs} f (begins came offset len slot e s v) =
+    inv-began (dropped c) slot key offset len (inv-dropped c f) (victim-is (dropped c .pages) (span len) slot v .within) (located h bs e .0)
+inv-step {c} f (goesOn l came b) = inv-further c l f (came-loads f came) (l .done + chunkLen l) b
+inv-step {c} f (readies l came b p) = inv-readied c l f (came-loads f came)
+inv-step {c} f (spoils l came b p) = inv-forgot (dropped c) (l .key) (inv-dropped c f)
+
+pub clear-is : (c : Cache) → Inv c → Cached.clear c ≡ record { answer = Clearing.Done; cache = cleared c }
+unfolding Cached.clear
+clear-is c f = rw (inv-ok c f)
+
+inv-call : (w : World) (c : Call) → Inv (w .cache) → Inv (exec c w .world .cache)
+unfolding exec
+inv-call w capacity f = f
+inv-call w loads f = f
+inv-call w (pages h key) f = f
+inv-call w (get h key) f = inv-got f (get-is (w .cache) (w .arena) h key)
+inv-call w (fetch h key) f = f
+inv-call w (load h key failure bs) f = inv-step f (load-is (w .cache) (w .arena) h key failure bs)
+inv-call w (loadFrom h key pack) f = inv-step f (from-is (w .cache) (w .arena) h key pack .goes)
+inv-call w clear f = rw (clear-is (w .cache) f) (inv-cleared (w .cache) f)
+
+-- ---- each call is safe
+
+handed-out : {c : Cache} {arena : List ℕ} {h : Header} {key : TileKey} {r : Got} → Gets c arena h key r
+    → (first len : ℕ) → found (r .answer) ≡ found (Lookup.Ready first len) → Passed arena h key first len
+unfolding passes
+handed-out (denied n s) first len q = let z : _≡_ {A = ℕ} 0 1 = cc in absurd (omega arith)
+handed-out (ringed e) first len q = let z : _≡_ {A = ℕ} 0 1 = cc in absurd (omega arith)
+handed-out unknown first len q = let z : _≡_ {A = ℕ} 0 1 = cc in absurd (omega arith)
+handed-out {c} {arena} {h} {key} (handed i e p) first len q =
+    let at : i ≡ first = cc in
+    let long : lenAt c i ≡ len = cc in
+    let ok : (leb (first * 8192 + len) (length arena) && accepts (runBytes arena first len) key (h .tile)) ≡ true = rw (long, at) at p in
+    record {
+      inside = leb-true (first * 8192 + len) (length arena) (and-left (leb (first * 8192 + len) (length arena)) _ ok);
+      accepted = and-right (leb (first * 8192 + len) (length arena)) _ ok;
+    }
+
+handed-call : (w : World) (c : Call) → HandedOut w c
+unfolding exec
+handed-call w capacity = tt
+handed-call w loads = tt
+handed-call w (pages h key) = tt
+handed-call w (get h key) = handed-out (get-is (w .cache) (w .arena) h key)
+handed-call w (fetch h key) = tt
+handed-call w (load h key failure bs) = tt
+handed-call w (loadFrom h key pack) = tt
+handed-call w clear = tt
+
+one-of : (x : Request) → length (readsOf x) ≤ 1
+one-of Request.Settled = omega arith
+one-of (Request.Refused n) = omega arith
+one-of (Request.Read offset n) = omega arith
+
+one-read : (w : World) (c : Call) → length (reads w c) ≤ 1
+one-read w capacity = omega arith
+one-read w loads = omega arith
+one-read w (pages h key) = omega arith
+one-read w (get h key) = omega arith
+one-read w (fetch h key) = one-of (Loaded.fetch (w .cache) (w .arena) h key)
+one-read w (load h key failure bs) = one-of (Loaded.fetch (w .cache) (w .arena) h key)
+one-read w (loadFrom h key pack) = one-of (Loaded.fetch (w .cache) (w .arena) h key)
+one-read w clear = omega arith
+
+module _ (c : Cache) (arena : List ℕ) (h : Header) (key : TileKey) where
+  -- the bytes of the read that `fetch` tells are those that `load` takes
+  read-len : (n : Next) → bytesOf (readsOf (fetched c n arena h key)) ≡ readLen n
+  read-len (Next.Ready i) = by (passes arena i (lenAt c i) key (h .tile))
+    where
+      by : (t : Bool) → bytesOf (readsOf (cond t Request.Settled (Request.Refused 12))) ≡ 0
+      by true = refl
+      by false = refl
+  read-len Next.Missing = refl
+  read-len Next.NoPages = refl
+  read-len Next.Entry = refl
+  read-len (Next.Chunk l) = add-zero (chunkLen l)
+
+  -- so a `load` that is not refused has them
+  takes-only : (bs : List ℕ) → ofProgress (Loaded.load c arena h key 0 bs .answer) ≡ 0 → length bs ≡ bytesOf (readsOf (Loaded.fetch c arena h key))
+  unfolding Loaded.load Loaded.fetch
+  takes-only bs e = by (cacheOk c h (length arena)) (takes (nextStep c key) h key 0 (length bs)) (inGrid h key) refl refl e
+    where
+      left : Bool → Bool → Bool → After
+      left ok t grid =
+          cond ok
+          (cond t (cond grid (stepped c (nextStep c key) arena h key 0 bs) (over (refused c 9) arena)) (over (refused c 11) arena))
+          (over (refused c 12) arena)
+
+      by : (ok t grid : Bool) → takes (nextStep c key) h key 0 (length bs) ≡ t → inGrid h key ≡ grid → ofProgress (left ok t grid .answer) ≡ 0
+          → length bs ≡ bytesOf (readsOf (cond ok (cond grid (fetched c (nextStep c key) arena h key) (Request.Refused 9)) (Request.Refused 12)))
+      by true true true t g e = eqb-true (length bs) (readLen (nextStep c key)) (rw g at t) ∙ sym (read-len (nextStep c key))
+      by true true false t g e = absurd (omega arith)
+      by true false grid t g e = absurd (omega arith)
+      by false t grid q g e = absurd (omega arith)
+
+takes-call : (w : World) (c : Call) → TakesOnly w c
+unfolding exec
+takes-call w capacity = tt
+takes-call w loads = tt
+takes-call w (pages h key) = tt
+takes-call w (get h key) = tt
+takes-call w (fetch h key) = tt
+takes-call w (load h key failure bs) = λ z e. takes-only (w .cache) (w .arena) h key bs (rw z at e)
+takes-call w (loadFrom h key pack) = tt
+takes-call w clear = tt
+
+pub safe-along : (cs : List Call) (w : World) → Inv (w .cache) → Along Safe cs w
+unfolding Along
+safe-along [] w f = tt
+safe-along (c ∷ cs) w f =
+    let g : Inv (exec c w .world .cache) = inv-call w c f in
+    let safe : Safe w c = record { apart = inv-apart (exec c w .world .cache) g; handedOut = handed-call w c; oneRead = one-read w c; takesOnly = takes-call w c } in
+    (safe, safe-along cs (exec c w .world) g)

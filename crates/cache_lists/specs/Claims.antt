@@ -1,0 +1,210 @@
+-- What is claimed of every list of calls on the cache, from a fresh one of any page count over any arena: demand 3, the part that concerns
+-- memory. `Safe` is claimed with no premise at all; `Fair` are demand 3's premises for one pack, and `SameAs` and `Open` are claimed under
+-- them. Assumes nothing.
+use Prim.Native.Nat.{ℕ, _+_, _*_, _<_, _≤_}
+use mathlib.Core.Path.{_≡_}
+use mathlib.Core.Bool.{Bool, true, false}
+use mathlib.Core.List.{List, [], _∷_}
+use mathlib.Core.Logic.{_⊎_}
+use lib.ListN.{length, take, drop}
+use Rattle.pack.specs.Sector.{parse}
+use Rattle.pack.specs.declared.TileKey.{TileKey}
+use Rattle.pack.specs.declared.Header.{Header}
+use Rattle.pack.specs.declared.Answer.the-variants as Sector
+use Rattle.pages.specs.Runs.{slotAt, endOf}
+use Rattle.tile.specs.Parse.{accepts}
+use Rattle.cache.specs.declared.Cache.{Cache}
+use Rattle.cache.specs.declared.MaybeLoading.{MaybeLoading}
+use Rattle.cache.specs.declared.MaybeLoading.the-variants as MaybeLoading
+use Rattle.cache.specs.declared.Count.{Count}
+use Rattle.cache.specs.declared.Count.the-variants as Count
+use Rattle.cache.specs.declared.Lookup.{Lookup}
+use Rattle.cache.specs.declared.Lookup.the-variants as Lookup
+use Rattle.cache.specs.declared.Clearing.{Clearing}
+use Rattle.cache.specs.declared.Clearing.the-variants as Clearing
+use Rattle.cache.specs.Lookups.{runBytes}
+use Rattle.cache.specs.Direct.{Look, ready, missing, absent, stale, direct}
+use Rattle.load.specs.declared.Request.{Request}
+use Rattle.load.specs.declared.Request.the-variants as Request
+use Rattle.load.specs.declared.Progress.{Progress}
+use Rattle.load.specs.declared.Progress.the-variants as Progress
+use Rattle.load.specs.Calls as Loaded
+use Rattle.cache_lists.specs.Lists.{World, Call, capacity, loads, pages, get, fetch, load, loadFrom, clear, Answer, counted, found, asked, stepped, cleared, exec, start, Along}
+
+-- the number of a refusal, 0 for any other answer
+abbrev pub ofCount : Count → ℕ
+ofCount (Count.Is n) = 0
+ofCount (Count.Refused number) = number
+
+abbrev pub ofLookup : Lookup → ℕ
+ofLookup (Lookup.Ready first len) = 0
+ofLookup Lookup.Missing = 0
+ofLookup Lookup.Absent = 0
+ofLookup (Lookup.Refused number) = number
+
+abbrev pub ofRequest : Request → ℕ
+ofRequest Request.Settled = 0
+ofRequest (Request.Read offset len) = 0
+ofRequest (Request.Refused number) = number
+
+abbrev pub ofProgress : Progress → ℕ
+ofProgress Progress.Done = 0
+ofProgress Progress.More = 0
+ofProgress (Progress.Failed number) = 0
+ofProgress (Progress.Refused number) = number
+
+abbrev pub ofClearing : Clearing → ℕ
+ofClearing Clearing.Done = 0
+ofClearing (Clearing.Refused number) = number
+
+abbrev pub number : Answer → ℕ
+number (counted a) = ofCount a
+number (found a) = ofLookup a
+number (asked a) = ofRequest a
+number (stepped a) = ofProgress a
+number (cleared a) = ofClearing a
+
+-- ---- with no premise
+
+abbrev pub LoadsAt : MaybeLoading → ℕ → Type 0
+LoadsAt MaybeLoading.Nothing h = ⊥
+LoadsAt (MaybeLoading.Tile l) h = l .slot ≡ h
+
+-- document 01: "A run is live while its tile is ready or its load unfinished"; the run from page h on
+abbrev pub Live : Cache → ℕ → Type 0
+Live c h = (slotAt (c .pages .slots) h .ready ≡ true) ⊎ LoadsAt (c .loading) h
+
+-- no two live runs overlap, and each lies within the pages
+pub record Apart (c : Cache) : Type 0 where
+  pub within : (h : ℕ) → Live c h → endOf (c .pages .slots) h ≤ c .pages .count
+  pub apart : (h1 h2 : ℕ) → Live c h1 → Live c h2 → h1 < h2 → endOf (c .pages .slots) h1 ≤ h2
+
+-- a run that a lookup hands out lies in the arena and passes `Tile::parse` for its key
+pub record Passed (arena : List ℕ) (h : Header) (key : TileKey) (first len : ℕ) : Type 0 where
+  pub inside : first * 8192 + len ≤ length arena
+  pub accepted : accepts (runBytes arena first len) key (h .tile) ≡ true
+
+abbrev pub HandedOut : World → Call → Type 0
+HandedOut w (get h key) = (first len : ℕ) → exec (get h key) w .answer ≡ found (Lookup.Ready first len) → Passed (w .arena) h key first len
+HandedOut w capacity = Unit
+HandedOut w loads = Unit
+HandedOut w (pages h key) = Unit
+HandedOut w (fetch h key) = Unit
+HandedOut w (load h key failure bs) = Unit
+HandedOut w (loadFrom h key pack) = Unit
+HandedOut w clear = Unit
+
+-- a read: offset and length
+pub record Read : Type 0 where
+  pub offset : ℕ
+  pub len : ℕ
+
+abbrev pub readsOf : Request → List Read
+readsOf Request.Settled = []
+readsOf (Request.Refused number) = []
+readsOf (Request.Read offset len) = record { offset = offset; len = len } ∷ []
+
+-- the reads that a call asks for, is given the answer of, or makes of a lent pack
+abbrev pub reads : World → Call → List Read
+reads w (fetch h key) = readsOf (Loaded.fetch (w .cache) (w .arena) h key)
+reads w (load h key failure bs) = readsOf (Loaded.fetch (w .cache) (w .arena) h key)
+reads w (loadFrom h key pack) = readsOf (Loaded.fetch (w .cache) (w .arena) h key)
+reads w (get h key) = []
+reads w capacity = []
+reads w loads = []
+reads w (pages h key) = []
+reads w clear = []
+
+-- how many bytes they have in all
+abbrev pub bytesOf : List Read → ℕ
+bytesOf [] = 0
+bytesOf (r ∷ rs) = r .len + bytesOf rs
+
+-- bytes that a `load` takes are those of its reads: with any other number of them it is refused
+abbrev pub TakesOnly : World → Call → Type 0
+TakesOnly w (load h key failure bs) =
+    failure ≡ 0 → number (exec (load h key failure bs) w .answer) ≡ 0 → length bs ≡ bytesOf (reads w (load h key failure bs))
+TakesOnly w capacity = Unit
+TakesOnly w loads = Unit
+TakesOnly w (pages h key) = Unit
+TakesOnly w (get h key) = Unit
+TakesOnly w (fetch h key) = Unit
+TakesOnly w (loadFrom h key pack) = Unit
+TakesOnly w clear = Unit
+
+-- of each call
+pub record Safe (w : World) (c : Call) : Type 0 where
+  pub apart : Apart (exec c w .world .cache)
+  pub handedOut : HandedOut w c
+  pub oneRead : length (reads w c) ≤ 1
+  pub takesOnly : TakesOnly w c
+
+-- ---- demand 3's premises, for one pack P
+
+-- a given header is the pack's, parsed
+pub record Parsed (P : List ℕ) (h : Header) : Type 0 where
+  pub whole : 512 ≤ length P
+  pub accepted : parse (take 512 P) .answer ≡ Sector.Accepted
+  pub header : parse (take 512 P) .header ≡ h
+
+-- bytes that answer a read are what the pack has there
+abbrev pub FairBytes : List ℕ → Request → List ℕ → Type 0
+FairBytes P (Request.Read offset len) bs = length bs ≡ len → (offset + len ≤ length P) × (bs ≡ take len (drop offset P))
+FairBytes P Request.Settled bs = Unit
+FairBytes P (Request.Refused number) bs = Unit
+
+-- what a lent pack yields for a read is what the pack has there
+abbrev pub FairPack : List ℕ → Request → List ℕ → Type 0
+FairPack P (Request.Read offset len) Q = offset + len ≤ length Q → (offset + len ≤ length P) × (take len (drop offset Q) ≡ take len (drop offset P))
+FairPack P Request.Settled Q = Unit
+FairPack P (Request.Refused number) Q = Unit
+
+-- nothing is asked of a call that gives nothing, of a read that failed, nor of bytes of another length, which are refused
+abbrev pub Fair : List ℕ → World → Call → Type 0
+Fair P w capacity = Unit
+Fair P w loads = Unit
+Fair P w clear = Unit
+Fair P w (pages h key) = Parsed P h
+Fair P w (get h key) = Parsed P h
+Fair P w (fetch h key) = Parsed P h
+Fair P w (load h key failure bs) = Parsed P h × (failure ≡ 0 → FairBytes P (Loaded.fetch (w .cache) (w .arena) h key) bs)
+Fair P w (loadFrom h key Q) = Parsed P h × FairPack P (Loaded.fetch (w .cache) (w .arena) h key) Q
+
+-- ---- under them
+
+-- an answer in bytes: what it says of the direct lookup
+abbrev pub SameLook : List ℕ → Lookup → Look → Type 0
+SameLook arena (Lookup.Ready first len) d = d ≡ ready (runBytes arena first len)
+SameLook arena Lookup.Missing d = d ≡ missing
+SameLook arena Lookup.Absent d = Unit
+SameLook arena (Lookup.Refused number) d = Unit
+
+-- whatever `get` answers other than Absent is what the direct lookup with n pages gives, bytes included: so that has an answer there
+abbrev pub SameAs : List ℕ → ℕ → World → Call → Type 0
+SameAs P n w (get h key) = (l : Lookup) → exec (get h key) w .answer ≡ found l → SameLook (w .arena) l (direct P h n key)
+SameAs P n w capacity = Unit
+SameAs P n w loads = Unit
+SameAs P n w (pages h key) = Unit
+SameAs P n w (fetch h key) = Unit
+SameAs P n w (load h key failure bs) = Unit
+SameAs P n w (loadFrom h key Q) = Unit
+SameAs P n w clear = Unit
+
+-- a call that number 12 does not refuse
+abbrev pub Open : World → Call → Type 0
+Open w c = number (exec c w .answer) ≡ 12 → ⊥
+
+-- ---- the claims, of every list from a fresh cache of n pages over an arena
+
+-- whatever is delivered or given
+abbrev pub AlwaysSafe : Type 0
+AlwaysSafe = (n : ℕ) → n ≤ 96 → (arena : List ℕ) (cs : List Call) → Along Safe cs (start n arena)
+
+-- of one pack, whichever reads fail and whatever is evicted
+abbrev pub AlwaysSame : Type 0
+AlwaysSame = (P : List ℕ) (n : ℕ) → n ≤ 96 → (arena : List ℕ) (cs : List Call) → Along (Fair P) cs (start n arena) → Along (SameAs P n) cs (start n arena)
+
+-- and no call is refused with 12 while the arena holds its pages
+abbrev pub AlwaysOpen : Type 0
+AlwaysOpen =
+    (P : List ℕ) (n : ℕ) → n ≤ 96 → (arena : List ℕ) → n * 8192 ≤ length arena → (cs : List Call) → Along (Fair P) cs (start n arena) → Along Open cs (start n arena)
