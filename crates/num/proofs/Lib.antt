@@ -11,3 +11,5 @@ pub mod CastLaws
 pub mod RootLaws
 pub mod RootRounded
 pub mod RootNearest
+-- a loop by index
+pub mod FoldLaws

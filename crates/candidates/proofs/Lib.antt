@@ -1,0 +1,4 @@
+-- Laws of the candidates, for their proofs and for callers to cite.
+-- Literals: the figures that the code writes as literals. KeepLaws: how many places are kept.
+pub mod Literals
+pub mod KeepLaws

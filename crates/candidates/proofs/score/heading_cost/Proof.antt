@@ -1,0 +1,10 @@
+-- `candidates::score::heading_cost` meets its contract: the literal read as a whole number. Assumes nothing.
+use Rattle.candidates.proofs.Literals.{literal-35}
+use Rattle.candidates.proofs.score.heading_cost.Statement.{statement}
+use Rattle.candidates.proofs.score.heading_cost.Tie as tie
+
+returns : tie.Need-returns
+returns c = rw literal-35
+
+pub heading-cost-spec : {M : Type 1} → statement M
+heading-cost-spec = tie.close (tie.spec returns)
