@@ -5,7 +5,7 @@
 use Prim.Native.Nat.{ℕ, _+_, _*_, _≤_}
 use mathlib.Core.Path.{_≡_, refl, sym, _∙_}
 use mathlib.Core.Bool.{Bool, true, false, _&&_, cond}
-use mathlib.Core.List.{List, [], _∷_}
+use mathlib.Core.List.{List, [], _∷_, _++_}
 use native.Mathlib.Omega.{arith}
 use borrow.Author.Tests.{leb-true}
 use lib.Dec.{leb}
@@ -97,6 +97,19 @@ module _ (arena : List ℕ) (size : ℕ) where
   unfolding looked
   looked-look [] c = refl
   looked-look (key ∷ keys) c = looked-look keys (got c arena size key .cache) ∙ got-look c key
+
+  -- one key more
+  pub looked-more : (keys : List TileKey) (c : Cache) (key : TileKey)
+      → looked c arena size (keys ++ (key ∷ [])) ≡ got (looked c arena size keys) arena size key .cache
+  unfolding looked
+  looked-more [] c key = refl
+  looked-more (first ∷ keys) c key = looked-more keys (got c arena size first .cache) key
+
+  -- a lookup that landed on a run that passes
+  pub got-touched : (c : Cache) (key : TileKey) (i : ℕ) → landsOn c key ≡ Landing.At i → passes arena i (lenAt c i) key size ≡ true
+      → got c arena size key .cache ≡ touched c i
+  unfolding got
+  got-touched c key i e p = rw (e, p)
 
   -- ---- what `get` answers, in bytes
 

@@ -71,7 +71,7 @@ module _ (P : Kept → Type 0) (kept : (k : Kept) (c : Candidate) → P k → P 
   pub search-keeps : (k : Kept) → P k → P (Tile.search k q bs)
   unfolding Tile.search
   search-keeps k h =
-      up-keeps _ k P h (λ x number g. step-keeps x (Layout.idOf bs) (Layout.headOf bs .«lon_um») number g) (Layout.edgesOf bs)
+      up-keeps _ k P (Layout.edgesOf bs) h (λ number b x g. step-keeps x (Layout.idOf bs) (Layout.headOf bs .«lon_um») number g)
 
 pub search-length : (k : Kept) (q : Query) (bs : List ℕ) → length (Tile.search k q bs .v) ≡ length (k .v)
 search-length k q bs =
