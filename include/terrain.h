@@ -90,6 +90,15 @@ uint32_t terrain_length(float east, float north, float *out);
 uint32_t terrain_turn(float from, float to, float *out);
 uint32_t terrain_project(float p_east, float p_north, float a_east, float a_north, float b_east, float b_north, float out[2]);
 
+/* ---- Scripts of calls.
+ * docs/REPLAY.md has their format. Arena and out must not overlap each other or anything else that is lent. */
+
+/* Runs a script on a fresh cache over the arena, with the header of the pack; the bytes of answers that it wrote to `out`. */
+size_t terrain_cache_replay(const uint8_t *script, size_t script_len, const uint8_t *pack, size_t pack_len, uint8_t *arena, size_t arena_len, uint8_t *out, size_t out_len);
+
+/* For timing: the script's last record `times` times, each from the state that the others leave, with no answers written. */
+uint32_t terrain_cache_repeat(const uint8_t *script, size_t script_len, const uint8_t *pack, size_t pack_len, uint8_t *arena, size_t arena_len, uint32_t times);
+
 #ifdef __cplusplus
 }
 #endif

@@ -1,7 +1,9 @@
 //! Nanoseconds a call, the port beside the Rust, on the same inputs in one run. Every argument
 //! and answer is held from the optimiser, so neither side is made into vector code.
 use crate::angles::{bearing_of_port, lon_scale_of_rust};
-use crate::{expected as rust, ffi::*, ffi_format as port, packs, random::Random, tally::Tally};
+use crate::{
+    cache, expected as rust, ffi::*, ffi_format as port, packs, random::Random, tally::Tally,
+};
 use oracle::pack::TileKey;
 use oracle::{geo, tile};
 use std::{fmt::Debug, hint::black_box, time::Instant};
@@ -93,5 +95,6 @@ pub fn run() -> Vec<Tally> {
         beside("lon_scale_um", &latitudes, port, lon_scale_of_rust),
     ];
     tallies.extend(format());
+    tallies.extend(cache::bench::run());
     tallies
 }

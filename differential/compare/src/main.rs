@@ -13,9 +13,11 @@ macro_rules! both {
 
 mod angles;
 mod bench;
+mod cache;
 mod crc;
 mod expected;
 mod ffi;
+mod ffi_cache;
 mod ffi_format;
 mod format;
 mod geometry;
@@ -41,16 +43,25 @@ pub struct Scale {
     crc_len: u64,
     /// What the numbers of headers, tiles and packs go by.
     packs: u64,
+    /// What the numbers of scripts go by.
+    cache: u64,
 }
 
 const GATE: Scale =
-    Scale { threads: 1, every: false, random: 10_000_000, crc_len: 512, packs: 1_000 };
-const FULL: Scale =
-    Scale { threads: 2, every: true, random: 50_000_000, crc_len: 4_096, packs: 20_000 };
+    Scale { threads: 1, every: false, random: 10_000_000, crc_len: 512, packs: 1_000, cache: 200 };
+const FULL: Scale = Scale {
+    threads: 2,
+    every: true,
+    random: 50_000_000,
+    crc_len: 4_096,
+    packs: 20_000,
+    cache: 8_000,
+};
 
 fn compare(scale: &Scale) -> Vec<Tally> {
     let leaves = [numbers::compare(scale), crc::compare(scale), angles::compare(scale)];
-    leaves.into_iter().flatten().chain(format_and_geometry(scale)).collect()
+    let rest = [format_and_geometry(scale), cache::compare(scale)];
+    leaves.into_iter().chain(rest).flatten().collect()
 }
 
 fn format_and_geometry(scale: &Scale) -> Vec<Tally> {
@@ -65,12 +76,17 @@ fn main() -> ExitCode {
         ["full", "format"] => {
             crc::compare(&FULL).into_iter().chain(format_and_geometry(&FULL)).collect()
         }
+        ["gate", "cache"] => cache::compare(&GATE),
+        ["full", "cache"] => cache::compare(&FULL),
         ["bench"] => bench::run(),
         ["list", file] => list::write(file),
         ["list_format", file] => list_format::write(file),
+        ["list_cache", file] => cache::list::write(file),
         ["panics"] => panics::print(),
         _ => {
-            eprintln!("usage: run [gate | full [format] | bench | panics | list FILE | list_format FILE]");
+            eprintln!(
+                "usage: run [gate [cache] | full [format | cache] | bench | panics | list FILE | list_format FILE | list_cache FILE]"
+            );
             return ExitCode::from(2);
         }
     };

@@ -1,6 +1,6 @@
 //! What was compared and what differed.
 use crate::{Scale, random::Random};
-use std::{fmt::Debug, thread, time::Instant};
+use std::{collections::BTreeMap, fmt::Debug, thread, time::Instant};
 
 #[derive(Default)]
 pub struct Tally {
@@ -13,6 +13,8 @@ pub struct Tally {
     pub shown_only: bool,
     /// For bearings, the most degrees from the Rust and from f64 atan2.
     most: [f64; 2],
+    /// For scripts, how often each ending was met, and with which number.
+    ended: BTreeMap<(&'static str, u32), u64>,
 }
 
 impl Tally {
@@ -49,6 +51,10 @@ impl Tally {
         self.differed += other.differed;
         self.first = self.first.or(other.first);
         self.far(other.most);
+        other
+            .ended
+            .into_iter()
+            .for_each(|(end, times)| *self.ended.entry(end).or_default() += times);
         self
     }
 
@@ -70,6 +76,21 @@ impl Tally {
         self.count(port == rust, (name, given), &port, &rust);
     }
 
+    /// So many compared at once, and the first difference among them in words.
+    pub fn told(&mut self, compared: u64, difference: Option<String>) {
+        self.compared += compared;
+        self.differed += u64::from(difference.is_some());
+        self.first = self.first.take().or(difference);
+    }
+
+    pub fn end(&mut self, end: (&'static str, u32)) {
+        *self.ended.entry(end).or_default() += 1;
+    }
+
+    pub fn ended(&self, end: (&'static str, u32)) -> bool {
+        self.ended.contains_key(&end)
+    }
+
     pub fn far(&mut self, degrees: [f64; 2]) {
         self.most = [0, 1].map(|k| self.most[k].max(degrees[k]));
     }
@@ -85,6 +106,13 @@ impl Tally {
             print!("; at most {rust:.9} degrees from the Rust, {exact:.9} from f64 atan2");
         }
         println!("{}", if self.shown_only { "; not judged" } else { "" });
+        if !self.ended.is_empty() {
+            let told = |((end, number), times): (&(&str, u32), &u64)| match number {
+                0 => format!("{end} {times}"),
+                _ => format!("{end} {number}: {times}"),
+            };
+            println!("    {}", self.ended.iter().map(told).collect::<Vec<_>>().join(", "));
+        }
         self.first.iter().for_each(|first| println!("    first: {first}"));
     }
 }

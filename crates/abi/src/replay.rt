@@ -1,0 +1,23 @@
+// Scripts of calls for other languages: docs/REPLAY.md has their format.
+
+// Runs a script of calls on a cache; the bytes of answers that it wrote.
+#[no_mangle]
+pub extern "C" fn terrain_cache_replay(
+    script: &[u8],
+    pack: &[u8],
+    arena: &mut [u8],
+    out: &mut [u8],
+) -> usize {
+    cache_replay::run(script, pack, arena, out)
+}
+
+// For timing: a script's last record `times` times, each from the state that the others leave.
+#[no_mangle]
+pub extern "C" fn terrain_cache_repeat(
+    script: &[u8],
+    pack: &[u8],
+    arena: &mut [u8],
+    times: u32,
+) -> u32 {
+    cache_replay::repeated(script, pack, arena, times)
+}
