@@ -1,0 +1,144 @@
+-- A match over a lookup: `matcher.rs`, `update`. The tiles around the fix are looked up in order; each that is found is searched; one that is
+-- not loaded ends the match with its key, and one that no longer passes with 12. `updateOver` knows no cache: the direct engine shares it.
+-- `updated` is it at the cache's look, with what the lookups did to clock and ages. Assumes nothing.
+use Prim.Native.Nat.{ℕ, _+_, _*_}
+use mathlib.Core.Bool.{Bool, cond}
+use mathlib.Core.List.{List, [], _∷_, _++_}
+use lib.Dec.{leb}
+use lib.ListN.{length}
+use Rattle.pack.specs.declared.TileKey.{TileKey}
+use Rattle.pack.specs.declared.Header.{Header}
+use Rattle.pages.specs.declared.MaybeKey.{MaybeKey}
+use Rattle.pages.specs.declared.MaybeKey.the-variants as MaybeKey
+use Rattle.geo.specs.declared.Point.{Point}
+use Rattle.cache.specs.declared.Cache.{Cache}
+use Rattle.cache.specs.declared.Got.{Got}
+use Rattle.cache.specs.declared.Lookup.{Lookup}
+use Rattle.cache.specs.declared.Lookup.the-variants as Lookup
+use Rattle.cache.specs.Lookups.{runBytes, got}
+use Rattle.cache.specs.Direct.{Look, ready, missing, absent, stale, look, looked}
+use Rattle.num.specs.Fold.{upTo}
+use Rattle.candidates.specs.Keeping.{noneKept}
+use Rattle.candidates.specs.Tile.{search}
+use Rattle.candidates.specs.declared.Kept.{Kept}
+use Rattle.candidates.specs.declared.Query.{Query}
+use Rattle.candidates.specs.declared.Current.{Current}
+use Rattle.candidates.specs.declared.Current.the-variants as Current
+use Rattle.candidates.specs.declared.Heading.{Heading}
+use Rattle.matcher.specs.declared.Matcher.{Matcher}
+use Rattle.matcher.specs.declared.NearKeys.{NearKeys}
+use Rattle.matcher.specs.declared.Outcome.{Outcome}
+use Rattle.matcher.specs.declared.Outcome.the-variants as Outcome
+use Rattle.matcher.specs.declared.Updated.{Updated}
+use Rattle.matcher.specs.declared.gather.Ending.{Ending}
+use Rattle.matcher.specs.declared.gather.Ending.the-variants as Ending
+use Rattle.matcher.specs.declared.gather.Gathered.{Gathered}
+use Rattle.matcher.specs.Near.{keyAt, nearOf}
+use Rattle.matcher.specs.Settle.{matched}
+
+-- ---- over a lookup
+
+-- the candidates so far, the keys found so far, and how the lookups ended
+pub record Run : Type 0 where
+  pub kept : Kept
+  pub found : List TileKey
+  pub end : Ending
+
+abbrev pub lookStep : Look → Run → Query → TileKey → Run
+lookStep (ready bs) r q key = record { kept = search (r .kept) q bs; found = r .found ++ (key ∷ []); end = Ending.All }
+lookStep missing r q key = r
+lookStep absent r q key = record { kept = r .kept; found = r .found; end = Ending.Need key }
+lookStep stale r q key = record { kept = r .kept; found = r .found; end = Ending.Stale }
+
+abbrev pub keyStep : MaybeKey → (TileKey → Look) → Run → Query → Run
+keyStep MaybeKey.Nothing at r q = r
+keyStep (MaybeKey.Key key) at r q = lookStep (at key) r q key
+
+-- nothing more once they ended
+abbrev pub runStep : Ending → MaybeKey → (TileKey → Look) → Run → Query → Run
+runStep Ending.All m at r q = keyStep m at r q
+runStep (Ending.Need key) m at r q = r
+runStep Ending.Stale m at r q = r
+
+abbrev pub noRun : Run
+noRun = record { kept = noneKept; found = []; end = Ending.All }
+
+-- the first n tiles around the fix
+unfoldable pub runTo : (TileKey → Look) → NearKeys → Query → ℕ → Run
+runTo at near q n = upTo (λ (r : Run) (i : ℕ). runStep (r .end) (keyAt near i) at r q) noRun n
+
+abbrev pub outcome : Current → Outcome
+outcome Current.Nothing = Outcome.Nothing
+outcome (Current.Is m) = Outcome.Found m
+
+-- an answer, and the matcher after it
+pub record Matching : Type 0 where
+  pub answer : Outcome
+  pub matcher : Matcher
+
+abbrev pub matchingBy : Ending → Kept → Matcher → Heading → Matching
+matchingBy Ending.All k m heading = let next = matched m k heading in record { answer = outcome (next .current); matcher = next }
+matchingBy (Ending.Need key) k m heading = record { answer = Outcome.Need key; matcher = m }
+matchingBy Ending.Stale k m heading = record { answer = Outcome.Refused 12; matcher = m }
+
+abbrev pub queryOf : Matcher → Header → Point → Heading → Query
+queryOf m h fix heading = record { header = h; fix = fix; heading = heading; current = m .current }
+
+abbrev pub runOver : (TileKey → Look) → Matcher → Header → Point → Heading → Run
+runOver at m h fix heading = runTo at (nearOf h fix) (queryOf m h fix heading) 4
+
+unfoldable pub updateOver : (TileKey → Look) → Matcher → Header → Point → Heading → Matching
+updateOver at m h fix heading = let r = runOver at m h fix heading in matchingBy (r .end) (r .kept) m heading
+
+-- ---- at the cache's look
+
+-- what was gathered: clock and ages as the lookups of the keys found left them
+abbrev pub gatheredOf : Cache → List ℕ → ℕ → Run → Gathered
+gatheredOf c arena size r = record { kept = r .kept; cache = looked c arena size (r .found); end = r .end }
+
+unfoldable pub gathered : Cache → List ℕ → Query → NearKeys → Gathered
+gathered c arena q near = gatheredOf c arena (q .header .tile) (runTo (look c arena (q .header .tile)) near q 4)
+
+-- on the late 12 the state is the one given
+abbrev pub cacheAfter : Ending → Cache → Cache → Cache
+cacheAfter Ending.All c d = d
+cacheAfter (Ending.Need key) c d = d
+cacheAfter Ending.Stale c d = c
+
+unfoldable pub updated : Matcher → Cache → List ℕ → Header → Point → Heading → Updated
+updated m c arena h fix heading =
+    let at = look c arena (h .tile) in
+    let r = runOver at m h fix heading in
+    let u = updateOver at m h fix heading in
+    record { answer = u .answer; matcher = u .matcher; cache = cacheAfter (r .end) c (looked c arena (h .tile) (r .found)) }
+
+-- ---- the code's steps
+
+-- the bytes of a run; none where it would pass the arena's end, which a run that a lookup answered never does
+unfoldable pub bytesOf : List ℕ → ℕ → ℕ → List ℕ
+bytesOf arena first len = cond (leb (first * 8192 + len) (length arena)) (runBytes arena first len) []
+
+abbrev pub answerStep : Lookup → Gathered → Cache → List ℕ → Query → TileKey → Gathered
+answerStep (Lookup.Ready first len) g d arena q key = record { kept = search (g .kept) q (bytesOf arena first len); cache = d; end = Ending.All }
+answerStep Lookup.Missing g d arena q key = g
+answerStep Lookup.Absent g d arena q key = record { kept = g .kept; cache = d; end = Ending.Need key }
+answerStep (Lookup.Refused number) g d arena q key = record { kept = g .kept; cache = d; end = Ending.Stale }
+
+abbrev pub gatheredWith : Gathered → Got → List ℕ → Query → TileKey → Gathered
+gatheredWith g r arena q key = answerStep (r .answer) g (r .cache) arena q key
+
+abbrev pub gatherKey : MaybeKey → Gathered → List ℕ → Query → Gathered
+gatherKey MaybeKey.Nothing g arena q = g
+gatherKey (MaybeKey.Key key) g arena q = gatheredWith g (got (g .cache) arena (q .header .tile) key) arena q key
+
+abbrev pub gatherBy : Ending → MaybeKey → Gathered → List ℕ → Query → Gathered
+gatherBy Ending.All m g arena q = gatherKey m g arena q
+gatherBy (Ending.Need key) m g arena q = g
+gatherBy Ending.Stale m g arena q = g
+
+abbrev pub gatherStep : Gathered → List ℕ → Query → MaybeKey → Gathered
+gatherStep g arena q m = gatherBy (g .end) m g arena q
+
+unfoldable pub finished : Matcher → Gathered → Heading → Updated
+finished m g heading =
+    let next = matched m (g .kept) heading in record { answer = outcome (next .current); matcher = next; cache = g .cache }

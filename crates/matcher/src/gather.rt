@@ -1,0 +1,177 @@
+// The candidates of the tiles around a fix, each tile by a lookup, and the match made of them.
+use crate::Matcher;
+use crate::NearKeys;
+use crate::Outcome;
+use crate::Updated;
+use cache::Cache;
+use cache::Got;
+use cache::Lookup;
+use candidates::Current;
+use candidates::Heading;
+use candidates::Kept;
+use candidates::Query;
+use geo::Point;
+use pack::Header;
+use pack::TileKey;
+use pages::MaybeKey;
+ghost use mathlib.Core.Path.{_≡_};
+ghost use Prim.Native.Nat.{_≤_, _+_, _*_};
+ghost use lib.ListN.{length};
+ghost use Rattle.matcher.specs.Gather as Gather;
+
+// How the lookups ended: all done; a tile that is not loaded; a ready run that no longer passes.
+pub enum Ending {
+    All,
+    Need(TileKey),
+    Stale,
+}
+
+// The candidates so far, the cache with clock and ages as the lookups left them, and how they ended.
+pub struct Gathered {
+    pub kept: Kept,
+    pub cache: Cache,
+    pub end: Ending,
+}
+
+// The bytes of a run that a lookup answered; none where it lies outside the arena.
+fn run_bytes(arena: &[u8], first: usize, len: usize) -> &[u8]
+    ensures { λ r. ⌜ now r ≡ Gather.bytesOf (now (arena .entry)) first len ⌝ }
+{
+    if arena.len() / pages::PAGE_BYTES < first {
+        return &arena[..0];
+    }
+    let at = first * pages::PAGE_BYTES;
+    if arena.len() - at < len {
+        return &arena[..0];
+    }
+    &arena[at..at + len]
+}
+
+// What a lookup of `key` does to what was gathered.
+fn gathered_with(g: Gathered, got: Got, arena: &[u8], q: Query, key: TileKey) -> Gathered
+    ensures { λ r. ⌜ r ≡ Gather.gatheredWith g got (now (arena .entry)) q key ⌝ }
+{
+    let answer = got.answer;
+    let cache = got.cache;
+    let kept = g.kept;
+    match answer {
+        Lookup::Missing => g,
+        Lookup::Absent => Gathered {
+            kept,
+            cache,
+            end: Ending::Need(key),
+        },
+        Lookup::Refused(_) => Gathered {
+            kept,
+            cache,
+            end: Ending::Stale,
+        },
+        Lookup::Ready(first, len) => {
+            let more = candidates::search(kept, q, run_bytes(arena, first, len));
+            Gathered {
+                kept: more,
+                cache,
+                end: Ending::All,
+            }
+        }
+    }
+}
+
+// One tile more, once all before it were found or missing.
+fn gather_step(g: Gathered, arena: &[u8], q: Query, near: MaybeKey) -> Gathered
+    ensures { λ r. ⌜ r ≡ Gather.gatherStep g (now (arena .entry)) q near ⌝ }
+{
+    let end = g.end;
+    match end {
+        Ending::Need(_) => g,
+        Ending::Stale => g,
+        Ending::All => match near {
+            MaybeKey::Nothing => g,
+            MaybeKey::Key(k) => {
+                let cache = g.cache;
+                let header = q.header;
+                let got = cache::look::got(cache, arena, header.tile, k);
+                gathered_with(g, got, arena, q, k)
+            }
+        },
+    }
+}
+
+// The candidates of the tiles around a fix.
+fn gather(c: Cache, arena: &[u8], q: Query, near: NearKeys) -> Gathered
+    ensures { λ r. ⌜ r ≡ Gather.gathered c (now (arena .entry)) q near ⌝ }
+{
+    let mut g = Gathered {
+        kept: candidates::keep::none_kept(),
+        cache: c,
+        end: Ending::All,
+    };
+    let mut i = 0;
+    while i < 4 {
+        let place = near.keys[i];
+        let key = place.key;
+        g = gather_step(g, arena, q, key);
+        i += 1;
+    }
+    g
+}
+
+// What a match answers once it is finished.
+fn outcome(current: Current) -> Outcome
+    ensures { λ r. ⌜ r ≡ Gather.outcome current ⌝ }
+{
+    match current {
+        Current::Nothing => Outcome::Nothing,
+        Current::Is(m) => Outcome::Found(m),
+    }
+}
+
+// Every tile was found or missing: the match is made.
+fn finished(m: Matcher, g: Gathered, heading: Heading) -> Updated
+    ensures { λ r. ⌜ r ≡ Gather.finished m g heading ⌝ }
+{
+    let kept = g.kept;
+    let next = crate::settle::matched(m, kept, heading);
+    let current = next.current;
+    let cache = g.cache;
+    Updated {
+        answer: outcome(current),
+        matcher: next,
+        cache,
+    }
+}
+
+// A match in a state that has been tested, of a point and a heading that have passed.
+pub fn updated(
+    m: Matcher,
+    c: Cache,
+    arena: &[u8],
+    header: Header,
+    fix: Point,
+    heading: Heading,
+) -> Updated
+    ensures { λ r. ⌜ r ≡ Gather.updated m c (now (arena .entry)) header fix heading ⌝ }
+{
+    let current = m.current;
+    let q = Query {
+        header,
+        fix,
+        heading,
+        current,
+    };
+    let near = crate::near::near_of(header, fix);
+    let g = gather(c, arena, q, near);
+    let end = g.end;
+    match end {
+        Ending::All => finished(m, g, heading),
+        Ending::Need(k) => {
+            let cache = g.cache;
+            Updated {
+                answer: Outcome::Need(k),
+                matcher: m,
+                cache,
+            }
+        }
+        Ending::Stale => crate::state::refused(m, c, 12),
+    }
+}
