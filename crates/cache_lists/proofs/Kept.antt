@@ -16,11 +16,11 @@ use Rattle.pages.specs.declared.Slot.{Slot}
 use Rattle.pages.specs.declared.Pages.{Pages}
 use Rattle.pages.specs.declared.MaybeKey.{MaybeKey}
 use Rattle.pages.specs.declared.MaybeKey.the-variants as MaybeKey
-use Rattle.pages.specs.Runs.{span, emptySlot, slotAt, run, kindAt, Sound}
+use Rattle.pages.specs.Runs.{span, emptySlot, slotAt, Sound}
 use Rattle.pages.specs.Evict.{evicted, headSlot, pieceSlot}
 use Rattle.pages.specs.Begin.{replaced}
-use Rattle.pages.proofs.Below.{below-or, same-or}
-use Rattle.pages.proofs.RunLaws.{span-holds, apart}
+use Rattle.pages.proofs.Below.{same-or}
+use Rattle.pages.proofs.RunLaws.{span-holds}
 use Rattle.pages.proofs.FillLaws.{Out, out-or}
 use Rattle.pages.proofs.EvictLaws.{evicted-count, sound-evicted, evicted-either, placed-same, placed-piece}
 use Rattle.tile.specs.Parse.{accepts}
@@ -34,8 +34,9 @@ use Rattle.cache.specs.Lookups.{runBytes, passes, touched}
 use Rattle.cache.specs.State.{fresh, cleared}
 use Rattle.cache.specs.Direct.{ready, missing, directTile, direct}
 use Rattle.load.specs.Loads.{chunkLen, moved, forgot, dropped, newLoad, put, readySlot, readied, further}
-use Rattle.cache_lists.proofs.Stores.{set-cases, getD-same, paste-size, bytes-same, bytes-before, bytes-after}
-use Rattle.cache_lists.proofs.Inv.{Loads, Inv, ready-run, loads-within, without-count, without-either, chunk-room, replaced-head, inv-fresh, inv-cleared, inv-touched, inv-forgot, inv-dropped, inv-began, inv-further, inv-readied}
+use Rattle.cache_lists.proofs.Stores.{set-cases, getD-same, paste-size, bytes-same, bytes-before}
+use Rattle.cache_lists.proofs.Inv.{Loads, Inv, loads-within, without-count, without-either, chunk-room, replaced-head, inv-fresh, inv-cleared, inv-touched, inv-forgot, inv-dropped, inv-began, inv-further, inv-readied}
+use Rattle.cache_lists.proofs.Chunk.{put-written, ready-kept}
 use Rattle.cache_lists.proofs.Direct.{tile-ready, tile-missing}
 
 -- ---- the invariant
@@ -191,41 +192,17 @@ module _ (P : List ℕ) (h : Header) (n : ℕ) where
     come-bytes : take (l .done + chunkLen l) (drop (l .slot * 8192) filled) ≡ take (l .done + chunkLen l) (drop (l .offset) P)
     come-bytes = rw (take-add (l .done) (chunkLen l) (drop (l .slot * 8192) filled), take-add (l .done) (chunkLen l) (drop (l .offset) P), old-bytes, new-bytes)
 
-    -- another run is apart from the load's, so it holds what it held
-    other-bytes : (i : ℕ) → slotAt (c .pages .slots) i .ready ≡ true
+    -- a ready run holds what it held
+    ready-bytes : (i : ℕ) → slotAt (c .pages .slots) i .ready ≡ true
         → runBytes filled i (slotAt (c .pages .slots) i .len) ≡ runBytes arena i (slotAt (c .pages .slots) i .len)
-    other-bytes i e = rw filled-is (⊎-elim before (λ b. after (omega (arith, b, other))) (below-or i (l .slot)))
-      where
-        len : ℕ
-        len = slotAt (c .pages .slots) i .len
-
-        starts : kindAt (c .pages .slots) i ≡ run
-        starts = ready-run (c .pages) (f .inv .pages) i e
-
-        other : i ≡ l .slot → ⊥
-        other q = true≢false (sym (rw q at e) ∙ loads .waits)
-
-        before : i < l .slot → take len (drop (i * 8192) (paste arena at bs (chunkLen l))) ≡ runBytes arena i len
-        before b =
-            bytes-before arena at bs (chunkLen l) fits size (i * 8192) len
-            (omega (arith, apart (c .pages .slots) (c .pages .count) (f .inv .pages .good) i (l .slot) starts (loads .run) b, span-holds len))
-
-        after : l .slot < i → take len (drop (i * 8192) (paste arena at bs (chunkLen l))) ≡ runBytes arena i len
-        after b =
-            bytes-after arena at bs (chunkLen l) fits size (i * 8192) len
-            (omega (
-              arith,
-              rw (loads .len) at (apart (c .pages .slots) (c .pages .count) (f .inv .pages .good) (l .slot) i (loads .run) starts b),
-              span-holds (l .len),
-              room,
-            ))
+    ready-bytes = ready-kept c (f .inv) arena filled (rw is (put-written l arena bs size))
 
     kept-put : Kept c filled
     kept-put = record {
       inv = f .inv;
       count = f .count;
       slots = λ (i : ℕ) (k : TileKey) (e : slotAt (c .pages .slots) i .ready ≡ true) (q : slotAt (c .pages .slots) i .key ≡ MaybeKey.Key k).
-          f .slots i k e q ∙ ap ready (sym (other-bytes i e));
+          f .slots i k e q ∙ ap ready (sym (ready-bytes i e));
       ring = f .ring;
       load = rw is (record { is = load .is; bytes = old-bytes });
     }

@@ -33,9 +33,10 @@ use Rattle.load.specs.Loads.{After, over, refused, fetched, readLen, takes, dro
 use Rattle.load.specs.Calls as Loaded
 use Rattle.tile.specs.Parse.{accepts}
 use Rattle.cache_lists.specs.Lists.{World, Call, capacity, loads, pages, get, fetch, load, loadFrom, clear, found, exec, Along}
-use Rattle.cache_lists.specs.Claims.{ofProgress, Passed, HandedOut, Read, readsOf, reads, bytesOf, TakesOnly, Safe}
+use Rattle.cache_lists.specs.Claims.{ofProgress, Passed, HandedOut, Read, readsOf, reads, bytesOf, TakesOnly, Written, Safe}
 use Rattle.cache_lists.proofs.Steps.{Gets, denied, ringed, unknown, handed, get-is, Came, came-loading, Step, refuses, knows, uses, noPages, fails, lacks, begins, goesOn, readies, spoils, load-is, from-is}
 use Rattle.cache_lists.proofs.Inv.{Loads, Inv, inv-ok, inv-apart, inv-cleared, inv-touched, inv-forgot, inv-dropped, inv-began, inv-further, inv-readied}
+use Rattle.cache_lists.proofs.Chunk.{not-written, put-written, ready-kept}
 
 -- ---- the invariant after a call
 
@@ -164,10 +165,42 @@ takes-call w (load h key failure bs) = λ z e. takes-only (w .cache) (w .arena) 
 takes-call w (loadFrom h key pack) = tt
 takes-call w clear = tt
 
+-- only a chunk is written
+written-step : {c : Cache} {arena : List ℕ} {h : Header} {key : TileKey} {failure : ℕ} {bs : List ℕ} {r : After}
+    → Step c arena h key failure bs r → Written (c .loading) arena (r .arena)
+written-step {c} {arena} (refuses n s) = not-written (c .loading) arena
+written-step {c} {arena} knows = not-written (c .loading) arena
+written-step {c} {arena} (uses i) = not-written (c .loading) arena
+written-step {c} {arena} (noPages e) = not-written (c .loading) arena
+written-step {c} {arena} (fails n) = not-written (c .loading) arena
+written-step {c} {arena} (lacks came s) = not-written (c .loading) arena
+written-step {c} {arena} (begins came offset len slot e s v) = not-written (c .loading) arena
+written-step {arena = arena} {bs = bs} (goesOn l came b) = rw (came-loading came) (put-written l arena bs (came .size))
+written-step {arena = arena} {bs = bs} (readies l came b p) = rw (came-loading came) (put-written l arena bs (came .size))
+written-step {arena = arena} {bs = bs} (spoils l came b p) = rw (came-loading came) (put-written l arena bs (came .size))
+
+pub written-call : (w : World) (c : Call) → Written (w .cache .loading) (w .arena) (exec c w .world .arena)
+unfolding exec
+written-call w capacity = not-written _ (w .arena)
+written-call w loads = not-written _ (w .arena)
+written-call w (pages h key) = not-written _ (w .arena)
+written-call w (get h key) = not-written _ (w .arena)
+written-call w (fetch h key) = not-written _ (w .arena)
+written-call w (load h key failure bs) = written-step (load-is (w .cache) (w .arena) h key failure bs)
+written-call w (loadFrom h key pack) = written-step (from-is (w .cache) (w .arena) h key pack .goes)
+written-call w clear = not-written _ (w .arena)
+
 pub safe-along : (cs : List Call) (w : World) → Inv (w .cache) → Along Safe cs w
 unfolding Along
 safe-along [] w f = tt
 safe-along (c ∷ cs) w f =
     let g : Inv (exec c w .world .cache) = inv-call w c f in
-    let safe : Safe w c = record { apart = inv-apart (exec c w .world .cache) g; handedOut = handed-call w c; oneRead = one-read w c; takesOnly = takes-call w c } in
+    let safe : Safe w c = record {
+      apart = inv-apart (exec c w .world .cache) g;
+      handedOut = handed-call w c;
+      oneRead = one-read w c;
+      takesOnly = takes-call w c;
+      written = written-call w c;
+      kept = ready-kept (w .cache) f (w .arena) (exec c w .world .arena) (written-call w c);
+    } in
     (safe, safe-along cs (exec c w .world) g)

@@ -40,10 +40,9 @@ use Rattle.load.specs.Calls as Loaded
 use Rattle.cache_lists.specs.Lists.{World, Call, capacity, loads, pages, get, fetch, load, loadFrom, clear, found, exec, Along}
 use Rattle.cache_lists.specs.Claims.{ofCount, ofLookup, ofRequest, ofProgress, Parsed, FairBytes, Fair, SameLook, SameAs, Open}
 use Rattle.cache_lists.proofs.Lookups.{in-ring, ReadyAt, ready-at, next-is}
-use Rattle.cache_lists.proofs.Stores.{put-size}
 use Rattle.cache_lists.proofs.Steps.{Refusal, named, unasked, outside, stale, Gets, denied, ringed, unknown, handed, get-is, Came, came-loading, came-holds, Lacks, none, long, wide, Step, refuses, knows, uses, noPages, fails, lacks, begins, goesOn, readies, spoils, load-is, fetch-came, FetchIs, fetch-is, From, from-is}
 use Rattle.cache_lists.proofs.Inv.{Inv, inv-ok, ready-run}
-use Rattle.cache_lists.proofs.Safe.{clear-is}
+use Rattle.cache_lists.proofs.Safe.{clear-is, written-call}
 use Rattle.cache_lists.proofs.Direct.{direct-ready, direct-none, direct-entry, at-long, at-wide, at-tile}
 use Rattle.cache_lists.proofs.Kept.{Kept, kept-cleared, kept-touched, kept-forgot, kept-dropped, kept-began, kept-further, kept-readied, kept-spoiled}
 
@@ -159,31 +158,6 @@ module _ (P : List ℕ) (h : Header) (n : ℕ) (key : TileKey) where
 
 -- ---- a list of calls
 
--- no call changes the arena's length
-step-size : {c : Cache} {arena : List ℕ} {h : Header} {key : TileKey} {failure : ℕ} {bs : List ℕ} {r : After}
-    → Step c arena h key failure bs r → length (r .arena) ≡ length arena
-step-size (refuses number s) = refl
-step-size knows = refl
-step-size (uses i) = refl
-step-size (noPages e) = refl
-step-size (fails number) = refl
-step-size (lacks came s) = refl
-step-size (begins came offset len slot e s v) = refl
-step-size {arena = arena} {bs = bs} (goesOn l came b) = put-size arena (l .slot) (l .done) bs
-step-size {arena = arena} {bs = bs} (readies l came b p) = put-size arena (l .slot) (l .done) bs
-step-size {arena = arena} {bs = bs} (spoils l came b p) = put-size arena (l .slot) (l .done) bs
-
-call-size : (w : World) (c : Call) → length (exec c w .world .arena) ≡ length (w .arena)
-unfolding exec
-call-size w capacity = refl
-call-size w loads = refl
-call-size w (pages h key) = refl
-call-size w (get h key) = refl
-call-size w (fetch h key) = refl
-call-size w (load h key failure bs) = step-size (load-is (w .cache) (w .arena) h key failure bs)
-call-size w (loadFrom h key pack) = step-size (from-is (w .cache) (w .arena) h key pack .goes)
-call-size w clear = refl
-
 module _ (P : List ℕ) (n : ℕ) where
   -- with the pack's header, which is the one that each call is given
   abbrev pub KeptIn : World → Type 0
@@ -254,4 +228,4 @@ module _ (P : List ℕ) (n : ℕ) where
   unfolding Along
   open-along [] w k holds f = tt
   open-along (c ∷ cs) w k holds f =
-      (open-call w k holds c (f .0), open-along cs (exec c w .world) (kept-call w c k (f .0)) (rw (call-size w c) holds) (f .1))
+      (open-call w k holds c (f .0), open-along cs (exec c w .world) (kept-call w c k (f .0)) (rw (written-call w c .size) holds) (f .1))

@@ -6,7 +6,7 @@ use mathlib.Core.Path.{_≡_}
 use mathlib.Core.Bool.{Bool, true, false}
 use mathlib.Core.List.{List, [], _∷_}
 use mathlib.Core.Logic.{_⊎_}
-use lib.ListN.{length, take, drop}
+use lib.ListN.{length, take, drop, getD}
 use Rattle.pack.specs.Sector.{parse}
 use Rattle.pack.specs.declared.TileKey.{TileKey}
 use Rattle.pack.specs.declared.Header.{Header}
@@ -22,12 +22,13 @@ use Rattle.cache.specs.declared.Lookup.{Lookup}
 use Rattle.cache.specs.declared.Lookup.the-variants as Lookup
 use Rattle.cache.specs.declared.Clearing.{Clearing}
 use Rattle.cache.specs.declared.Clearing.the-variants as Clearing
-use Rattle.cache.specs.Lookups.{runBytes}
+use Rattle.cache.specs.Lookups.{runBytes, lenAt}
 use Rattle.cache.specs.Direct.{Look, ready, missing, absent, stale, direct}
 use Rattle.load.specs.declared.Request.{Request}
 use Rattle.load.specs.declared.Request.the-variants as Request
 use Rattle.load.specs.declared.Progress.{Progress}
 use Rattle.load.specs.declared.Progress.the-variants as Progress
+use Rattle.load.specs.Loads.{chunkLen}
 use Rattle.load.specs.Calls as Loaded
 use Rattle.cache_lists.specs.Lists.{World, Call, capacity, loads, pages, get, fetch, load, loadFrom, clear, Answer, counted, found, asked, stepped, cleared, exec, start, Along}
 
@@ -132,12 +133,29 @@ TakesOnly w (fetch h key) = Unit
 TakesOnly w (loadFrom h key pack) = Unit
 TakesOnly w clear = Unit
 
+-- byte b of the arena is one of the load's next chunk
+abbrev pub OfChunk : MaybeLoading → ℕ → Type 0
+OfChunk MaybeLoading.Nothing b = ⊥
+OfChunk (MaybeLoading.Tile l) b = (l .slot * 8192 + l .done ≤ b) × (b < l .slot * 8192 + l .done + chunkLen l)
+
+-- DESIGN 4: "A chunk writes its own bytes of the arena and no others", and no call any other bytes
+pub record Written (x : MaybeLoading) (before after : List ℕ) : Type 0 where
+  pub size : length after ≡ length before
+  pub others : (b : ℕ) → (OfChunk x b → ⊥) → getD after b 0 ≡ getD before b 0
+
+-- so a run that is ready before a call holds the same bytes after it, even one that the call evicts
+abbrev pub KeptBytes : World → Call → Type 0
+KeptBytes w c =
+    (i : ℕ) → slotAt (w .cache .pages .slots) i .ready ≡ true → runBytes (exec c w .world .arena) i (lenAt (w .cache) i) ≡ runBytes (w .arena) i (lenAt (w .cache) i)
+
 -- of each call
 pub record Safe (w : World) (c : Call) : Type 0 where
   pub apart : Apart (exec c w .world .cache)
   pub handedOut : HandedOut w c
   pub oneRead : length (reads w c) ≤ 1
   pub takesOnly : TakesOnly w c
+  pub written : Written (w .cache .loading) (w .arena) (exec c w .world .arena)
+  pub kept : KeptBytes w c
 
 -- ---- demand 3's premises, for one pack P
 
