@@ -1,6 +1,7 @@
--- The state's own invariant, with no premise on what was delivered (`Inv`): well-formed pages, a place in the ring, a load that has its
--- run, an open fetch that the state makes. It is what number 12 tests (`inv-ok`), a fresh cache has it, and each change of the state keeps
--- it. So live runs lie within the pages and apart (`inv-apart`). Assumes nothing.
+-- The state's own invariant, with no premise on what was delivered (`Inv`): well-formed pages, a ring of 64 places and a place in it, a
+-- load that has its run, no run that is neither ready nor the load's, an open fetch that the state makes. It has in it what number 12 tests
+-- (`inv-ok`), a fresh cache has it, and each change of the state keeps it. So live runs lie within the pages and apart (`inv-apart`).
+-- Assumes nothing.
 use Prim.Native.Nat.{ℕ, _+_, _-_, _<_, _≤_}
 use mathlib.Core.Path.{_≡_, refl, sym, ap, _∙_}
 use mathlib.Core.Bool.{Bool, true, false, not, cond, true≢false}
@@ -9,7 +10,7 @@ use mathlib.Core.Logic.{inl, ⊎-elim}
 use native.Mathlib.Omega.{arith}
 use borrow.Author.Tests.{not-true, ltb-false, lt-ltb, eq-eqb}
 use lib.Dec.{ltb}
-use lib.ListN.{replicate, length-replicate}
+use lib.ListN.{length, replicate, length-replicate, length-set}
 use Rattle.pack.specs.declared.TileKey.{TileKey}
 use Rattle.pages.specs.declared.Slot.{Slot}
 use Rattle.pages.specs.declared.Pages.{Pages}
@@ -29,13 +30,14 @@ use Rattle.cache.specs.declared.Pending.{Pending}
 use Rattle.cache.specs.declared.Pending.the-variants as Pending
 use Rattle.cache.specs.declared.look.Landing.{Landing}
 use Rattle.cache.specs.declared.look.Landing.the-variants as Landing
-use Rattle.cache.specs.Keys.{readyAt, forgotten}
+use Rattle.cache.specs.Keys.{emptyPlace, readyAt, forgotten}
 use Rattle.cache.specs.Lookups.{landsOn, touched, nextAt, nextStep}
 use Rattle.cache.specs.State.{fresh, cleared, tileLoads, loadsOk, wantsChunkOf, pendingFits, pendingOk, isEntry, isChunk, stateOk}
 use Rattle.load.specs.Loads.{chunkLen, withdrawn, moved, forgot, withoutRun, dropped, newLoad, readySlot, withReady, readied, further}
 use Rattle.cache_lists.specs.Claims.{LoadsAt, Live, Apart}
 use Rattle.cache_lists.proofs.Lookups.{key-same}
 use Rattle.cache_lists.proofs.Stores.{getD-same}
+use Rattle.cache_lists.proofs.Live.{LiveIn, none-live, evicted-live, replaced-live, ready-live}
 
 -- ---- the invariant
 
@@ -53,7 +55,9 @@ LoadIn s (MaybeLoading.Tile l) = Loads s l
 
 pub record Inv (c : Cache) : Type 0 where
   pub pages : Sound (c .pages)
+  pub places : length (c .missing .keys) ≡ 64
   pub ring : c .missing .next < 64
+  pub live : LiveIn (c .pages .slots) (c .loading)
   pub load : LoadIn (c .pages .slots) (c .loading)
   pub pending : pendingOk c ≡ true
 
@@ -109,13 +113,22 @@ sound-empty used count clock h = record {
 
 pub inv-fresh : (n : ℕ) → n ≤ 96 → Inv (fresh n)
 unfolding fresh
-inv-fresh n h = record { pages = sound-empty (replicate 96 0) n 0 h; ring = omega arith; load = tt; pending = refl }
+inv-fresh n h = record {
+  pages = sound-empty (replicate 96 0) n 0 h;
+  places = length-replicate 64 emptyPlace;
+  ring = omega arith;
+  live = none-live MaybeLoading.Nothing;
+  load = tt;
+  pending = refl;
+}
 
 pub inv-cleared : (c : Cache) → Inv c → Inv (cleared c)
 unfolding cleared
 inv-cleared c f = record {
   pages = sound-empty (c .pages .used) (c .pages .count) (c .pages .clock) (f .pages .small);
+  places = length-replicate 64 emptyPlace;
   ring = f .ring;
+  live = none-live MaybeLoading.Nothing;
   load = tt;
   pending = refl;
 }
@@ -147,7 +160,9 @@ pub inv-touched : (c : Cache) (i : ℕ) → Inv c → Inv (touched c i)
 unfolding touched
 inv-touched c i f = record {
   pages = record { size = f .pages .size; small = f .pages .small; good = f .pages .good };
+  places = f .places;
   ring = f .ring;
+  live = f .live;
   load = f .load;
   pending = touched-fits c i (c .pending) ∙ f .pending;
 }
@@ -162,11 +177,25 @@ withdrawn-fits Pending.Chunk c = refl
 
 pub inv-forgot : (c : Cache) (key : TileKey) → Inv c → Inv (forgot c key)
 unfolding forgot forgotten
-inv-forgot c key f = record { pages = f .pages; ring = omega arith; load = f .load; pending = withdrawn-fits (c .pending) (forgot c key) }
+inv-forgot c key f = record {
+  pages = f .pages;
+  places = length-set (c .missing .keys) (c .missing .next) _ ∙ f .places;
+  ring = omega arith;
+  live = f .live;
+  load = f .load;
+  pending = withdrawn-fits (c .pending) (forgot c key);
+}
 
-inv-moved : (c : Cache) (g : Pages) (x : MaybeLoading) → Inv c → Sound g → LoadIn (g .slots) x → Inv (moved c g x)
+inv-moved : (c : Cache) (g : Pages) (x : MaybeLoading) → Inv c → Sound g → LiveIn (g .slots) x → LoadIn (g .slots) x → Inv (moved c g x)
 unfolding moved
-inv-moved c g x f s l = record { pages = s; ring = f .ring; load = l; pending = withdrawn-fits (c .pending) (moved c g x) }
+inv-moved c g x f s a l = record {
+  pages = s;
+  places = f .places;
+  ring = f .ring;
+  live = a;
+  load = l;
+  pending = withdrawn-fits (c .pending) (moved c g x);
+}
 
 -- ---- a load dropped, begun, gone on with, ended
 
@@ -186,13 +215,25 @@ module _ (g : Pages) where
   sound-without MaybeLoading.Nothing f r = f
   sound-without (MaybeLoading.Tile l) f r = sound-evicted 1 (l .slot) g f (first-within l f r)
 
+  live-without : (x : MaybeLoading) → Sound g → LoadIn (g .slots) x → LiveIn (g .slots) x → LiveIn (withoutRun x g .slots) MaybeLoading.Nothing
+  live-without MaybeLoading.Nothing f r a = a
+  live-without (MaybeLoading.Tile l) f r a = evicted-live g l f (first-within l f r) a
+
   pub without-either : (x : MaybeLoading) → Sound g → LoadIn (g .slots) x → (i : ℕ) → SameOrEmpty g (withoutRun x g) i
   without-either MaybeLoading.Nothing f r i = inl refl
   without-either (MaybeLoading.Tile l) f r i = evicted-either 1 (l .slot) g f (first-within l f r) i
 
 pub inv-dropped : (c : Cache) → Inv c → Inv (dropped c)
 unfolding dropped
-inv-dropped c f = inv-moved c (withoutRun (c .loading) (c .pages)) MaybeLoading.Nothing f (sound-without (c .pages) (c .loading) (f .pages) (f .load)) tt
+inv-dropped c f =
+    inv-moved c (withoutRun (c .loading) (c .pages)) MaybeLoading.Nothing f
+    (sound-without (c .pages) (c .loading) (f .pages) (f .load))
+    (live-without (c .pages) (c .loading) (f .pages) (f .load) (f .live))
+    tt
+
+pub dropped-load : (c : Cache) → dropped c .loading ≡ MaybeLoading.Nothing
+unfolding dropped moved
+dropped-load c = refl
 
 module _ (g : Pages) (s : ℕ) (key : TileKey) (len : ℕ) (f : Sound g) (fits : s + span len ≤ g .count) where
   pub replaced-head : slotAt (replaced g s key len .slots) s ≡ headSlot key len
@@ -201,11 +242,13 @@ module _ (g : Pages) (s : ℕ) (key : TileKey) (len : ℕ) (f : Sound g) (fits :
   loads-new : (offset : ℕ) → 0 < len → Loads (replaced g s key len .slots) (newLoad key s offset len)
   loads-new offset h = record { run = ap kindOf replaced-head; key = rw replaced-head; len = rw replaced-head; waits = rw replaced-head; below = h }
 
-pub inv-began : (c : Cache) (s : ℕ) (key : TileKey) (offset len : ℕ) → Inv c → s + span len ≤ c .pages .count → 0 < len
+-- where no load is
+pub inv-began : (c : Cache) (s : ℕ) (key : TileKey) (offset len : ℕ) → Inv c → c .loading ≡ MaybeLoading.Nothing → s + span len ≤ c .pages .count → 0 < len
     → Inv (moved c (replaced (c .pages) s key len) (MaybeLoading.Tile (newLoad key s offset len)))
-inv-began c s key offset len f fits h =
+inv-began c s key offset len f e fits h =
     inv-moved c (replaced (c .pages) s key len) (MaybeLoading.Tile (newLoad key s offset len)) f
     (sound-replaced (c .pages) s key len (f .pages) fits)
+    (replaced-live (c .pages) s key offset len (f .pages) fits (rw e at (f .live)))
     (loads-new (c .pages) s key len (f .pages) fits offset h)
 
 -- a chunk is part of what is left
@@ -218,10 +261,16 @@ unfolding chunkLen
 chunk-room l b = chunk-by l (ltb (l .len - l .done) 2048) refl b
 
 -- with the load that the state has
-module _ (c : Cache) (l : Loading) (f : Inv c) (r : Loads (c .pages .slots) l) where
+module _ (c : Cache) (l : Loading) (f : Inv c) (e : c .loading ≡ MaybeLoading.Tile l) where
+  r : Loads (c .pages .slots) l
+  r = rw e at (f .load)
+
+  live : LiveIn (c .pages .slots) (MaybeLoading.Tile l)
+  live = rw e at (f .live)
+
   pub inv-further : (come : ℕ) → come < l .len → Inv (further c l come)
   unfolding further
-  inv-further come h = inv-moved c (c .pages) _ f (f .pages) (record { run = r .run; key = r .key; len = r .len; waits = r .waits; below = h })
+  inv-further come h = inv-moved c (c .pages) _ f (f .pages) live (record { run = r .run; key = r .key; len = r .len; waits = r .waits; below = h })
 
   sound-ready : Sound (withReady (c .pages) (l .slot))
   sound-ready =
@@ -233,7 +282,9 @@ module _ (c : Cache) (l : Loading) (f : Inv c) (r : Loads (c .pages .slots) l) w
   unfolding readied touched moved
   inv-readied = record {
     pages = record { size = sound-ready .size; small = sound-ready .small; good = sound-ready .good };
+    places = f .places;
     ring = f .ring;
+    live = ready-live (c .pages .slots) l (omega (arith, first-within (c .pages) l (f .pages) r, f .pages .size, f .pages .small)) live;
     load = tt;
     pending = withdrawn-fits (c .pending) (readied c l);
   }

@@ -138,12 +138,12 @@ module _ (P : List ℕ) (h : Header) (n : ℕ) where
             rw (placed-piece (evicted (span len) s g) s key len i (omega (arith, e)) (b .1) (omega (arith, sound-evicted (span len) s g f fits .size, f .small)))
             (waits arena i (pieceSlot s) refl)
 
-  pub kept-began : (c : Cache) (arena : List ℕ) (s : ℕ) (key : TileKey) (offset len : ℕ) → Kept c arena → s + span len ≤ c .pages .count → 0 < len
+  pub kept-began : (c : Cache) (arena : List ℕ) (s : ℕ) (key : TileKey) (offset len : ℕ) → Kept c arena → c .loading ≡ MaybeLoading.Nothing → s + span len ≤ c .pages .count → 0 < len
       → direct P h n key ≡ directTile P h key offset len
       → Kept (moved c (replaced (c .pages) s key len) (MaybeLoading.Tile (newLoad key s offset len))) arena
   unfolding moved
-  kept-began c arena s key offset len f fits pos d = record {
-    inv = inv-began c s key offset len (f .inv) fits pos;
+  kept-began c arena s key offset len f e fits pos d = record {
+    inv = inv-began c s key offset len (f .inv) e fits pos;
     count = evicted-count (span len) s (c .pages) ∙ f .count;
     slots = replaced-holds (c .pages) s key len (f .inv .pages) fits arena (f .slots);
     ring = f .ring;
@@ -210,7 +210,7 @@ module _ (P : List ℕ) (h : Header) (n : ℕ) where
     pub kept-further : l .done + chunkLen l < l .len → Kept (further c l (l .done + chunkLen l)) filled
     unfolding further moved
     kept-further b = record {
-      inv = inv-further c l (f .inv) loads (l .done + chunkLen l) b;
+      inv = inv-further c l (f .inv) is (l .done + chunkLen l) b;
       count = f .count;
       slots = kept-put .slots;
       ring = f .ring;
@@ -229,7 +229,7 @@ module _ (P : List ℕ) (h : Header) (n : ℕ) where
       pub kept-readied : passes filled (l .slot) (l .len) (l .key) (h .tile) ≡ true → Kept (readied c l) filled
       unfolding readied touched moved
       kept-readied p = record {
-        inv = inv-readied c l (f .inv) loads;
+        inv = inv-readied c l (f .inv) is;
         count = f .count;
         slots = λ (i : ℕ). set-cases (SlotHolds filled i) (c .pages .slots) (l .slot) i (readySlot (slotAt (c .pages .slots) (l .slot))) emptySlot
             (now i) (kept-put .slots i) (waits filled i emptySlot refl);

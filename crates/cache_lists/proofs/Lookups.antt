@@ -1,8 +1,8 @@
 -- What a lookup tells of the state: a key in the ring stands in some place of it, the ready run that a lookup lands on is below the count,
 -- ready and of that key, and what the next step towards a tile says. By the laws of a search. Assumes nothing.
 use Prim.Native.Nat.{ℕ, _<_}
-use mathlib.Core.Path.{_≡_, refl, ap}
-use mathlib.Core.Bool.{Bool, true, false, _&&_, cond}
+use mathlib.Core.Path.{_≡_, refl, sym, ap, _∙_}
+use mathlib.Core.Bool.{Bool, true, false, _&&_, cond, true≢false}
 use native.Mathlib.Omega.{arith}
 use borrow.Author.Tests.{eqb-true, eqb-false, eq-eqb}
 use lib.Dec.{eqb}
@@ -23,9 +23,10 @@ use Rattle.cache.specs.declared.look.Landing.{Landing}
 use Rattle.cache.specs.declared.look.Landing.the-variants as Landing
 use Rattle.cache.specs.declared.next.Next.{Next}
 use Rattle.cache.specs.declared.next.Next.the-variants as Next
+use Rattle.cache.specs.Search.{lowest, isFound}
 use Rattle.cache.specs.Keys.{sameKey, holds, keyAt, inRing, isReady, readyAt}
 use Rattle.cache.specs.Lookups.{landedOn, landsOn, nextRead, nextAt, nextStep}
-use Rattle.cache.proofs.SearchLaws.{lowest-at, lowest-some}
+use Rattle.cache.proofs.SearchLaws.{lowest-at, lowest-none, lowest-some}
 
 -- ---- keys
 
@@ -43,6 +44,14 @@ holds-key (MaybeKey.Key k) key e = ap MaybeKey.Key (same-key k key e)
 holds-key MaybeKey.Nothing key e = let z : _≡_ {A = ℕ} 0 1 = cc in absurd (omega arith)
 
 -- ---- the two searches
+
+-- something is found where a number below the bound has it
+pub lowest-found : (p : ℕ → Bool) (n i : ℕ) → i < n → p i ≡ true → isFound (lowest p n) ≡ true
+lowest-found p n i h t = by (lowest p n) refl
+  where
+    by : (x : Found) → lowest p n ≡ x → isFound x ≡ true
+    by (Found.At j) e = refl
+    by Found.Nothing e = absurd (true≢false (sym t ∙ lowest-none p n e i h))
 
 pub in-ring : (r : Ring) (key : TileKey) {R : Type 0} → inRing r key ≡ true → ((i : ℕ) → keyAt r i ≡ MaybeKey.Key key → R) → R
 unfolding inRing
@@ -87,20 +96,21 @@ NextIs c key (Next.Ready i) = readyAt (c .pages) key ≡ Found.At i
 NextIs c key Next.Missing = inRing (c .missing) key ≡ true
 NextIs c key Next.NoPages = c .pages .count ≡ 0
 NextIs c key Next.Entry = c .pages .count ≡ 0 → ⊥
-NextIs c key (Next.Chunk l) = c .loading ≡ MaybeLoading.Tile l
+NextIs c key (Next.Chunk l) = (c .loading ≡ MaybeLoading.Tile l) × (l .key ≡ key)
 
 pub next-is : (c : Cache) (key : TileKey) → NextIs c key (nextStep c key)
 unfolding nextStep
 next-is c key = at (landsOn c key) (landing c key)
   where
-    tile : (l : Loading) (u : Bool) → (c .pages .count ≡ 0 → ⊥) → c .loading ≡ MaybeLoading.Tile l → NextIs c key (cond u (Next.Chunk l) Next.Entry)
-    tile l true p q = q
-    tile l false p q = p
+    tile : (l : Loading) (u : Bool) → sameKey (l .key) key ≡ u → (c .pages .count ≡ 0 → ⊥) → c .loading ≡ MaybeLoading.Tile l
+        → NextIs c key (cond u (Next.Chunk l) Next.Entry)
+    tile l true e p q = (q, same-key (l .key) key e)
+    tile l false e p q = p
 
     by : (t : Bool) (x : MaybeLoading) → eqb (c .pages .count) 0 ≡ t → c .loading ≡ x → NextIs c key (cond t Next.NoPages (nextRead x key))
     by true x p q = eqb-true (c .pages .count) 0 p
     by false MaybeLoading.Nothing p q = eqb-false (c .pages .count) 0 p
-    by false (MaybeLoading.Tile l) p q = tile l (sameKey (l .key) key) (eqb-false (c .pages .count) 0 p) q
+    by false (MaybeLoading.Tile l) p q = tile l (sameKey (l .key) key) refl (eqb-false (c .pages .count) 0 p) q
 
     at : (x : Landing) → LandingIs c key x → NextIs c key (nextAt x c key)
     at Landing.Missing e = e

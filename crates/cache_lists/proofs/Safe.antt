@@ -18,7 +18,6 @@ use Rattle.pages.proofs.Below.{and-left, and-right}
 use Rattle.pages.proofs.VictimLaws.{victim-is}
 use Rattle.cache.specs.declared.Cache.{Cache}
 use Rattle.cache.specs.declared.Got.{Got}
-use Rattle.cache.specs.declared.Loading.{Loading}
 use Rattle.cache.specs.declared.Clearing.the-variants as Clearing
 use Rattle.cache.specs.declared.Lookup.{Lookup}
 use Rattle.cache.specs.declared.Lookup.the-variants as Lookup
@@ -29,21 +28,18 @@ use Rattle.cache.specs.State.{cleared, cacheOk}
 use Rattle.cache.specs.Calls as Cached
 use Rattle.load.specs.declared.Request.{Request}
 use Rattle.load.specs.declared.Request.the-variants as Request
+use Rattle.load.specs.declared.Progress.the-variants as Progress
 use Rattle.load.specs.Loads.{After, over, refused, fetched, readLen, takes, dropped, chunkLen, stepped}
 use Rattle.load.specs.Calls as Loaded
 use Rattle.tile.specs.Parse.{accepts}
 use Rattle.cache_lists.specs.Lists.{World, Call, capacity, loads, pages, get, fetch, load, loadFrom, clear, found, exec, Along}
-use Rattle.cache_lists.specs.Claims.{ofProgress, Passed, HandedOut, Read, readsOf, reads, bytesOf, TakesOnly, Written, Safe}
-use Rattle.cache_lists.proofs.Steps.{Gets, denied, ringed, unknown, handed, get-is, Came, came-loading, Step, refuses, knows, uses, noPages, fails, lacks, begins, goesOn, readies, spoils, load-is, from-is}
-use Rattle.cache_lists.proofs.Inv.{Loads, Inv, inv-ok, inv-apart, inv-cleared, inv-touched, inv-forgot, inv-dropped, inv-began, inv-further, inv-readied}
+use Rattle.cache_lists.specs.Claims.{ofProgress, Settles, Passed, HandedOut, Read, readsOf, reads, bytesOf, TakesOnly, Written, Safe}
+use Rattle.cache_lists.proofs.Steps.{Gets, denied, ringed, unknown, handed, get-is, came-loading, came-key, Step, refuses, knows, uses, noPages, fails, lacks, begins, goesOn, readies, spoils, load-is, from-is}
+use Rattle.cache_lists.proofs.Inv.{Inv, inv-ok, inv-apart, inv-cleared, inv-touched, inv-forgot, inv-dropped, dropped-load, inv-began, inv-further, inv-readied}
+use Rattle.cache_lists.proofs.Settled.{Settled, ring-settled, touched-settled, forgot-settled, readied-settled}
 use Rattle.cache_lists.proofs.Chunk.{not-written, put-written, ready-kept}
 
 -- ---- the invariant after a call
-
--- the load that a chunk is of
-came-loads : {c : Cache} {arena : List ℕ} {h : Header} {key : TileKey} {failure : ℕ} {bs : List ℕ} {l : Loading}
-    → Inv c → Came c arena h key failure bs (Next.Chunk l) → Loads (c .pages .slots) l
-came-loads f came = rw (came-loading came) at (f .load)
 
 inv-got : {c : Cache} {arena : List ℕ} {h : Header} {key : TileKey} {r : Got} → Inv c → Gets c arena h key r → Inv (r .cache)
 inv-got f (denied n s) = f
@@ -54,15 +50,15 @@ inv-got {c} f (handed i e p) = inv-touched c i f
 inv-step : {c : Cache} {arena : List ℕ} {h : Header} {key : TileKey} {failure : ℕ} {bs : List ℕ} {r : After}
     → Inv c → Step c arena h key failure bs r → Inv (r .cache)
 inv-step f (refuses n s) = f
-inv-step f knows = f
-inv-step {c} f (uses i) = inv-touched c i f
+inv-step f (knows e) = f
+inv-step {c} f (uses i e) = inv-touched c i f
 inv-step {c} {key = key} f (noPages e) = inv-forgot c key f
 inv-step {c} f (fails n) = inv-dropped c f
 inv-step {c} {key = key} f (lacks came s) = inv-forgot (dropped c) key (inv-dropped c f)
 inv-step {c} {h = h} {key = key} {bs = bs} f (begins came offset len slot e s v) =
-    inv-began (dropped c) slot key offset len (inv-dropped c f) (victim-is (dropped c .pages) (span len) slot v .within) (located h bs e .0)
-inv-step {c} f (goesOn l came b) = inv-further c l f (came-loads f came) (l .done + chunkLen l) b
-inv-step {c} f (readies l came b p) = inv-readied c l f (came-loads f came)
+    inv-began (dropped c) slot key offset len (inv-dropped c f) (dropped-load c) (victim-is (dropped c .pages) (span len) slot v .within) (located h bs e .0)
+inv-step {c} f (goesOn l came b) = inv-further c l f (came-loading came) (l .done + chunkLen l) b
+inv-step {c} f (readies l came b p) = inv-readied c l f (came-loading came)
 inv-step {c} f (spoils l came b p) = inv-forgot (dropped c) (l .key) (inv-dropped c f)
 
 pub clear-is : (c : Cache) → Inv c → Cached.clear c ≡ record { answer = Clearing.Done; cache = cleared c }
@@ -169,8 +165,8 @@ takes-call w clear = tt
 written-step : {c : Cache} {arena : List ℕ} {h : Header} {key : TileKey} {failure : ℕ} {bs : List ℕ} {r : After}
     → Step c arena h key failure bs r → Written (c .loading) arena (r .arena)
 written-step {c} {arena} (refuses n s) = not-written (c .loading) arena
-written-step {c} {arena} knows = not-written (c .loading) arena
-written-step {c} {arena} (uses i) = not-written (c .loading) arena
+written-step {c} {arena} (knows e) = not-written (c .loading) arena
+written-step {c} {arena} (uses i e) = not-written (c .loading) arena
 written-step {c} {arena} (noPages e) = not-written (c .loading) arena
 written-step {c} {arena} (fails n) = not-written (c .loading) arena
 written-step {c} {arena} (lacks came s) = not-written (c .loading) arena
@@ -190,12 +186,39 @@ written-call w (load h key failure bs) = written-step (load-is (w .cache) (w .ar
 written-call w (loadFrom h key pack) = written-step (from-is (w .cache) (w .arena) h key pack .goes)
 written-call w clear = not-written _ (w .arena)
 
+-- a step that answers Done leaves its tile ready or known missing
+settled-step : {c : Cache} {arena : List ℕ} {h : Header} {key : TileKey} {failure : ℕ} {bs : List ℕ} {r : After}
+    → Inv c → Step c arena h key failure bs r → r .answer ≡ Progress.Done → Settled (r .cache) key
+settled-step f (refuses n s) q = let z : _≡_ {A = ℕ} 0 1 = cc in absurd (omega arith)
+settled-step {c} {key = key} f (knows e) q = ring-settled c key e
+settled-step {c} {key = key} f (uses i e) q = touched-settled c i key e
+settled-step {c} {key = key} f (noPages e) q = forgot-settled c key f
+settled-step f (fails n) q = let z : _≡_ {A = ℕ} 0 1 = cc in absurd (omega arith)
+settled-step {c} {key = key} f (lacks came s) q = forgot-settled (dropped c) key (inv-dropped c f)
+settled-step f (begins came offset len slot e s v) q = let z : _≡_ {A = ℕ} 0 1 = cc in absurd (omega arith)
+settled-step f (goesOn l came b) q = let z : _≡_ {A = ℕ} 0 1 = cc in absurd (omega arith)
+settled-step {c} f (readies l came b p) q = rw (← came-key came) (readied-settled c l f (came-loading came))
+settled-step {c} f (spoils l came b p) q = rw (← came-key came) (forgot-settled (dropped c) (l .key) (inv-dropped c f))
+
+settled-call : (w : World) (c : Call) → Inv (w .cache) → Settles w c
+unfolding exec
+settled-call w capacity f = tt
+settled-call w loads f = tt
+settled-call w (pages h key) f = tt
+settled-call w (get h key) f = tt
+settled-call w (fetch h key) f = tt
+settled-call w (load h key failure bs) f = λ e. settled-step f (load-is (w .cache) (w .arena) h key failure bs) cc
+settled-call w (loadFrom h key pack) f = λ e. settled-step f (from-is (w .cache) (w .arena) h key pack .goes) cc
+settled-call w clear f = tt
+
 pub safe-along : (cs : List Call) (w : World) → Inv (w .cache) → Along Safe cs w
 unfolding Along
 safe-along [] w f = tt
 safe-along (c ∷ cs) w f =
     let g : Inv (exec c w .world .cache) = inv-call w c f in
     let safe : Safe w c = record {
+      allLive = g .live;
+      settles = settled-call w c f;
       apart = inv-apart (exec c w .world .cache) g;
       handedOut = handed-call w c;
       oneRead = one-read w c;

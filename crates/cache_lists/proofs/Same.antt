@@ -41,7 +41,7 @@ use Rattle.cache_lists.specs.Lists.{World, Call, capacity, loads, pages,
 use Rattle.cache_lists.specs.Claims.{ofCount, ofLookup, ofRequest, ofProgress, Parsed, FairBytes, Fair, SameLook, SameAs, Open}
 use Rattle.cache_lists.proofs.Lookups.{in-ring, ReadyAt, ready-at, next-is}
 use Rattle.cache_lists.proofs.Steps.{Refusal, named, unasked, outside, stale, Gets, denied, ringed, unknown, handed, get-is, Came, came-loading, came-holds, Lacks, none, long, wide, Step, refuses, knows, uses, noPages, fails, lacks, begins, goesOn, readies, spoils, load-is, fetch-came, FetchIs, fetch-is, From, from-is}
-use Rattle.cache_lists.proofs.Inv.{Inv, inv-ok, ready-run}
+use Rattle.cache_lists.proofs.Inv.{Inv, inv-ok, ready-run, dropped-load}
 use Rattle.cache_lists.proofs.Safe.{clear-is, written-call}
 use Rattle.cache_lists.proofs.Direct.{direct-ready, direct-none, direct-entry, at-long, at-wide, at-tile}
 use Rattle.cache_lists.proofs.Kept.{Kept, kept-cleared, kept-touched, kept-forgot, kept-dropped, kept-began, kept-further, kept-readied, kept-spoiled}
@@ -84,8 +84,8 @@ module _ (P : List ℕ) (h : Header) (n : ℕ) (key : TileKey) where
 
       kept-step : {r : After} → Step c arena h key failure bs r → Kept P h n (r .cache) (r .arena)
       kept-step (refuses number s) = k
-      kept-step knows = k
-      kept-step (uses i) = kept-touched P h n c arena i k
+      kept-step (knows e) = k
+      kept-step (uses i e) = kept-touched P h n c arena i k
       kept-step (noPages e) = kept-forgot P h n c arena key (direct-none P h n key (sym (k .count) ∙ e)) k
       kept-step (fails number) = kept-dropped P h n c arena k
       kept-step (lacks came s) =
@@ -94,7 +94,7 @@ module _ (P : List ℕ) (h : Header) (n : ℕ) (key : TileKey) where
       kept-step (begins came offset len slot e s v) =
           let d : Kept P h n (dropped c) arena = kept-dropped P h n c arena k in
           let fits : slot + span len ≤ dropped c .pages .count = victim-is (dropped c .pages) (span len) slot v .within in
-          kept-began P h n (dropped c) arena slot key offset len d fits (located h bs e .0)
+          kept-began P h n (dropped c) arena slot key offset len d (dropped-load c) fits (located h bs e .0)
           (by-entry came ∙ rw e (at-tile P h n key offset len s (omega (arith, d .count))))
       kept-step (goesOn l came b) =
           kept-further P h n c arena l bs k (came-loading came) (came-holds came) (came .size) (chunk-fair came .0) (chunk-fair came .1) b
@@ -146,8 +146,8 @@ module _ (P : List ℕ) (h : Header) (n : ℕ) (key : TileKey) where
 
       open-step : {failure : ℕ} {bs : List ℕ} {r : After} → Step c arena h key failure bs r → ofProgress (r .answer) ≡ 12 → ⊥
       open-step (refuses number s) z = not-12 s z
-      open-step knows z = omega arith
-      open-step (uses i) z = omega arith
+      open-step (knows e) z = omega arith
+      open-step (uses i e) z = omega arith
       open-step (noPages e) z = omega arith
       open-step (fails number) z = omega arith
       open-step (lacks came s) z = omega arith

@@ -92,10 +92,14 @@ pub record Came (c : Cache) (arena : List ℕ) (h : Header) (key : TileKey) (fai
   pub whole : failure ≡ 0
   pub size : length bs ≡ readLen next
 
--- the chunk is of the state's load
+-- the chunk is of the state's load, which is the key's
 pub came-loading : {c : Cache} {arena : List ℕ} {h : Header} {key : TileKey} {failure : ℕ} {bs : List ℕ} {l : Loading}
     → Came c arena h key failure bs (Next.Chunk l) → c .loading ≡ MaybeLoading.Tile l
-came-loading {c} {key = key} came = rw (came .is) at (next-is c key)
+came-loading {c} {key = key} came = (rw (came .is) at (next-is c key)) .0
+
+pub came-key : {c : Cache} {arena : List ℕ} {h : Header} {key : TileKey} {failure : ℕ} {bs : List ℕ} {l : Loading}
+    → Came c arena h key failure bs (Next.Chunk l) → l .key ≡ key
+came-key {c} {key = key} came = (rw (came .is) at (next-is c key)) .1
 
 -- the arena holds the pages
 pub came-holds : {c : Cache} {arena : List ℕ} {h : Header} {key : TileKey} {failure : ℕ} {bs : List ℕ} {next : Next}
@@ -112,8 +116,8 @@ pub data Lacks (d : Cache) : Located → Type 0 where
 pub data Step (c : Cache) (arena : List ℕ) (h : Header) (key : TileKey) (failure : ℕ) (bs : List ℕ) : After → Type 0 where
   refuses : (number : ℕ) → Refusal c arena h key number → Step c arena h key failure bs (over (refused c number) arena)
   -- nothing to read: known missing; ready; no pages
-  knows : Step c arena h key failure bs (over (done c) arena)
-  uses : (i : ℕ) → Step c arena h key failure bs (over (done (touched c i)) arena)
+  knows : inRing (c .missing) key ≡ true → Step c arena h key failure bs (over (done c) arena)
+  uses : (i : ℕ) → readyAt (c .pages) key ≡ Found.At i → Step c arena h key failure bs (over (done (touched c i)) arena)
   noPages : c .pages .count ≡ 0 → Step c arena h key failure bs (over (done (forgot c key)) arena)
   -- the read failed, or its entry is a bad one
   fails : (number : ℕ) → Step c arena h key failure bs (over (failed (dropped c) number) arena)
@@ -186,7 +190,7 @@ module _ (c : Cache) (arena : List ℕ) (h : Header) (key : TileKey) (failure : 
 
     ready-by : (i : ℕ) (t : Bool) → readyAt (c .pages) key ≡ Found.At i → passes arena i (lenAt c i) key (h .tile) ≡ t
         → Goes (over (cond t (done (touched c i)) (refused c 12)) arena)
-    ready-by i true e p = uses i
+    ready-by i true e p = uses i e
     ready-by i false e p = refuses 12 (stale i e p)
 
     entry-by : (t : Bool) → nextStep c key ≡ Next.Entry → fits 8 failure (length bs) ≡ true → eqb failure 0 ≡ t
@@ -202,7 +206,7 @@ module _ (c : Cache) (arena : List ℕ) (h : Header) (key : TileKey) (failure : 
     step-by : (n : Next) → nextStep c key ≡ n → fits (readLen n) failure (length bs) ≡ true → Goes (stepped c n arena h key failure bs)
     unfolding entryStep chunkStep
     step-by (Next.Ready i) e f = ready-by i (passes arena i (lenAt c i) key (h .tile)) (rw e at (next-is c key)) refl
-    step-by Next.Missing e f = knows
+    step-by Next.Missing e f = knows (rw e at (next-is c key))
     step-by Next.NoPages e f = noPages (rw e at (next-is c key))
     step-by Next.Entry e f = entry-by (eqb failure 0) e f refl
     step-by (Next.Chunk l) e f = chunk-by l (eqb failure 0) e f refl

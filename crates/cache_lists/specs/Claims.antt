@@ -11,7 +11,7 @@ use Rattle.pack.specs.Sector.{parse}
 use Rattle.pack.specs.declared.TileKey.{TileKey}
 use Rattle.pack.specs.declared.Header.{Header}
 use Rattle.pack.specs.declared.Answer.the-variants as Sector
-use Rattle.pages.specs.Runs.{slotAt, endOf}
+use Rattle.pages.specs.Runs.{run, slotAt, kindAt, endOf}
 use Rattle.tile.specs.Parse.{accepts}
 use Rattle.cache.specs.declared.Cache.{Cache}
 use Rattle.cache.specs.declared.MaybeLoading.{MaybeLoading}
@@ -22,7 +22,8 @@ use Rattle.cache.specs.declared.Lookup.{Lookup}
 use Rattle.cache.specs.declared.Lookup.the-variants as Lookup
 use Rattle.cache.specs.declared.Clearing.{Clearing}
 use Rattle.cache.specs.declared.Clearing.the-variants as Clearing
-use Rattle.cache.specs.Lookups.{runBytes, lenAt}
+use Rattle.cache.specs.declared.look.Landing.the-variants as Landing
+use Rattle.cache.specs.Lookups.{landsOn, runBytes, lenAt}
 use Rattle.cache.specs.Direct.{Look, ready, missing, absent, stale, direct}
 use Rattle.load.specs.declared.Request.{Request}
 use Rattle.load.specs.declared.Request.the-variants as Request
@@ -148,8 +149,27 @@ abbrev pub KeptBytes : World → Call → Type 0
 KeptBytes w c =
     (i : ℕ) → slotAt (w .cache .pages .slots) i .ready ≡ true → runBytes (exec c w .world .arena) i (lenAt (w .cache) i) ≡ runBytes (w .arena) i (lenAt (w .cache) i)
 
+-- every run is live: none is left behind that is neither ready nor being loaded
+abbrev pub AllLive : Cache → Type 0
+AllLive c = (h : ℕ) → kindAt (c .pages .slots) h ≡ run → Live c h
+
+-- a step that answers Done leaves its tile ready or known missing, as the Rust's `load` says ("true once the tile is ready or known missing")
+abbrev pub Settles : World → Call → Type 0
+Settles w (load h key failure bs) =
+    exec (load h key failure bs) w .answer ≡ stepped Progress.Done → landsOn (exec (load h key failure bs) w .world .cache) key ≡ Landing.Nothing → ⊥
+Settles w (loadFrom h key pack) =
+    exec (loadFrom h key pack) w .answer ≡ stepped Progress.Done → landsOn (exec (loadFrom h key pack) w .world .cache) key ≡ Landing.Nothing → ⊥
+Settles w capacity = Unit
+Settles w loads = Unit
+Settles w (pages h key) = Unit
+Settles w (get h key) = Unit
+Settles w (fetch h key) = Unit
+Settles w clear = Unit
+
 -- of each call
 pub record Safe (w : World) (c : Call) : Type 0 where
+  pub allLive : AllLive (exec c w .world .cache)
+  pub settles : Settles w c
   pub apart : Apart (exec c w .world .cache)
   pub handedOut : HandedOut w c
   pub oneRead : length (reads w c) ≤ 1

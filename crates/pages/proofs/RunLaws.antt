@@ -8,7 +8,7 @@ use mathlib.Core.List.{List}
 use mathlib.Core.Logic.{⊎-elim}
 use native.Mathlib.Omega.{arith}
 use borrow.Author.Tests.{ltb-true, leb-true, eqb-true, lt-ltb, le-leb, eq-eqb}
-use lib.Dec.{ltb, leb}
+use lib.Dec.{ltb, leb, eqb}
 use lib.ListN.{length, List·getD-eq-default}
 use Rattle.pages.specs.declared.Slot.{Slot}
 use Rattle.pages.specs.declared.Pages.{Pages}
@@ -16,8 +16,8 @@ use Rattle.pages.specs.declared.Part.{Part}
 use Rattle.pages.specs.declared.Part.the-variants as Part
 use Rattle.pages.specs.declared.MaybeKey.{MaybeKey}
 use Rattle.pages.specs.declared.MaybeKey.the-variants as MaybeKey
-use Rattle.pages.specs.Runs.{span, emptySlot, slotAt, Kind, bare, run, piece, kindBy, kindAt, endOf, isRun, isPiece, noKey, blank, piecesOk, runOk, pieceOk, kindOk, pageOk, runsOk, RunGood, PieceGood, KindGood, PageGood, Good, Sound}
-use Rattle.pages.proofs.Below.{below-or, and-left, and-right, all-at, all-from}
+use Rattle.pages.specs.Runs.{span, emptySlot, slotAt, Kind, bare, run, piece, kindBy, kindAt, endOf, isRun, isPiece, noKey, blank, piecesOk, runOk, pieceOk, kindOk, pageOk, aloneBy, standsAlone, runsOk, RunGood, PieceGood, KindGood, PageGood, Good, Sound}
+use Rattle.pages.proofs.Below.{below-or, and-left, and-right, all-none, all-at, all-from}
 
 -- ---- spans
 
@@ -159,3 +159,21 @@ module _ (s : List Slot) (count : ℕ) (f : Good s count) where
       by (Part.Of h) b f = f h refl
       by Part.Head (MaybeKey.Key k) f = refl
       by Part.Head MaybeKey.Nothing f = refl
+
+-- ---- a page that stands alone
+
+alone-run : (s : List Slot) (count p : ℕ) → (ltb p count && eqb (span (slotAt s p .len)) 1) ≡ true → runOk s count p ≡ true
+unfolding runOk
+alone-run s count p e =
+    let below : ltb p count ≡ true = and-left (ltb p count) _ e in
+    let one : span (slotAt s p .len) ≡ 1 = eqb-true (span (slotAt s p .len)) 1 (and-right (ltb p count) _ e) in
+    rw (below, one, le-leb 1 (count - p) (omega (arith, ltb-true p count below))) (all-none (λ (i : ℕ). isPiece p (kindAt s (p + 1 + i))))
+
+-- it is as it must be
+pub alone-ok : (s : List Slot) (count p : ℕ) → standsAlone (slotAt s p) p count ≡ true → pageOk s count p ≡ true
+alone-ok s count p = by (kindAt s p)
+  where
+    by : (k : Kind) → aloneBy k (slotAt s p) p count ≡ true → kindOk s count p k ≡ true
+    by run e = alone-run s count p e
+    by (piece h) e = absurd (true≢false (sym e))
+    by bare e = e

@@ -99,6 +99,15 @@ kindOk s count p bare = blank (slotAt s p)
 abbrev pub pageOk : List Slot → ℕ → ℕ → Bool
 pageOk s count p = kindOk s count p (kindAt s p)
 
+-- page p with slot s is as it must be whatever the others are: blank and part of no run, or a run of one page within the count
+abbrev pub aloneBy : Kind → Slot → ℕ → ℕ → Bool
+aloneBy run s p count = ltb p count && eqb (span (s .len)) 1
+aloneBy (piece h) s p count = false
+aloneBy bare s p count = blank s
+
+abbrev pub standsAlone : Slot → ℕ → ℕ → Bool
+standsAlone s p count = aloneBy (kindOf s) s p count
+
 -- the count is at most 96, and each of the 96 pages is as it must be
 abbrev pub runsOk : Pages → Bool
 runsOk g = leb (g .count) 96 && allBelow (pageOk (g .slots) (g .count)) 96

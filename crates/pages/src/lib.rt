@@ -187,17 +187,41 @@ fn page_ok(g: Pages, p: usize) -> bool
     }
 }
 
-// Whether the count is at most `MAX_PAGES` and the runs are well-formed: none overlaps another, passes the count or lacks a part.
+// Whether page `p` with slot `s` is as it must be whatever the others are: blank and part of no run, or a run of one page within the count.
+fn stands_alone(s: Slot, p: usize, count: usize) -> bool
+    ensures { λ r. ⌜ r ≡ Runs.standsAlone s p count ⌝ }
+{
+    let part = s.part;
+    let key = s.key;
+    match part {
+        Part::Of(_) => false,
+        Part::Head => match key {
+            MaybeKey::Nothing => blank(s),
+            MaybeKey::Key(_) => {
+                if count <= p {
+                    return false;
+                }
+                span(s.len) == 1
+            }
+        },
+    }
+}
+
+// Whether the count is at most `MAX_PAGES` and the runs are well-formed: none overlaps another, passes the count or lacks a part. Other pages
+// are looked at only where a run has more than one: that copies no state for the rest.
 pub fn runs_ok(g: Pages) -> bool
     ensures { λ r. ⌜ r ≡ Runs.runsOk g ⌝ }
 {
     if MAX_PAGES < g.count {
         return false;
     }
-    for p in 0..MAX_PAGES {
-        if !page_ok(g, p) {
+    let mut p = 0;
+    while p < MAX_PAGES {
+        let s = g.slots[p];
+        if !stands_alone(s, p, g.count) && !page_ok(g, p) {
             return false;
         }
+        p += 1;
     }
     true
 }
