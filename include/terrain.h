@@ -99,6 +99,10 @@ size_t terrain_cache_replay(const uint8_t *script, size_t script_len, const uint
 /* For timing: the script's last record `times` times, each from the state that the others leave, with no answers written. */
 uint32_t terrain_cache_repeat(const uint8_t *script, size_t script_len, const uint8_t *pack, size_t pack_len, uint8_t *arena, size_t arena_len, uint32_t times);
 
+/* The same two with a fresh matcher beside the cache. */
+size_t terrain_match_replay(const uint8_t *script, size_t script_len, const uint8_t *pack, size_t pack_len, uint8_t *arena, size_t arena_len, uint8_t *out, size_t out_len);
+uint32_t terrain_match_repeat(const uint8_t *script, size_t script_len, const uint8_t *pack, size_t pack_len, uint8_t *arena, size_t arena_len, uint32_t times);
+
 #ifdef __cplusplus
 }
 #endif

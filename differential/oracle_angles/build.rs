@@ -1,8 +1,20 @@
 //! Copies the original to target/terrain_angles, changes its two angle functions, links libabi.a.
+//! The fields of a matcher's and a cache's state are made public, and the matcher counts which of
+//! its ways it takes: neither changes an answer.
 use std::{env, fs, path::Path, path::PathBuf};
 
-const FILES: [&str; 7] =
-    ["cache.rs", "engine.rs", "geo.rs", "matcher.rs", "pack.rs", "predict.rs", "tile.rs"];
+/// A file, and texts of it with what stands in their place.
+type Changes = (&'static str, &'static [(&'static str, &'static str)]);
+
+const FILES: [Changes; 7] = [
+    ("cache.rs", &[SLOT, CACHE]),
+    ("engine.rs", &[(LON_SCALE, LON_SCALE_OF_PORT)]),
+    ("geo.rs", &[(BEARING, BEARING_OF_PORT)]),
+    ("matcher.rs", &[MATCHER, LOST, JOINED, HELD, SWITCHED, PAST, INHERITED, REVERSED, NINTH]),
+    ("pack.rs", &[]),
+    ("predict.rs", &[]),
+    ("tile.rs", &[]),
+];
 
 const BEARING: &str = "    let degrees = libm::atan2f(east, north).to_degrees();
     if degrees < 0.0 {
@@ -11,9 +23,123 @@ const BEARING: &str = "    let degrees = libm::atan2f(east, north).to_degrees();
 /// The port's degrees as a whole; what it refuses goes on to the Rust's own lines.
 const BEARING_OF_PORT: &str = "    let mut degrees = 0.0;
     if crate::terrain_bearing(east, north, &mut degrees) == 0 { return degrees; }
+    let degrees = libm::atan2f(east, north).to_degrees();
+    if degrees < 0.0 {
+        degrees + 360.0
 ";
 const LON_SCALE: &str = "(geo::LAT_UM * libm::cosf((lat as f32 * 1e-6).to_radians())) as u32";
 const LON_SCALE_OF_PORT: &str = "crate::terrain_lon_scale_um(lat)";
+
+const SLOT: (&str, &str) = (
+    "struct Slot {
+    key: Option<TileKey>,
+    len: usize,
+    ready: bool,
+    /// For a continuation page, the tile's first page.
+    part_of: Option<usize>,
+}",
+    "pub struct Slot {
+    pub key: Option<TileKey>,
+    pub len: usize,
+    pub ready: bool,
+    /// For a continuation page, the tile's first page.
+    pub part_of: Option<usize>,
+}",
+);
+
+const CACHE: (&str, &str) = (
+    "    slots: [Slot; MAX_PAGES],
+    used: [Cell<u32>; MAX_PAGES],
+    count: usize,
+    missing: [Option<TileKey>; MISSING],
+    next_missing: usize,
+    clock: Cell<u32>,
+",
+    "    pub slots: [Slot; MAX_PAGES],
+    pub used: [Cell<u32>; MAX_PAGES],
+    pub count: usize,
+    pub missing: [Option<TileKey>; MISSING],
+    next_missing: usize,
+    pub clock: Cell<u32>,
+",
+);
+
+const MATCHER: (&str, &str) = (
+    "    current: Option<Matched>,
+    challenger: Option<(TileId, u16, u8)>,
+    misses: u8,
+    /// Where along the matched edge the rider's run in its direction began:
+    /// the `along_m` of the match onto the edge or of the reversal.
+    run_from_m: f32,
+",
+    "    pub current: Option<Matched>,
+    pub challenger: Option<(TileId, u16, u8)>,
+    pub misses: u8,
+    /// Where along the matched edge the rider's run in its direction began:
+    /// the `along_m` of the match onto the edge or of the reversal.
+    pub run_from_m: f32,
+",
+);
+
+const LOST: (&str, &str) = (
+    "            if self.misses >= LOST_FIXES {
+",
+    "            if self.misses >= LOST_FIXES {
+                crate::met(0, self.current.is_some());
+",
+);
+const JOINED: (&str, &str) = (
+    "                // Past the junction at the end of the current edge.
+",
+    "                crate::met(1, true);
+",
+);
+const HELD: (&str, &str) = (
+    "                if count < SWITCH_FIXES {
+",
+    "                if count < SWITCH_FIXES {
+                    crate::met(2, true);
+",
+);
+const SWITCHED: (&str, &str) = (
+    "                } else {
+                    self.challenger = None;
+",
+    "                } else {
+                    crate::met(3, true);
+                    self.challenger = None;
+",
+);
+const PAST: (&str, &str) = (
+    "            chosen = *on;
+",
+    "            chosen = *on;
+            crate::met(4, true);
+",
+);
+const INHERITED: (&str, &str) = (
+    "            found.forward = previous.forward;
+",
+    "            found.forward = previous.forward;
+            crate::met(5, found.forward.is_some());
+",
+);
+const REVERSED: (&str, &str) = (
+    "        if !same_run {
+",
+    "        if !same_run {
+            crate::met(6, previous.is_some_and(|p| p.tile == found.tile && p.edge == found.edge));
+",
+);
+const NINTH: (&str, &str) = (
+    "        (value > candidate.cost).then_some(worst)
+",
+    "        crate::met(7, value == candidate.cost);
+        crate::met(8, value > candidate.cost);
+        crate::met(9, value < candidate.cost);
+        (value > candidate.cost).then_some(worst)
+",
+);
 
 /// `old` has to stand in `text` exactly once: another original needs another look at the change.
 fn changed(file: &str, text: &str, old: &str, new: &str) -> String {
@@ -26,15 +152,11 @@ fn main() {
     let differential = Path::new(env!("CARGO_MANIFEST_DIR")).join("..");
     let copies = differential.join("target/terrain_angles");
     fs::create_dir_all(&copies).expect("target/terrain_angles can be made");
-    for file in FILES {
+    for (file, changes) in FILES {
         let source = differential.join("target/terrain").join(file);
         println!("cargo:rerun-if-changed={}", source.display());
         let text = fs::read_to_string(source).expect(file);
-        let text = match file {
-            "geo.rs" => changed(file, &text, BEARING, &format!("{BEARING_OF_PORT}{BEARING}")),
-            "engine.rs" => changed(file, &text, LON_SCALE, LON_SCALE_OF_PORT),
-            _ => text,
-        };
+        let text = changes.iter().fold(text, |text, (old, new)| changed(file, &text, old, new));
         fs::write(copies.join(file), text).expect(file);
     }
     let library = env::var_os("ABI_LIB_DIR")

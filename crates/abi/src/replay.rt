@@ -21,3 +21,25 @@ pub extern "C" fn terrain_cache_repeat(
 ) -> u32 {
     cache_replay::repeated(script, pack, arena, times)
 }
+
+// Runs a script of calls on a matcher and its cache; the bytes of answers that it wrote.
+#[no_mangle]
+pub extern "C" fn terrain_match_replay(
+    script: &[u8],
+    pack: &[u8],
+    arena: &mut [u8],
+    out: &mut [u8],
+) -> usize {
+    match_replay::run(script, pack, arena, out)
+}
+
+// As for the cache.
+#[no_mangle]
+pub extern "C" fn terrain_match_repeat(
+    script: &[u8],
+    pack: &[u8],
+    arena: &mut [u8],
+    times: u32,
+) -> u32 {
+    match_replay::repeated(script, pack, arena, times)
+}

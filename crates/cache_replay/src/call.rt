@@ -22,7 +22,7 @@ pub fn told(how: u32) -> Told {
 }
 
 // An end that has a number beside it.
-fn numbered(how: u32, number: u32) -> Told {
+pub fn numbered(how: u32, number: u32) -> Told {
     Told {
         how,
         first: number,

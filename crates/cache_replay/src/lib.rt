@@ -47,7 +47,7 @@ fn sector(pack: &[u8]) -> [u8; 512] {
 }
 
 // A fresh cache over the arena, with the pack's header.
-fn begun(pack: &[u8], arena: &[u8]) -> Session {
+pub fn begun(pack: &[u8], arena: &[u8]) -> Session {
     let cache = Cache::new(arena);
     let first = sector(pack);
     let parsed = Header::parse(&first);
@@ -69,7 +69,7 @@ fn called(s: Session, kind: u32, record: &[u8], pack: &[u8], arena: &mut [u8]) -
 }
 
 // One record. A call sees what is lent of the arena, the kinds that set up states all of it.
-fn taken(s: Session, record: &[u8], pack: &[u8], arena: &mut [u8]) -> Stepped {
+pub fn taken(s: Session, record: &[u8], pack: &[u8], arena: &mut [u8]) -> Stepped {
     let kind = words::word(record, 0);
     if kind < 16 {
         return called(s, kind, record, pack, arena);

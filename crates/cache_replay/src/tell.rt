@@ -12,7 +12,7 @@ use pages::Pages;
 use pages::Part;
 use pages::Slot;
 
-fn ending(told: Told, out: &mut [u8]) {
+pub fn ending(told: Told, out: &mut [u8]) {
     words::put(out, 0, told.how);
     words::put(out, 1, told.first);
     words::put(out, 2, told.second);

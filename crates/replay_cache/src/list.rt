@@ -88,13 +88,21 @@ fn agrees(answer: &[u8], wanted: &[u8]) -> bool {
     crc::crc32(answer) == word(wanted, 4)
 }
 
+// Answer `i` of a case; those of a matcher are shorter.
+fn answer(out: &[u8], i: u32, of_matcher: bool) -> &[u8] {
+    if of_matcher {
+        return part(out, (i as u64) * 256, 256);
+    }
+    part(out, (i as u64) * 1884, 1884)
+}
+
 // How many of the answers differ from what is wanted of them.
-fn wrong(out: &[u8], wanted: &[u8], records: u32) -> u64 {
+fn wrong(out: &[u8], wanted: &[u8], records: u32, of_matcher: bool) -> u64 {
     let mut wrong: u64 = 0;
     let mut i: u32 = 0;
     while i < records {
-        let answer = part(out, (i as u64) * 1884, 1884);
-        if !agrees(answer, part(wanted, (i as u64) * 20, 20)) {
+        let one = answer(out, i, of_matcher);
+        if !agrees(one, part(wanted, (i as u64) * 20, 20)) {
             wrong = std::num::wrapping_add_u64(wrong, 1);
         }
         i += 1;
@@ -102,11 +110,14 @@ fn wrong(out: &[u8], wanted: &[u8], records: u32) -> u64 {
     wrong
 }
 
-// Runs a script over an arena of `len` bytes that `byte` fills.
-fn ran(script: &[u8], pack: &[u8], len: usize, byte: u8, out: &mut [u8]) -> usize {
-    let mut arena = [byte; ARENA];
+// Runs a script over an arena of `len` bytes that `how` tells: the byte that fills it, and 256 more where the script is for a matcher.
+fn ran(script: &[u8], pack: &[u8], len: usize, how: u32, out: &mut [u8]) -> usize {
+    let mut arena = [(how % 256) as u8; ARENA];
     if ARENA < len {
         return 0;
+    }
+    if 256 <= how {
+        return match_replay::run(script, pack, &mut arena[0..len], out);
     }
     cache_replay::run(script, pack, &mut arena[0..len], out)
 }
@@ -117,10 +128,10 @@ fn differing(case: &[u8], pack: &[u8], records: u32) -> u64 {
     let script = part(case, 16, n * 24);
     let wanted = part(case, 16 + (records as u64) * 24, n * 20);
     let lent = part(pack, 0, word(case, 3) as usize);
-    let byte = (word(case, 2) % 256) as u8;
+    let how = word(case, 2);
     let mut out = [0u8; OUT];
-    let len = ran(script, lent, word(case, 1) as usize, byte, &mut out);
-    wrong(part(&out, 0, len), wanted, records)
+    let len = ran(script, lent, word(case, 1) as usize, how, &mut out);
+    wrong(part(&out, 0, len), wanted, records, 256 <= how)
 }
 
 fn cases(list: &[u8], pack: &[u8]) -> Tally {

@@ -6,6 +6,18 @@ const MARK: u8 = 0xa7;
 /// Bytes beside what is lent.
 const BESIDE: usize = 64;
 
+type Replay = unsafe extern "C" fn(
+    *const u8,
+    usize,
+    *const u8,
+    usize,
+    *mut u8,
+    usize,
+    *mut u8,
+    usize,
+) -> usize;
+type Repeat = unsafe extern "C" fn(*const u8, usize, *const u8, usize, *mut u8, usize, u32) -> u32;
+
 unsafe extern "C" {
     fn terrain_cache_replay(
         script: *const u8,
@@ -26,6 +38,25 @@ unsafe extern "C" {
         arena_len: usize,
         times: u32,
     ) -> u32;
+    fn terrain_match_replay(
+        script: *const u8,
+        script_len: usize,
+        pack: *const u8,
+        pack_len: usize,
+        arena: *mut u8,
+        arena_len: usize,
+        out: *mut u8,
+        out_len: usize,
+    ) -> usize;
+    fn terrain_match_repeat(
+        script: *const u8,
+        script_len: usize,
+        pack: *const u8,
+        pack_len: usize,
+        arena: *mut u8,
+        arena_len: usize,
+        times: u32,
+    ) -> u32;
 }
 
 /// What a script answers, and the arena after it.
@@ -37,16 +68,26 @@ pub struct Replayed {
     pub alone: bool,
 }
 
-/// Lends room for as many answers as the script has records, and looks at what lies beside it.
+/// A script on a cache.
 pub fn replay(script: &[Record], pack: &[u8], arena: &[u8]) -> Replayed {
+    replayed(terrain_cache_replay, ANSWER, script, pack, arena)
+}
+
+/// A script on a matcher and its cache.
+pub fn replay_matches(script: &[Record], pack: &[u8], arena: &[u8]) -> Replayed {
+    replayed(terrain_match_replay, 64, script, pack, arena)
+}
+
+/// Lends room for as many answers as the script has records, and looks at what lies beside it.
+fn replayed(run: Replay, answer: usize, script: &[Record], pack: &[u8], arena: &[u8]) -> Replayed {
     let script = bytes(script);
-    let (arena_len, out_len) = (arena.len(), script.len() / 24 * ANSWER * 4);
+    let (arena_len, out_len) = (arena.len(), script.len() / 24 * answer * 4);
     let marks = [MARK; BESIDE];
     let mut around = [&marks, arena, &marks].concat();
     let mut out = vec![MARK; out_len + 2 * BESIDE];
     // SAFETY: pointers and lengths are the slices', and no two overlap.
     let wrote = unsafe {
-        terrain_cache_replay(
+        run(
             script.as_ptr(),
             script.len(),
             pack.as_ptr(),
@@ -68,9 +109,17 @@ pub fn replay(script: &[Record], pack: &[u8], arena: &[u8]) -> Replayed {
 
 /// The script's last record `times` times, each from the state that the others leave.
 pub fn repeat(script: &[u8], pack: &[u8], arena: &mut [u8], times: u32) -> u32 {
+    repeated(terrain_cache_repeat, script, pack, arena, times)
+}
+
+pub fn repeat_matches(script: &[u8], pack: &[u8], arena: &mut [u8], times: u32) -> u32 {
+    repeated(terrain_match_repeat, script, pack, arena, times)
+}
+
+fn repeated(run: Repeat, script: &[u8], pack: &[u8], arena: &mut [u8], times: u32) -> u32 {
     // SAFETY: as above.
     unsafe {
-        terrain_cache_repeat(
+        run(
             script.as_ptr(),
             script.len(),
             pack.as_ptr(),

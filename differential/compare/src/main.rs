@@ -23,6 +23,7 @@ mod format;
 mod geometry;
 mod list;
 mod list_format;
+mod matching;
 mod numbers;
 mod packs;
 mod panics;
@@ -45,10 +46,19 @@ pub struct Scale {
     packs: u64,
     /// What the numbers of scripts go by.
     cache: u64,
+    /// Networks that are ridden on.
+    matches: u64,
 }
 
-const GATE: Scale =
-    Scale { threads: 1, every: false, random: 10_000_000, crc_len: 512, packs: 1_000, cache: 200 };
+const GATE: Scale = Scale {
+    threads: 1,
+    every: false,
+    random: 10_000_000,
+    crc_len: 512,
+    packs: 1_000,
+    cache: 200,
+    matches: 3_000,
+};
 const FULL: Scale = Scale {
     threads: 2,
     every: true,
@@ -56,11 +66,12 @@ const FULL: Scale = Scale {
     crc_len: 4_096,
     packs: 20_000,
     cache: 8_000,
+    matches: 20_000,
 };
 
 fn compare(scale: &Scale) -> Vec<Tally> {
     let leaves = [numbers::compare(scale), crc::compare(scale), angles::compare(scale)];
-    let rest = [format_and_geometry(scale), cache::compare(scale)];
+    let rest = [format_and_geometry(scale), cache::compare(scale), matching::compare(scale)];
     leaves.into_iter().chain(rest).flatten().collect()
 }
 
@@ -78,14 +89,17 @@ fn main() -> ExitCode {
         }
         ["gate", "cache"] => cache::compare(&GATE),
         ["full", "cache"] => cache::compare(&FULL),
+        ["gate", "matching"] => matching::compare(&GATE),
+        ["full", "matching"] => matching::compare(&FULL),
         ["bench"] => bench::run(),
         ["list", file] => list::write(file),
         ["list_format", file] => list_format::write(file),
         ["list_cache", file] => cache::list::write(file),
+        ["list_matches", file] => matching::list::write(file),
         ["panics"] => panics::print(),
         _ => {
             eprintln!(
-                "usage: run [gate [cache] | full [format | cache] | bench | panics | list FILE | list_format FILE | list_cache FILE]"
+                "usage: run [gate [cache | matching] | full [format | cache | matching] | bench | panics | list FILE | list_format FILE | list_cache FILE | list_matches FILE]"
             );
             return ExitCode::from(2);
         }

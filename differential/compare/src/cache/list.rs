@@ -14,7 +14,7 @@ const BLOCK: usize = 65_536;
 /// What the program has room for: a pack, an arena, the answers of a case.
 const PACK: usize = 262_144;
 const ARENA: usize = 147_456;
-const RECORDS: usize = 262_144 / (4 * ANSWER);
+const OUT: usize = 262_144;
 /// Endings that the list has to have, and their numbers.
 const NUMBERS: [(u32, &[u32]); 2] = [(FAILED, &[1, 2, 4]), (REFUSED, &[9, 11, 12])];
 
@@ -45,37 +45,48 @@ fn told(pack: &[u8]) -> Vec<u8> {
     bytes
 }
 
-/// A case's bytes. Its arena is filled with one byte.
-fn case_bytes(case: &Case) -> Vec<u8> {
-    let (len, byte) = (case.arena.len() as u32, case.arena.first().copied().unwrap_or(0));
-    assert!(case.arena.iter().all(|&other| other == byte) && case.arena.len() <= ARENA);
-    assert!(case.script.len() <= RECORDS && case.pack.len() <= PACK, "{}", case.pack.len());
-    let mut bytes = le(&[case.script.len() as u32, len, byte.into(), case.pack.len() as u32]);
-    bytes.extend(super::script::bytes(&case.script));
-    for answer in &case.answers {
-        bytes.extend(le(&answer[..4]));
-        bytes.extend(le(&[crc32(&le(answer))]));
+/// A case as the list keeps it. The mark says whose scripts they are: 0 the cache's.
+pub struct Filed<'c> {
+    pub pack: &'c [u8],
+    pub arena: &'c [u8],
+    pub script: &'c [Record],
+    pub answers: Vec<Vec<u32>>,
+    pub mark: u32,
+}
+
+impl Filed<'_> {
+    /// Its arena is filled with one byte.
+    fn bytes(&self) -> Vec<u8> {
+        let (len, byte) = (self.arena.len() as u32, self.arena.first().copied().unwrap_or(0));
+        assert!(self.arena.iter().all(|&other| other == byte) && self.arena.len() <= ARENA);
+        let room: usize = self.answers.iter().map(|answer| 4 * answer.len()).sum();
+        assert!(room <= OUT && self.pack.len() <= PACK, "{room}, {}", self.pack.len());
+        let how = self.mark + u32::from(byte);
+        let mut bytes = le(&[self.script.len() as u32, len, how, self.pack.len() as u32]);
+        bytes.extend(super::script::bytes(self.script));
+        for answer in &self.answers {
+            bytes.extend(le(&answer[..4]));
+            bytes.extend(le(&[crc32(&le(answer))]));
+        }
+        bytes
     }
-    bytes
 }
 
 /// Blocks of cases on one pack each.
-struct List {
-    bytes: Vec<u8>,
-    answers: usize,
-    tallies: Vec<Tally>,
+#[derive(Default)]
+pub struct Blocks {
+    pub bytes: Vec<u8>,
+    pub answers: usize,
 }
 
-impl List {
+impl Blocks {
     /// As many blocks as the cases take; each but the last is filled up.
-    fn put(&mut self, name: &str, pack: &Pack, cases: &[Case]) {
-        let mut tally = Tally::new(name);
-        let told = told(&pack.bytes);
+    pub fn put(&mut self, pack: &[u8], cases: &[Filed]) {
+        let told = told(pack);
         let mut block = told.clone();
         for case in cases {
-            case.count(&mut tally, name);
             self.answers += case.answers.len();
-            let bytes = case_bytes(case);
+            let bytes = case.bytes();
             if block.len() + bytes.len() + 4 > BLOCK {
                 self.end(&block);
                 block.clone_from(&told);
@@ -83,7 +94,6 @@ impl List {
             block.extend(bytes);
         }
         self.end(&block);
-        self.tallies.push(tally);
     }
 
     fn end(&mut self, block: &[u8]) {
@@ -91,6 +101,29 @@ impl List {
         self.bytes.resize(self.bytes.len().next_multiple_of(BLOCK), 0);
         self.bytes.extend(block);
         self.bytes.extend([0; 4]);
+    }
+}
+
+/// The list under way, and what the library answered.
+#[derive(Default)]
+struct List {
+    blocks: Blocks,
+    tallies: Vec<Tally>,
+}
+
+impl List {
+    fn put(&mut self, name: &str, pack: &Pack, cases: &[Case]) {
+        let mut tally = Tally::new(name);
+        cases.iter().for_each(|case| case.count(&mut tally, name));
+        let filed = cases.iter().map(|case| Filed {
+            pack: &case.pack,
+            arena: &case.arena,
+            script: &case.script,
+            answers: case.answers.iter().map(|answer| answer.to_vec()).collect(),
+            mark: 0,
+        });
+        self.blocks.put(&pack.bytes, &filed.collect::<Vec<_>>());
+        self.tallies.push(tally);
     }
 }
 
@@ -125,7 +158,7 @@ fn ring(random: &mut Random, pack: &Pack) -> Case {
 }
 
 pub fn write(file: &str) -> Vec<Tally> {
-    let (mut list, random) = (List { bytes: vec![], answers: 0, tallies: vec![] }, &mut Random(0));
+    let (mut list, random) = (List::default(), &mut Random(0));
     let pack = packs::patterned(refusals::pack());
     let rows: Vec<Case> = refusals::rows(&pack).into_iter().map(|(_, case)| case).collect();
     // One row has a pack of its own.
@@ -146,7 +179,8 @@ pub fn write(file: &str) -> Vec<Tally> {
         };
         assert!(numbers.iter().all(met), "not every number of {numbers:?}");
     }
-    fs::write(file, &list.bytes).unwrap_or_else(|error| panic!("{file}: {error}"));
-    println!("{} answers in {} bytes", list.answers, list.bytes.len());
+    let blocks = list.blocks;
+    fs::write(file, &blocks.bytes).unwrap_or_else(|error| panic!("{file}: {error}"));
+    println!("{} answers in {} bytes", blocks.answers, blocks.bytes.len());
     list.tallies
 }

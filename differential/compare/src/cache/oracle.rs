@@ -97,15 +97,19 @@ impl<'a> Oracle<'a> {
     }
 
     pub fn answer(&mut self, record: &Record) -> Answer {
-        let ending = match record[0] {
+        let ending = self.ending(record);
+        self.told(ending)
+    }
+
+    pub fn ending(&mut self, record: &Record) -> Ending {
+        match record[0] {
             1..=15 => self.call(record),
             16..=27 => {
                 self.set(record);
                 ends(0)
             }
             _ => ends(OTHER),
-        };
-        self.told(ending)
+        }
     }
 
     pub fn in_grid(&self, key: TileKey) -> bool {

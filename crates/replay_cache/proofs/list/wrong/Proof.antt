@@ -5,13 +5,16 @@ use Rattle.replay_cache.proofs.list.wrong.Statement.{statement}
 use Rattle.replay_cache.proofs.list.wrong.Tie as tie
 
 abbrev Inv-loop : tie.InvT-loop
-Inv-loop out wanted records wrong₀ i₀ wrong i = i ≤ records
+Inv-loop out wanted records of_matcher wrong₀ i₀ wrong i = i ≤ records
 
 abbrev μ-loop : tie.MeasureT-loop
-μ-loop out wanted records wrong₀ i₀ wrong i = records - i
+μ-loop out wanted records of_matcher wrong₀ i₀ wrong i = records - i
 
 loop-holds : tie.Need-loop-holds Inv-loop μ-loop
 loop-holds c = search needs
+
+answer-requires : tie.Need-answer-requires Inv-loop μ-loop
+answer-requires c κs = search needs
 
 cast-part : tie.Need-cast-part Inv-loop μ-loop
 cast-part c = search needs
@@ -21,15 +24,6 @@ mul-part c = search needs
 
 part-requires : tie.Need-part-requires Inv-loop μ-loop
 part-requires c κs = search needs
-
-cast-part-2 : tie.Need-cast-part-2 Inv-loop μ-loop
-cast-part-2 c = search needs
-
-mul-part-2 : tie.Need-mul-part-2 Inv-loop μ-loop
-mul-part-2 c = search needs
-
-part-requires-2 : tie.Need-part-requires-2 Inv-loop μ-loop
-part-requires-2 c κs = search needs
 
 agrees-requires : tie.Need-agrees-requires Inv-loop μ-loop
 agrees-requires c κs = search needs
@@ -56,12 +50,10 @@ wrong-spec =
     Inv-loop
     μ-loop
     loop-holds
+    answer-requires
     cast-part
     mul-part
     part-requires
-    cast-part-2
-    mul-part-2
-    part-requires-2
     agrees-requires
     wrapping-add-u64-requires
     add-i

@@ -1,0 +1,19 @@
+-- `figures::float` is safe: a pattern up to the infinity's, its sign aside, is no NaN's. Assumes nothing.
+use lib.Ieee.{binary32}
+use lib.Ieee.Bits.{nanBits-above}
+use borrow.Author.Tests.{le-ltb}
+use borrow.Author.Needs.{needs}
+use Rattle.match_replay.proofs.figures.float.Statement.{statement}
+use Rattle.match_replay.proofs.figures.float.Tie as tie
+
+returns : tie.Need-returns
+returns c = search needs
+
+float-from-bits-result : tie.Need-float-from-bits-result
+float-from-bits-result c = rw (nanBits-above binary32 (c .before .args .pattern), le-ltb 2139095040 _ (c .if1 .left)) tt
+
+returns-2 : tie.Need-returns-2
+returns-2 c = search needs
+
+pub float-spec : {M : Type 1} → statement M
+float-spec = tie.close (tie.spec returns float-from-bits-result returns-2)

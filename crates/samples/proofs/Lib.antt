@@ -1,0 +1,5 @@
+-- Laws of the samples, for their proofs.
+-- Literals: the figures that the code writes as literals. Signed: a difference of two i32 fits 64 bits. Turns: the turns of `push`.
+pub mod Literals
+pub mod Signed
+pub mod Turns

@@ -1,0 +1,2 @@
+-- An elevation every 20 m of road.
+pub mod Samples
