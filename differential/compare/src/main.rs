@@ -57,7 +57,7 @@ const GATE: Scale = Scale {
     crc_len: 512,
     packs: 1_000,
     cache: 200,
-    matches: 3_000,
+    matches: 2_000,
 };
 const FULL: Scale = Scale {
     threads: 2,
