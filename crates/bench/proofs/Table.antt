@@ -6,10 +6,12 @@ use Rattle.num.specs.Root.{rootIn, wholeRoot, nearRoot, squareRoot}
 use Rattle.pack.specs.Grid.{keyOf, checkedOf, entryOf}
 use Rattle.pages.specs.Runs.{span}
 use Rattle.pages.specs.Victim.{age, leastOf, bestOf}
+use Rattle.num.specs.Fold.{upTo}
+use Rattle.ways.specs.Twins.{push, twinStep, twinsTo}
 use Rattle.bench.specs.Lines.{Lines}
 
 pub lines : Lines
-unfolding add lower divide remainder zeros bits number message fcs crc32 ofInt rootIn wholeRoot nearRoot squareRoot ofBits toBits units keyOf checkedOf entryOf span age leastOf bestOf
+unfolding add lower divide remainder zeros bits number message fcs crc32 ofInt rootIn wholeRoot nearRoot squareRoot ofBits toBits units keyOf checkedOf entryOf span age leastOf bestOf upTo push twinStep twinsTo
 lines = record {
   crc-of-digits = refl;
   crc-of-nothing = refl;
@@ -28,4 +30,5 @@ lines = record {
   pages-of-six = refl;
   one-wanted = refl;
   five-wanted = refl;
+  corner-twins = refl;
 }

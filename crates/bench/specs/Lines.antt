@@ -5,7 +5,7 @@ use mathlib.Core.Path.{_≡_}
 use mathlib.Core.Bool.{false}
 use mathlib.Core.List.{[], _∷_}
 use lib.ListN.{replicate}
-use lib.IntN.{pos, negsuc}
+use lib.IntN.{ℤ, pos, negsuc}
 use lib.Ieee.{fin, binary32, ofInt, ofBits, toBits}
 use Rattle.crc.specs.Fcs.{crc32}
 use Rattle.num.specs.Root.{squareRoot}
@@ -18,6 +18,8 @@ use Rattle.pages.specs.Runs.{span, emptySlot}
 use Rattle.pages.specs.Victim.{victim}
 use Rattle.pages.specs.declared.Pages.{Pages}
 use Rattle.pages.specs.declared.victim.Found.the-variants as Found
+use Rattle.ways.specs.Twins.{noTwin, boundaryTwins}
+use Rattle.ways.specs.declared.twins.Twin.{Twin}
 
 -- a header with these grid fields and all others 0
 abbrev gridOf : ℕ → ℕ → ℕ → ℕ → Header
@@ -47,6 +49,9 @@ twoRows = gridOf 1000 2 1 512
 abbrev fourEmpty : Pages
 fourEmpty = record { slots = replicate 96 emptySlot; used = replicate 96 0; count = 4; clock = 0 }
 
+abbrev twin : ℤ → ℤ → ℕ → ℕ → Twin
+twin row col x y = record { row = row; col = col; x = x; y = y }
+
 pub record Lines : Type 0 where
   -- CRC of ASCII 123456789; of no bytes
   pub crc-of-digits : crc32 (49 ∷ 50 ∷ 51 ∷ 52 ∷ 53 ∷ 54 ∷ 55 ∷ 56 ∷ 57 ∷ []) ≡ 0xcbf43926
@@ -73,3 +78,6 @@ pub record Lines : Type 0 where
   -- 4 empty pages, 1 wanted and 5 wanted
   pub one-wanted : victim fourEmpty 1 ≡ Found.At 0
   pub five-wanted : victim fourEmpty 5 ≡ Found.Nothing
+  -- the tiles that share the point 0, 0 of a tile of size 1,000, by steps in rows and columns, and where it stands there
+  pub corner-twins : boundaryTwins 0 0 1000
+      ≡ record { v = twin (pos 0) (negsuc 0) 1000 0 ∷ twin (negsuc 0) (pos 0) 0 1000 ∷ twin (negsuc 0) (negsuc 0) 1000 1000 ∷ replicate 5 noTwin; len = 3 }
