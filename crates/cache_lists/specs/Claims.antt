@@ -3,7 +3,7 @@
 -- them. Assumes nothing.
 use Prim.Native.Nat.{ℕ, _+_, _*_, _<_, _≤_}
 use mathlib.Core.Path.{_≡_}
-use mathlib.Core.Bool.{Bool, true, false}
+use mathlib.Core.Bool.{true}
 use mathlib.Core.List.{List, [], _∷_}
 use mathlib.Core.Logic.{_⊎_}
 use lib.ListN.{length, take, drop, getD}
@@ -24,7 +24,7 @@ use Rattle.cache.specs.declared.Clearing.{Clearing}
 use Rattle.cache.specs.declared.Clearing.the-variants as Clearing
 use Rattle.cache.specs.declared.look.Landing.the-variants as Landing
 use Rattle.cache.specs.Lookups.{landsOn, runBytes, lenAt}
-use Rattle.cache.specs.Direct.{Look, ready, missing, absent, stale, direct}
+use Rattle.cache.specs.Direct.{Look, ready, missing, direct}
 use Rattle.load.specs.declared.Request.{Request}
 use Rattle.load.specs.declared.Request.the-variants as Request
 use Rattle.load.specs.declared.Progress.{Progress}
