@@ -1,0 +1,12 @@
+-- `ages::aged` meets its contract: clock and ages alone are stored. Assumes nothing.
+use mathlib.Core.Path.{refl}
+use Rattle.ages.specs.Ages.{aged}
+use Rattle.ages.proofs.aged.Statement.{statement}
+use Rattle.ages.proofs.aged.Tie as tie
+
+returns : tie.Need-returns
+unfolding aged
+returns c = refl
+
+pub aged-spec : {M : Type 1} → statement M
+aged-spec = tie.close (tie.spec returns)
