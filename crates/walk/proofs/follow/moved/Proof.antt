@@ -1,0 +1,12 @@
+-- `walk::follow::moved` meets its contract: the fields as they were, but for the track. Assumes nothing.
+use mathlib.Core.Path.{refl}
+use Rattle.walk.specs.Walk.{moved}
+use Rattle.walk.proofs.follow.moved.Statement.{statement}
+use Rattle.walk.proofs.follow.moved.Tie as tie
+
+returns : tie.Need-returns
+unfolding moved
+returns c = refl
+
+pub moved-spec : {M : Type 1} → statement M
+moved-spec = tie.close (tie.spec returns)

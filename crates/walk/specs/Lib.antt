@@ -1,0 +1,2 @@
+-- Following the road ahead.
+pub mod Walk
