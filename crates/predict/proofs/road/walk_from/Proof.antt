@@ -1,0 +1,46 @@
+-- `predict::road::walk_from` meets its contract: by the answers of its callees, with the literals read as whole numbers. Assumes nothing.
+use Rattle.geo.proofs.Literals.{literal-0}
+use Rattle.predict.specs.Predict.{walkFrom}
+use Rattle.predict.proofs.Literals.{literal-100}
+use Rattle.predict.proofs.road.walk_from.Statement.{statement}
+use Rattle.predict.proofs.road.walk_from.Tie as tie
+
+first-requires : tie.Need-first-requires
+first-requires c κs = tt
+
+nothing-visited-requires : tie.Need-nothing-visited-requires
+nothing-visited-requires c κs = tt
+
+nothing-met-requires : tie.Need-nothing-met-requires
+nothing-met-requires c κs = tt
+
+first-of-requires : tie.Need-first-of-requires
+first-of-requires c κs = tt
+
+f32-of-u8-requires : tie.Need-f32-of-u8-requires
+f32-of-u8-requires c κs = tt
+
+returns : tie.Need-returns
+unfolding walkFrom
+returns c =
+    let met = c .before .before in
+    rw (
+      c .f32-of-u8 .ensures,
+      c .before .first-of .ensures,
+      met .nothing-met .ensures,
+      met .before .nothing-visited .ensures,
+      met .before .before .first .ensures,
+      literal-0,
+      literal-100,
+    )
+
+pub walk-from-spec : {M : Type 1} → statement M
+walk-from-spec =
+    tie.close
+    (tie.spec
+    first-requires
+    nothing-visited-requires
+    nothing-met-requires
+    first-of-requires
+    f32-of-u8-requires
+    returns)

@@ -1,0 +1,313 @@
+// The road ahead of a start, once the state and the start's key have passed.
+use crate::Outcome;
+use crate::Predicted;
+use crate::Prediction;
+use ages::Carried;
+use cache::Cache;
+use cache::Lookup;
+use candidates::Forward;
+use candidates::Heading;
+use candidates::Matched;
+use geo::Point;
+use junction::End;
+use junction::Ending;
+use pack::Header;
+use samples::Mark;
+use tile::Edge;
+use track::Track;
+use track::Trip;
+use track::ridden::Behind;
+use walk::Step;
+use walk::Walk;
+use ways::Way;
+use ways::cost::Road;
+use ways::outgoing::Leg;
+ghost use mathlib.Core.Path.{_≡_};
+ghost use Rattle.predict.specs.Predict as Predict;
+
+pub fn refused(c: Cache, number: u32) -> Predicted
+    ensures { λ r. ⌜ r ≡ Predict.refused c number ⌝ }
+{
+    Predicted {
+        answer: Outcome::Refused(number),
+        cache: c,
+    }
+}
+
+// Without a direction there is no road.
+fn no_direction(c: Cache) -> Predicted
+    ensures { λ r. ⌜ r ≡ Predict.noDirection c ⌝ }
+{
+    let p = Prediction {
+        len: 0,
+        behind: 0,
+        behind_m: 0.0,
+        end: End::Uncertain,
+        end_m: 0.0,
+        confidence: 0,
+    };
+    Predicted {
+        answer: Outcome::Road(p),
+        cache: c,
+    }
+}
+
+fn prediction(w: Walk, end: End, b: Behind) -> Prediction
+    ensures { λ r. ⌜ r ≡ Predict.prediction w end b ⌝ }
+{
+    let t = w.track;
+    let mark = t.mark;
+    let sure = num::order::clamp(w.confidence * 100.0, 0.0, 100.0);
+    Prediction {
+        len: mark.len,
+        behind: b.len,
+        behind_m: b.m,
+        end,
+        end_m: t.distance,
+        confidence: num::cast::u8_of_f32(sure),
+    }
+}
+
+// What a walk answers. One that went on to its last edge is Uncertain.
+fn outcome(w: Walk, b: Behind) -> Outcome
+    ensures { λ r. ⌜ r ≡ Predict.outcome w b ⌝ }
+{
+    let ending = w.ending;
+    match ending {
+        Ending::Going => Outcome::Road(prediction(w, End::Uncertain, b)),
+        Ending::Stops(end) => Outcome::Road(prediction(w, end, b)),
+        Ending::Need(key) => Outcome::Need(key),
+        Ending::Stale => Outcome::Refused(12),
+    }
+}
+
+// The state afterwards: after a late 12 the one given, else with the clock and the ages that the lookups left.
+fn closed(c: Cache, carried: Carried, answer: Outcome) -> Predicted
+    ensures { λ r. ⌜ r ≡ Predict.closed c carried answer ⌝ }
+{
+    match answer {
+        Outcome::Refused(number) => {
+            if number == 12 {
+                return refused(c, 12);
+            }
+            let d = ages::aged(c, carried);
+            Predicted { answer, cache: d }
+        }
+        Outcome::Road(_) | Outcome::Need(_) | Outcome::Rematch => {
+            let d = ages::aged(c, carried);
+            Predicted { answer, cache: d }
+        }
+    }
+}
+
+fn no_mark() -> Mark
+    ensures { λ r. ⌜ r ≡ Predict.noMark ⌝ }
+{
+    Mark {
+        len: 0,
+        distance: 0.0,
+        z: 0,
+    }
+}
+
+// The walk before its first edge.
+fn walk_from(start: Matched, leg: Leg, here: Point, mark: Mark) -> Walk
+    ensures { λ r. ⌜ r ≡ Predict.walkFrom start leg here mark ⌝ }
+{
+    let edge = leg.edge;
+    let tile = leg.key;
+    let way = Way {
+        tile,
+        edge: start.edge,
+        forward: leg.forward,
+    };
+    let history = track::incoming::first(here);
+    let t = Track {
+        here,
+        distance: 0.0,
+        mark,
+        history,
+        over: false,
+    };
+    let road = Road {
+        class: edge.class,
+        group: edge.group,
+        flags: edge.flags,
+    };
+    let visited = junction::visits::nothing_visited();
+    let met = junction::meets::nothing_met();
+    Walk {
+        way,
+        from: track::start::first_of(leg, start.segment),
+        track: t,
+        visited,
+        met,
+        entry: Heading::Nothing,
+        approach: 0.0,
+        road,
+        confidence: num::convert::f32_of_u8(start.confidence) / 100.0,
+        ending: Ending::Going,
+    }
+}
+
+// The edge of the start, followed forward or back.
+fn leg_of(header: Header, start: Matched, edge: Edge, forward: bool) -> Leg
+    ensures { λ r. ⌜ r ≡ Predict.legOf header start edge forward ⌝ }
+{
+    let id = start.tile;
+    let key = id.key;
+    Leg {
+        header,
+        key,
+        edge,
+        forward,
+    }
+}
+
+// The road of a start that has passed: behind it, then ahead.
+fn road_of(
+    c: Cache,
+    arena: &[u8],
+    trip: Trip,
+    start: Matched,
+    forward: bool,
+    carried: Carried,
+    bytes: &[u8],
+    samples: &mut [i16],
+    behind: &mut [i16],
+) -> Predicted
+    ensures { λ r. ⌜ r ≡ Predict.roadOf c (now (arena .entry)) trip start forward carried (now (bytes .entry)) (now (samples .entry)) (now (behind .entry)) .predicted ⌝ }
+    ensures { λ r. ⌜ now (samples .exit) ≡ Predict.roadOf c (now (arena .entry)) trip start forward carried (now (bytes .entry)) (now (samples .entry)) (now (behind .entry)) .samples ⌝ }
+    ensures { λ r. ⌜ now (behind .exit) ≡ Predict.roadOf c (now (arena .entry)) trip start forward carried (now (bytes .entry)) (now (samples .entry)) (now (behind .entry)) .behind ⌝ }
+{
+    let header = trip.header;
+    let head = tile::read::head(bytes);
+    let edge = tile::raw::edge(bytes, start.edge);
+    let here = track::start::place(header, bytes, edge, start);
+    let back = leg_of(header, start, edge, !forward);
+    let b = track::ridden::ridden(trip, back, bytes, head.lon_um, start, here, behind);
+    let none = no_mark();
+    let mark = samples::push(none, samples, 0.0, 0);
+    let leg = leg_of(header, start, edge, forward);
+    let w = walk_from(start, leg, here, mark);
+    let g = c.pages;
+    let s = walk::follow::follow(
+        c,
+        arena,
+        trip,
+        junction::meets::budget(g.count),
+        w,
+        carried,
+        samples,
+    );
+    let end = s.walk;
+    let after = s.carried;
+    let answer = outcome(end, b);
+    closed(c, after, answer)
+}
+
+// The start's tile was found: 6 where it is another one, 10 where the start lies outside it.
+fn from_tile(
+    c: Cache,
+    arena: &[u8],
+    trip: Trip,
+    start: Matched,
+    forward: bool,
+    carried: Carried,
+    bytes: &[u8],
+    samples: &mut [i16],
+    behind: &mut [i16],
+) -> Predicted
+    ensures { λ r. ⌜ r ≡ Predict.fromTile c (now (arena .entry)) trip start forward carried (now (bytes .entry)) (now (samples .entry)) (now (behind .entry)) .predicted ⌝ }
+    ensures { λ r. ⌜ now (samples .exit) ≡ Predict.fromTile c (now (arena .entry)) trip start forward carried (now (bytes .entry)) (now (samples .entry)) (now (behind .entry)) .samples ⌝ }
+    ensures { λ r. ⌜ now (behind .exit) ≡ Predict.fromTile c (now (arena .entry)) trip start forward carried (now (bytes .entry)) (now (samples .entry)) (now (behind .entry)) .behind ⌝ }
+{
+    let id = tile::read::id(bytes);
+    if !candidates::score::same_id(id, start.tile) {
+        return closed(c, carried, Outcome::Rematch);
+    }
+    if !track::start::start_ok(bytes, start) {
+        return closed(c, carried, Outcome::Refused(10));
+    }
+    road_of(
+        c,
+        arena,
+        trip,
+        start,
+        forward,
+        carried,
+        bytes,
+        samples,
+        behind,
+    )
+}
+
+// The start's tile, by a lookup.
+fn from_start(
+    c: Cache,
+    arena: &[u8],
+    header: Header,
+    start: Matched,
+    forward: bool,
+    horizon_m: f32,
+    samples: &mut [i16],
+    behind: &mut [i16],
+) -> Predicted
+    ensures { λ r. ⌜ r ≡ Predict.fromStart c (now (arena .entry)) header start forward «horizon_m» (now (samples .entry)) (now (behind .entry)) .predicted ⌝ }
+    ensures { λ r. ⌜ now (samples .exit) ≡ Predict.fromStart c (now (arena .entry)) header start forward «horizon_m» (now (samples .entry)) (now (behind .entry)) .samples ⌝ }
+    ensures { λ r. ⌜ now (behind .exit) ≡ Predict.fromStart c (now (arena .entry)) header start forward «horizon_m» (now (samples .entry)) (now (behind .entry)) .behind ⌝ }
+{
+    let id = start.tile;
+    let key = id.key;
+    let none = ages::carried_of(c);
+    let hit = ages::look_up(c, arena, header.tile, none, key);
+    let answer = hit.answer;
+    let carried = hit.carried;
+    match answer {
+        Lookup::Missing => closed(c, carried, Outcome::Rematch),
+        Lookup::Absent => closed(c, carried, Outcome::Need(key)),
+        Lookup::Refused(_) => refused(c, 12),
+        Lookup::Ready(first, len) => {
+            let trip = Trip {
+                header,
+                horizon_m,
+                z_dm: start.z_dm,
+            };
+            let bytes = ages::run_bytes(arena, first, len);
+            from_tile(
+                c,
+                arena,
+                trip,
+                start,
+                forward,
+                carried,
+                bytes,
+                samples,
+                behind,
+            )
+        }
+    }
+}
+
+// The road ahead in a state that has been tested, of a start whose key lies in the grid.
+pub fn predicted(
+    c: Cache,
+    arena: &[u8],
+    header: Header,
+    start: Matched,
+    horizon_m: f32,
+    samples: &mut [i16],
+    behind: &mut [i16],
+) -> Predicted
+    ensures { λ r. ⌜ r ≡ Predict.predictedIn c (now (arena .entry)) header start «horizon_m» (now (samples .entry)) (now (behind .entry)) .predicted ⌝ }
+    ensures { λ r. ⌜ now (samples .exit) ≡ Predict.predictedIn c (now (arena .entry)) header start «horizon_m» (now (samples .entry)) (now (behind .entry)) .samples ⌝ }
+    ensures { λ r. ⌜ now (behind .exit) ≡ Predict.predictedIn c (now (arena .entry)) header start «horizon_m» (now (samples .entry)) (now (behind .entry)) .behind ⌝ }
+{
+    let forward = start.forward;
+    match forward {
+        Forward::Unknown => no_direction(c),
+        Forward::Is(along) => {
+            from_start(c, arena, header, start, along, horizon_m, samples, behind)
+        }
+    }
+}
