@@ -103,6 +103,10 @@ uint32_t terrain_cache_repeat(const uint8_t *script, size_t script_len, const ui
 size_t terrain_match_replay(const uint8_t *script, size_t script_len, const uint8_t *pack, size_t pack_len, uint8_t *arena, size_t arena_len, uint8_t *out, size_t out_len);
 uint32_t terrain_match_repeat(const uint8_t *script, size_t script_len, const uint8_t *pack, size_t pack_len, uint8_t *arena, size_t arena_len, uint32_t times);
 
+/* The same two with calls on the road ahead beside matcher and cache. */
+size_t terrain_road_replay(const uint8_t *script, size_t script_len, const uint8_t *pack, size_t pack_len, uint8_t *arena, size_t arena_len, uint8_t *out, size_t out_len);
+uint32_t terrain_road_repeat(const uint8_t *script, size_t script_len, const uint8_t *pack, size_t pack_len, uint8_t *arena, size_t arena_len, uint32_t times);
+
 #ifdef __cplusplus
 }
 #endif

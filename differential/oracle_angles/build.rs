@@ -1,10 +1,14 @@
 //! Copies the original to target/terrain_angles, changes its two angle functions, links libabi.a.
-//! The fields of a matcher's and a cache's state are made public, and the matcher counts which of
-//! its ways it takes: neither changes an answer.
+//! The fields of a matcher's and a cache's state are made public, and matcher and prediction count
+//! which of their ways they take: neither changes an answer.
+mod predict;
+
 use std::{env, fs, path::Path, path::PathBuf};
 
-/// A file, and texts of it with what stands in their place.
-type Changes = (&'static str, &'static [(&'static str, &'static str)]);
+/// A text, and what stands in its place.
+type Change = (&'static str, &'static str);
+/// A file, and the changes to it.
+type Changes = (&'static str, &'static [Change]);
 
 const FILES: [Changes; 7] = [
     ("cache.rs", &[SLOT, CACHE]),
@@ -12,7 +16,7 @@ const FILES: [Changes; 7] = [
     ("geo.rs", &[(BEARING, BEARING_OF_PORT)]),
     ("matcher.rs", &[MATCHER, LOST, JOINED, HELD, SWITCHED, PAST, INHERITED, REVERSED, NINTH]),
     ("pack.rs", &[]),
-    ("predict.rs", &[]),
+    ("predict.rs", predict::COUNTED),
     ("tile.rs", &[]),
 ];
 
@@ -30,7 +34,7 @@ const BEARING_OF_PORT: &str = "    let mut degrees = 0.0;
 const LON_SCALE: &str = "(geo::LAT_UM * libm::cosf((lat as f32 * 1e-6).to_radians())) as u32";
 const LON_SCALE_OF_PORT: &str = "crate::terrain_lon_scale_um(lat)";
 
-const SLOT: (&str, &str) = (
+const SLOT: Change = (
     "struct Slot {
     key: Option<TileKey>,
     len: usize,
@@ -47,7 +51,7 @@ const SLOT: (&str, &str) = (
 }",
 );
 
-const CACHE: (&str, &str) = (
+const CACHE: Change = (
     "    slots: [Slot; MAX_PAGES],
     used: [Cell<u32>; MAX_PAGES],
     count: usize,
@@ -64,7 +68,7 @@ const CACHE: (&str, &str) = (
 ",
 );
 
-const MATCHER: (&str, &str) = (
+const MATCHER: Change = (
     "    current: Option<Matched>,
     challenger: Option<(TileId, u16, u8)>,
     misses: u8,
@@ -81,27 +85,27 @@ const MATCHER: (&str, &str) = (
 ",
 );
 
-const LOST: (&str, &str) = (
+const LOST: Change = (
     "            if self.misses >= LOST_FIXES {
 ",
     "            if self.misses >= LOST_FIXES {
                 crate::met(0, self.current.is_some());
 ",
 );
-const JOINED: (&str, &str) = (
+const JOINED: Change = (
     "                // Past the junction at the end of the current edge.
 ",
     "                crate::met(1, true);
 ",
 );
-const HELD: (&str, &str) = (
+const HELD: Change = (
     "                if count < SWITCH_FIXES {
 ",
     "                if count < SWITCH_FIXES {
                     crate::met(2, true);
 ",
 );
-const SWITCHED: (&str, &str) = (
+const SWITCHED: Change = (
     "                } else {
                     self.challenger = None;
 ",
@@ -110,28 +114,28 @@ const SWITCHED: (&str, &str) = (
                     self.challenger = None;
 ",
 );
-const PAST: (&str, &str) = (
+const PAST: Change = (
     "            chosen = *on;
 ",
     "            chosen = *on;
             crate::met(4, true);
 ",
 );
-const INHERITED: (&str, &str) = (
+const INHERITED: Change = (
     "            found.forward = previous.forward;
 ",
     "            found.forward = previous.forward;
             crate::met(5, found.forward.is_some());
 ",
 );
-const REVERSED: (&str, &str) = (
+const REVERSED: Change = (
     "        if !same_run {
 ",
     "        if !same_run {
             crate::met(6, previous.is_some_and(|p| p.tile == found.tile && p.edge == found.edge));
 ",
 );
-const NINTH: (&str, &str) = (
+const NINTH: Change = (
     "        (value > candidate.cost).then_some(worst)
 ",
     "        crate::met(7, value == candidate.cost);

@@ -43,3 +43,25 @@ pub extern "C" fn terrain_match_repeat(
 ) -> u32 {
     match_replay::repeated(script, pack, arena, times)
 }
+
+// Runs a script of calls on the road ahead beside a matcher and its cache; the bytes of answers that it wrote.
+#[no_mangle]
+pub extern "C" fn terrain_road_replay(
+    script: &[u8],
+    pack: &[u8],
+    arena: &mut [u8],
+    out: &mut [u8],
+) -> usize {
+    road_replay::run(script, pack, arena, out)
+}
+
+// As for the cache.
+#[no_mangle]
+pub extern "C" fn terrain_road_repeat(
+    script: &[u8],
+    pack: &[u8],
+    arena: &mut [u8],
+    times: u32,
+) -> u32 {
+    road_replay::repeated(script, pack, arena, times)
+}

@@ -34,7 +34,7 @@ pub struct Step {
     pub state: State,
 }
 
-fn begun(pack: &[u8], arena: &[u8]) -> State {
+pub fn begun(pack: &[u8], arena: &[u8]) -> State {
     let session = cache_replay::begun(pack, arena);
     let matcher = Matcher::reset();
     State { session, matcher }
@@ -70,7 +70,7 @@ fn prepares(s: State, kind: u32, record: &[u8]) -> Step {
 }
 
 // One record.
-fn taken(s: State, record: &[u8], pack: &[u8], arena: &mut [u8]) -> Step {
+pub fn taken(s: State, record: &[u8], pack: &[u8], arena: &mut [u8]) -> Step {
     let kind = words::word(record, 0);
     if kind < 32 {
         return of_cache(s, record, pack, arena);
@@ -128,7 +128,7 @@ fn prepared(script: &[u8], pack: &[u8], arena: &mut [u8]) -> State {
     s
 }
 
-fn with_clock(s: State, clock: u32) -> State {
+pub fn with_clock(s: State, clock: u32) -> State {
     let before = s.session;
     let matcher = s.matcher;
     let session = cache_replay::set::clock(before, clock);

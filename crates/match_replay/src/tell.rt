@@ -35,7 +35,7 @@ fn blank(out: &mut [u8]) {
 }
 
 // CRC-32 of the ages.
-fn sum(g: Pages) -> u32 {
+pub fn sum(g: Pages) -> u32 {
     let mut bytes = [0u8; 384];
     ages(g, &mut bytes);
     crc::crc32(&bytes)

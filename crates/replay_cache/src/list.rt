@@ -88,20 +88,23 @@ fn agrees(answer: &[u8], wanted: &[u8]) -> bool {
     crc::crc32(answer) == word(wanted, 4)
 }
 
-// Answer `i` of a case; those of a matcher are shorter.
-fn answer(out: &[u8], i: u32, of_matcher: bool) -> &[u8] {
-    if of_matcher {
+// Answer `i` of a case: those of a cache, of a matcher and of a road differ in length.
+fn answer(out: &[u8], i: u32, how: u32) -> &[u8] {
+    if how < 256 {
+        return part(out, (i as u64) * 1884, 1884);
+    }
+    if how < 512 {
         return part(out, (i as u64) * 256, 256);
     }
-    part(out, (i as u64) * 1884, 1884)
+    part(out, (i as u64) * 1088, 1088)
 }
 
 // How many of the answers differ from what is wanted of them.
-fn wrong(out: &[u8], wanted: &[u8], records: u32, of_matcher: bool) -> u64 {
+fn wrong(out: &[u8], wanted: &[u8], records: u32, how: u32) -> u64 {
     let mut wrong: u64 = 0;
     let mut i: u32 = 0;
     while i < records {
-        let one = answer(out, i, of_matcher);
+        let one = answer(out, i, how);
         if !agrees(one, part(wanted, (i as u64) * 20, 20)) {
             wrong = std::num::wrapping_add_u64(wrong, 1);
         }
@@ -110,16 +113,20 @@ fn wrong(out: &[u8], wanted: &[u8], records: u32, of_matcher: bool) -> u64 {
     wrong
 }
 
-// Runs a script over an arena of `len` bytes that `how` tells: the byte that fills it, and 256 more where the script is for a matcher.
+// Runs a script over an arena of `len` bytes that `how` tells: the byte that fills it, and 256 more where the script is for a matcher, 512 more
+// where it is for roads.
 fn ran(script: &[u8], pack: &[u8], len: usize, how: u32, out: &mut [u8]) -> usize {
     let mut arena = [(how % 256) as u8; ARENA];
     if ARENA < len {
         return 0;
     }
-    if 256 <= how {
+    if how < 256 {
+        return cache_replay::run(script, pack, &mut arena[0..len], out);
+    }
+    if how < 512 {
         return match_replay::run(script, pack, &mut arena[0..len], out);
     }
-    cache_replay::run(script, pack, &mut arena[0..len], out)
+    road_replay::run(script, pack, &mut arena[0..len], out)
 }
 
 // How many answers of a case differ.
@@ -131,7 +138,7 @@ fn differing(case: &[u8], pack: &[u8], records: u32) -> u64 {
     let how = word(case, 2);
     let mut out = [0u8; OUT];
     let len = ran(script, lent, word(case, 1) as usize, how, &mut out);
-    wrong(part(&out, 0, len), wanted, records, 256 <= how)
+    wrong(part(&out, 0, len), wanted, records, how)
 }
 
 fn cases(list: &[u8], pack: &[u8]) -> Tally {

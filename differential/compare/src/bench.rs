@@ -97,5 +97,6 @@ pub fn run() -> Vec<Tally> {
     tallies.extend(format());
     tallies.extend(cache::bench::run());
     tallies.extend(crate::matching::bench::run());
+    tallies.extend(crate::road::bench::run());
     tallies
 }

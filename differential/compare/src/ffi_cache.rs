@@ -57,6 +57,25 @@ unsafe extern "C" {
         arena_len: usize,
         times: u32,
     ) -> u32;
+    fn terrain_road_replay(
+        script: *const u8,
+        script_len: usize,
+        pack: *const u8,
+        pack_len: usize,
+        arena: *mut u8,
+        arena_len: usize,
+        out: *mut u8,
+        out_len: usize,
+    ) -> usize;
+    fn terrain_road_repeat(
+        script: *const u8,
+        script_len: usize,
+        pack: *const u8,
+        pack_len: usize,
+        arena: *mut u8,
+        arena_len: usize,
+        times: u32,
+    ) -> u32;
 }
 
 /// What a script answers, and the arena after it.
@@ -76,6 +95,11 @@ pub fn replay(script: &[Record], pack: &[u8], arena: &[u8]) -> Replayed {
 /// A script on a matcher and its cache.
 pub fn replay_matches(script: &[Record], pack: &[u8], arena: &[u8]) -> Replayed {
     replayed(terrain_match_replay, 64, script, pack, arena)
+}
+
+/// A script on predictions, a matcher and its cache.
+pub fn replay_roads(script: &[Record], pack: &[u8], arena: &[u8]) -> Replayed {
+    replayed(terrain_road_replay, 272, script, pack, arena)
 }
 
 /// Lends room for as many answers as the script has records, and looks at what lies beside it.
@@ -114,6 +138,10 @@ pub fn repeat(script: &[u8], pack: &[u8], arena: &mut [u8], times: u32) -> u32 {
 
 pub fn repeat_matches(script: &[u8], pack: &[u8], arena: &mut [u8], times: u32) -> u32 {
     repeated(terrain_match_repeat, script, pack, arena, times)
+}
+
+pub fn repeat_roads(script: &[u8], pack: &[u8], arena: &mut [u8], times: u32) -> u32 {
+    repeated(terrain_road_repeat, script, pack, arena, times)
 }
 
 fn repeated(run: Repeat, script: &[u8], pack: &[u8], arena: &mut [u8], times: u32) -> u32 {

@@ -28,6 +28,7 @@ mod numbers;
 mod packs;
 mod panics;
 mod random;
+mod road;
 mod tally;
 
 use std::{env, process::ExitCode};
@@ -48,6 +49,8 @@ pub struct Scale {
     cache: u64,
     /// Networks that are ridden on.
     matches: u64,
+    /// Networks whose roads are followed.
+    roads: u64,
 }
 
 const GATE: Scale = Scale {
@@ -58,6 +61,7 @@ const GATE: Scale = Scale {
     packs: 1_000,
     cache: 200,
     matches: 2_000,
+    roads: 1_000,
 };
 const FULL: Scale = Scale {
     threads: 2,
@@ -67,12 +71,13 @@ const FULL: Scale = Scale {
     packs: 20_000,
     cache: 8_000,
     matches: 20_000,
+    roads: 10_000,
 };
 
 fn compare(scale: &Scale) -> Vec<Tally> {
     let leaves = [numbers::compare(scale), crc::compare(scale), angles::compare(scale)];
     let rest = [format_and_geometry(scale), cache::compare(scale), matching::compare(scale)];
-    leaves.into_iter().chain(rest).flatten().collect()
+    leaves.into_iter().chain(rest).chain([road::compare(scale)]).flatten().collect()
 }
 
 fn format_and_geometry(scale: &Scale) -> Vec<Tally> {
@@ -91,15 +96,19 @@ fn main() -> ExitCode {
         ["full", "cache"] => cache::compare(&FULL),
         ["gate", "matching"] => matching::compare(&GATE),
         ["full", "matching"] => matching::compare(&FULL),
+        ["gate", "road"] => road::compare(&GATE),
+        ["full", "road"] => road::compare(&FULL),
         ["bench"] => bench::run(),
         ["list", file] => list::write(file),
         ["list_format", file] => list_format::write(file),
         ["list_cache", file] => cache::list::write(file),
         ["list_matches", file] => matching::list::write(file),
+        ["list_roads", file] => road::list::write(file),
+        ["bench", "road"] => road::bench::run(),
         ["panics"] => panics::print(),
         _ => {
             eprintln!(
-                "usage: run [gate [cache | matching] | full [format | cache | matching] | bench | panics | list FILE | list_format FILE | list_cache FILE | list_matches FILE]"
+                "usage: run [gate [cache | matching | road] | full [format | cache | matching | road] | bench [road] | panics | list FILE | list_format FILE | list_cache FILE | list_matches FILE | list_roads FILE]"
             );
             return ExitCode::from(2);
         }

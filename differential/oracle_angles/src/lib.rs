@@ -1,5 +1,6 @@
 //! The Rust original with its two angle functions answered by the port: build.rs writes the
-//! sources to target/terrain_angles and links libabi.a. The matcher's ways are counted.
+//! sources to target/terrain_angles and links libabi.a. The ways of matcher and prediction are
+//! counted.
 #![no_std]
 
 use core::sync::atomic::{AtomicU64, Ordering};
@@ -22,6 +23,94 @@ pub static MET: [AtomicU64; 10] = [const { AtomicU64::new(0) }; 10];
 
 fn met(way: usize, is_so: bool) {
     MET[way].fetch_add(u64::from(is_so), Ordering::Relaxed);
+}
+
+/// The rules of a prediction that are counted, and their names.
+macro_rules! rules {
+    ($($rule:ident: $name:literal,)*) => {
+        #[derive(Clone, Copy, PartialEq)]
+        pub enum Rule { $($rule,)* }
+        pub const RULES: &[(Rule, &str)] = &[$((Rule::$rule, $name),)*];
+    };
+}
+
+rules! {
+    Horizon: "ends at the horizon",
+    Fork: "ends at a fork",
+    DeadEnd: "ends as a dead end",
+    MapEdge: "ends at the map's edge",
+    Uncertain: "ends uncertain",
+    Memory: "ends for memory",
+    NoDirection: "no direction",
+    MaxEdges: "the last of 2,000 edges",
+    Unsure: "confidence below 0.3",
+    OverBudget: "pages past the budget",
+    NinetySeventh: "a 97th tile",
+    NeedStart: "needs the start's tile",
+    NeedTwin: "needs a twin's tile",
+    NeedOwn: "needs the tile of an edge that was chosen",
+    HorizonInside: "horizon inside a segment",
+    HorizonStill: "horizon at a segment without length",
+    HorizonBehind: "horizon behind",
+    AllSamples: "all 501 samples",
+    Clamped: "a height clamped",
+    VisitedWraps: "visited wraps",
+    HistoryFull: "history full",
+    HeadingSpan: "heading from 25 m back",
+    HeadingOldest: "heading from the oldest point",
+    HeadingKept: "heading of the approach, for want of length",
+    HeadingStill: "heading from a segment without length",
+    EntryTaken: "roundabout entry taken",
+    EntryKept: "roundabout entry kept",
+    RoadKept: "road kept on a roundabout",
+    OwnEdge: "way left out: the edge itself",
+    WrongWay: "way left out: against a oneway",
+    Visited: "way left out: visited",
+    ChoicesFull: "way left out: twelve are kept",
+    Turn: "cost of a turn",
+    TurnHeld: "cost of a turn, held to 4",
+    Exit: "cost of an exit, from the entry's heading",
+    RoundOn: "cost of going on round, 1.2",
+    SameRoad: "cost less for the same road",
+    MoreMinor: "cost of a class more minor",
+    MoreMajor: "cost less for a class more major",
+    Link: "cost of a link",
+    Track: "cost of a track or path",
+    Cycleway: "cost of a cycleway",
+    BlockedByGrid: "blocked by the grid's end",
+    BlockedByMissing: "blocked by a missing tile",
+    BlockedAndOn: "blocked, and a way on",
+    Twin: "twin found",
+    NoTwin: "no twin in the other tile",
+    OtherTile: "on into another tile",
+    OnlyWay: "one way on alone",
+    Close: "margin below 1",
+    Equal: "margin 0",
+    NearOne: "margin 1 but for rounding",
+    Clear: "margin of 4 and more",
+    NotRidden: "ridden: nothing",
+    RiddenInside: "ridden: begins inside a segment",
+    RiddenFromStart: "ridden: from the edge's start",
+    RiddenFromEnd: "ridden: from the edge's end",
+    AllBehind: "ridden: all 11 samples",
+    OneMore: "ridden: one more sample",
+    OneMoreCut: "ridden: one more sample, cut to 16 bits",
+}
+
+/// How often each applied.
+pub static WAS: [AtomicU64; RULES.len()] = [const { AtomicU64::new(0) }; RULES.len()];
+
+impl Rule {
+    /// The rules for the ends come first, in the order of their numbers.
+    fn of_end(end: u32) -> Self {
+        RULES[end as usize].0
+    }
+}
+
+fn was(rule: Rule, is_so: bool) {
+    if is_so {
+        WAS[rule as usize].fetch_add(1, Ordering::Relaxed);
+    }
 }
 
 #[rustfmt::skip]

@@ -45,7 +45,8 @@ fn told(pack: &[u8]) -> Vec<u8> {
     bytes
 }
 
-/// A case as the list keeps it. The mark says whose scripts they are: 0 the cache's.
+/// A case as the list keeps it. The mark says whose scripts they are: 0 the cache's, 256 the
+/// matcher's, 512 those of roads.
 pub struct Filed<'c> {
     pub pack: &'c [u8],
     pub arena: &'c [u8],

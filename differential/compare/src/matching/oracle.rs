@@ -95,9 +95,17 @@ impl Oracle<'_> {
         Ended { ending: [KEYS, many, 0, 0], keys, found: None }
     }
 
-    /// The matcher's cache is a copy of the other's state over the same arena; clock and ages, all
-    /// that a lookup changes, are put back.
     fn update(&mut self, fix: Point, heading: Option<f32>) -> Ended {
+        let updated = self.lent(|cache, header, m| m.update(cache, header, fix, heading));
+        match updated {
+            Ok(found) => Ended::of_match(found),
+            Err(key) => Ended::plain([NEED, key_word(key), 0, 0]),
+        }
+    }
+
+    /// A call over a copy of the cache's state and the same arena; clock and ages, all that a
+    /// lookup changes, are put back.
+    pub fn lent<A>(&mut self, call: impl FnOnce(&mut Cache, &Header, &mut Matcher) -> A) -> A {
         let header = self.header();
         let c = &mut self.cache.cache;
         let mut copy = Cache::new(c.arena);
@@ -109,13 +117,10 @@ impl Oracle<'_> {
         copy.count = c.count;
         copy.missing = c.missing.map(|k| k.map(|k| tile_key(crate::cache::script::word(k))));
         copy.clock.set(c.clock.get());
-        let ended = match self.matcher.update(&copy, &header, fix, heading) {
-            Ok(found) => Ended::of_match(found),
-            Err(key) => Ended::plain([NEED, key_word(key), 0, 0]),
-        };
+        let answer = call(&mut copy, &header, &mut self.matcher);
         c.clock.set(copy.clock.get());
         c.used.iter().zip(&copy.used).for_each(|(to, from)| to.set(from.get()));
-        ended
+        answer
     }
 
     /// The answer to a record that ended so, and the state as it is.

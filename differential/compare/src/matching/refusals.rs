@@ -9,23 +9,23 @@ use crate::packs::LIMIT;
 use crate::tally::Tally;
 use oracle_cache::cache::PAGE_BYTES;
 
-const SIZE: i64 = 3_000;
-const SOUTH: i32 = 47_000_000;
-const WEST: i32 = 8_000_000;
-const PAGES: u32 = 8;
+pub const SIZE: i64 = 3_000;
+pub const SOUTH: i32 = 47_000_000;
+pub const WEST: i32 = 8_000_000;
+pub const PAGES: u32 = 8;
 /// Fixes beside a road: in the middle of the first tile, and near the corner that all four share.
 const MIDDLE: [i32; 2] = [SOUTH + 1_510, WEST + 1_500];
 const CORNER: [i32; 2] = [SOUTH + 2_900, WEST + 2_850];
 /// A fix off the grid.
 const OFF: [i32; 2] = [SOUTH - 1, WEST];
 /// The keys that the corner's fix needs, in their order.
-const KEYS_AT_CORNER: [u32; 4] = [0, 1 << 16, 1, 1 << 16 | 1];
+pub const KEYS_AT_CORNER: [u32; 4] = [0, 1 << 16, 1, 1 << 16 | 1];
 
 /// Records that change a state: kind and words.
-type Changes = &'static [(u32, &'static [u32])];
+pub type Changes = &'static [(u32, &'static [u32])];
 
 /// Page n holds the tile of key n in the order above.
-const CACHES: &[(&str, Changes)] = &[
+pub const CACHES: &[(&str, Changes)] = &[
     ("a count past the slots", &[(SET_COUNT, &[97])]),
     ("the largest count", &[(SET_COUNT, &[u32::MAX])]),
     ("a count within the runs", &[(SET_COUNT, &[3])]),
@@ -46,7 +46,7 @@ const CACHES: &[(&str, Changes)] = &[
 ];
 
 /// Fields are tile, south, west, rows, cols, directory, data, total.
-const HEADERS: &[(&str, Changes)] = &[
+pub const HEADERS: &[(&str, Changes)] = &[
     ("tile size 0", &[(SET_HEADER, &[0, 0])]),
     ("tile size 65,536", &[(SET_HEADER, &[0, 65_536])]),
     ("south past its limit", &[(SET_HEADER, &[1, -360_000_001_i32 as u32])]),

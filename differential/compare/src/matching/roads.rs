@@ -151,7 +151,7 @@ impl Tile {
 }
 
 /// The largest tile that a cache takes.
-const LARGEST: usize = 49_152;
+pub const LARGEST: usize = 49_152;
 
 fn put(tiles: &mut BTreeMap<(u16, u16), Tile>, road: &Road, grid: &Grid) {
     let places = crossings(&road.places, grid.size.into());
@@ -182,7 +182,17 @@ fn put(tiles: &mut BTreeMap<(u16, u16), Tile>, road: &Road, grid: &Grid) {
 
 impl Network {
     /// The roads' pack; `fate` says what becomes of each tile. A tile without roads is left out.
-    pub fn new(grid: Grid, roads: Vec<Road>, mut fate: impl FnMut(TileKey) -> Fate) -> Self {
+    pub fn new(grid: Grid, roads: Vec<Road>, fate: impl FnMut(TileKey) -> Fate) -> Self {
+        Self::with(grid, roads, fate, |_| {})
+    }
+
+    /// The same, each tile changed before it is written.
+    pub fn with(
+        grid: Grid,
+        roads: Vec<Road>,
+        mut fate: impl FnMut(TileKey) -> Fate,
+        mut change: impl FnMut(&mut Plain),
+    ) -> Self {
         let mut tiles = BTreeMap::new();
         roads.iter().for_each(|road| put(&mut tiles, road, &grid));
         let data = 512 + 8 * u32::from(grid.rows) * u32::from(grid.cols);
@@ -195,7 +205,8 @@ impl Network {
                 directory.extend([0; 8]);
                 continue;
             };
-            let plain = plain(key, grid.lon_um, tile);
+            let mut plain = plain(key, grid.lon_um, tile);
+            change(&mut plain);
             let mut tile = plain.bytes();
             tile[24] ^= u8::from(fate == Fate::Spoilt);
             let entry = [data + bytes.len() as u32, tile.len() as u32];

@@ -5,10 +5,10 @@ use Rattle.replay_cache.proofs.list.wrong.Statement.{statement}
 use Rattle.replay_cache.proofs.list.wrong.Tie as tie
 
 abbrev Inv-loop : tie.InvT-loop
-Inv-loop out wanted records of_matcher wrong₀ i₀ wrong i = i ≤ records
+Inv-loop out wanted records how wrong₀ i₀ wrong i = i ≤ records
 
 abbrev μ-loop : tie.MeasureT-loop
-μ-loop out wanted records of_matcher wrong₀ i₀ wrong i = records - i
+μ-loop out wanted records how wrong₀ i₀ wrong i = records - i
 
 loop-holds : tie.Need-loop-holds Inv-loop μ-loop
 loop-holds c = search needs
