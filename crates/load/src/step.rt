@@ -133,7 +133,7 @@ fn moved(c: Cache, g: Pages, loading: MaybeLoading) -> Cache
 }
 
 // A key known missing from now on.
-fn forgot(c: Cache, key: TileKey) -> Cache
+pub fn forgot(c: Cache, key: TileKey) -> Cache
     ensures { λ r. ⌜ r ≡ Loads.forgot c key ⌝ }
 {
     let ring = c.missing;

@@ -1,0 +1,6 @@
+-- The engine: the states that number 12 names, the steps, the work of a step, the deliveries, and the public functions.
+pub mod State
+pub mod Work
+pub mod Deliver
+pub mod Steps
+pub mod Calls

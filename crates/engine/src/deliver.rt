@@ -1,0 +1,232 @@
+// The open fetch answered.
+use crate::Engine;
+use crate::Phase;
+use crate::Shared;
+use crate::Status;
+use crate::Stepped;
+use cache::Cache;
+use cache::Pending;
+use follower::Due;
+use follower::Follower;
+use load::Loaded;
+use load::Progress;
+use pack::Header;
+use pack::TileKey;
+use pages::MaybeKey;
+ghost use mathlib.Core.Path.{_≡_};
+ghost use Rattle.engine.specs.Deliver as Deliver;
+
+// ---- the header
+
+// The pack in another phase; a fetch is open no more.
+fn with_phase(s: Shared, phase: Phase, header: Header) -> Shared
+    ensures { λ r. ⌜ r ≡ Deliver.withPhase s phase header ⌝ }
+{
+    let old = s.cache;
+    let cache = crate::fetch::with_pending(old, Pending::Nothing);
+    Shared {
+        phase,
+        header,
+        cache,
+    }
+}
+
+fn with_failures(e: Engine, s: Shared, failures: u8, answer: Status) -> Stepped
+    ensures { λ r. ⌜ r ≡ Deliver.withFailures e s failures answer ⌝ }
+{
+    let mut f = e.follower;
+    f.failures = failures;
+    let engine = Engine {
+        shared: s,
+        follower: f,
+    };
+    Stepped { answer, engine }
+}
+
+// No readable header: a missed read is tried again, up to the eighth.
+fn header_failed(e: Engine, failure: u32) -> Stepped
+    ensures { λ r. ⌜ r ≡ Deliver.headerFailed e failure ⌝ }
+{
+    let s = e.shared;
+    let header = s.header;
+    let f = e.follower;
+    if failure == 1 {
+        if f.failures < 7 {
+            let d = with_phase(s, Phase::Unread, header);
+            return with_failures(e, d, f.failures + 1, Status::Working);
+        }
+    }
+    let d = with_phase(s, Phase::Failed, header);
+    with_failures(e, d, f.failures, Status::NoPack)
+}
+
+// The first 512 bytes of an answer.
+fn sector_of(bytes: &[u8]) -> [u8; 512]
+    ensures { λ r. ⌜ r ≡ Deliver.sectorOf (now (bytes .entry)) ⌝ }
+{
+    let mut out = [0u8; 512];
+    let mut i = 0;
+    while i < 512 {
+        out[i] = pack::bytes::byte_at(bytes, i);
+        i += 1;
+    }
+    out
+}
+
+// The header came.
+fn header_came(e: Engine, failure: u32, bytes: &[u8]) -> Stepped
+    ensures { λ r. ⌜ r ≡ Deliver.headerCame e failure (now (bytes .entry)) ⌝ }
+{
+    if failure != 0 {
+        return header_failed(e, failure);
+    }
+    let sector = sector_of(bytes);
+    let parsed = Header::parse(&sector);
+    let answer = parsed.answer;
+    match answer {
+        pack::Answer::Accepted => {
+            let s = e.shared;
+            let header = parsed.header;
+            let d = with_phase(s, Phase::Ready, header);
+            with_failures(e, d, 0, Status::Working)
+        }
+        pack::Answer::Refused(number) => header_failed(e, number),
+    }
+}
+
+// ---- a part of the tile that is needed
+
+// Nothing is needed any more.
+fn needless(d: Due) -> Due
+    ensures { λ r. ⌜ r ≡ Deliver.needless d ⌝ }
+{
+    let last_road = d.last_road;
+    Due {
+        matching: d.matching,
+        road: d.road,
+        last_road,
+        need: MaybeKey::Nothing,
+        reloads: d.reloads,
+    }
+}
+
+// The tile is settled: ready or known missing.
+pub fn arrived(e: Engine, c: Cache) -> Stepped
+    ensures { λ r. ⌜ r ≡ Deliver.arrived e c ⌝ }
+{
+    let before = e.follower;
+    let mut f = crate::work::counted(before);
+    let due = f.due;
+    let rest = needless(due);
+    f.due = rest;
+    f.failures = 0;
+    crate::work::ended(e, c, f, Status::Working)
+}
+
+// The read or the entry failed: the eighth fails the pack.
+fn load_failed(e: Engine, c: Cache) -> Stepped
+    ensures { λ r. ⌜ r ≡ Deliver.loadFailed e c ⌝ }
+{
+    let before = e.follower;
+    let mut f = crate::work::counted(before);
+    if f.failures < 7 {
+        f.failures = f.failures + 1;
+        return crate::work::ended(e, c, f, Status::Working);
+    }
+    f.failures = 8;
+    let s = e.shared;
+    let header = s.header;
+    let shared = Shared {
+        phase: Phase::Failed,
+        header,
+        cache: c,
+    };
+    let engine = Engine {
+        shared,
+        follower: f,
+    };
+    Stepped {
+        answer: Status::NoPack,
+        engine,
+    }
+}
+
+// What a step of the load makes of the engine.
+fn loaded(e: Engine, l: Loaded) -> Stepped
+    ensures { λ r. ⌜ r ≡ Deliver.loaded e l ⌝ }
+{
+    let answer = l.answer;
+    let c = l.cache;
+    match answer {
+        Progress::Done => arrived(e, c),
+        Progress::Failed(_) => load_failed(e, c),
+        Progress::Refused(number) => crate::state::refused(e, number),
+        Progress::More => {
+            let before = e.follower;
+            let f = crate::work::counted(before);
+            crate::work::ended(e, c, f, Status::Working)
+        }
+    }
+}
+
+// The entry or a chunk of the needed tile came.
+fn part_came(e: Engine, arena: &mut [u8], key: TileKey, failure: u32, bytes: &[u8]) -> Stepped
+    ensures { λ r. ⌜ r ≡ Deliver.told (Deliver.partCame e (now (arena .entry)) key failure (now (bytes .entry))) ⌝ }
+    ensures { λ r. ⌜ now (arena .exit) ≡ Deliver.partCame e (now (arena .entry)) key failure (now (bytes .entry)) .arena ⌝ }
+{
+    let s = e.shared;
+    let c = s.cache;
+    let header = s.header;
+    let n = cache::next::next_step(c, key);
+    if !load::step::takes(n, header, key, failure, bytes.len()) {
+        return crate::state::refused(e, 11);
+    }
+    let l = load::step::stepped(c, n, arena, header, key, failure, bytes);
+    loaded(e, l)
+}
+
+// ---- the delivery
+
+// Whether an answer fits a read of 512 bytes.
+fn fits_header(failure: u32, len: usize) -> bool
+    ensures { λ r. ⌜ r ≡ Deliver.fitsHeader failure len ⌝ }
+{
+    if failure == 0 {
+        return len == 512;
+    }
+    failure <= 2
+}
+
+// A part of the tile that is needed; without one there is nothing that it could fit.
+fn need_came(e: Engine, arena: &mut [u8], failure: u32, bytes: &[u8]) -> Stepped
+    ensures { λ r. ⌜ r ≡ Deliver.told (Deliver.needCame e (now (arena .entry)) failure (now (bytes .entry))) ⌝ }
+    ensures { λ r. ⌜ now (arena .exit) ≡ Deliver.needCame e (now (arena .entry)) failure (now (bytes .entry)) .arena ⌝ }
+{
+    let f = e.follower;
+    let due = f.due;
+    let need = due.need;
+    match need {
+        MaybeKey::Nothing => crate::state::refused(e, 11),
+        MaybeKey::Key(key) => part_came(e, arena, key, failure, bytes),
+    }
+}
+
+// A delivery in a state that has been tested: 11 where no fetch is open, or the answer doesn't fit it.
+pub fn delivered(e: Engine, arena: &mut [u8], failure: u32, bytes: &[u8]) -> Stepped
+    ensures { λ r. ⌜ r ≡ Deliver.told (Deliver.delivered e (now (arena .entry)) failure (now (bytes .entry))) ⌝ }
+    ensures { λ r. ⌜ now (arena .exit) ≡ Deliver.delivered e (now (arena .entry)) failure (now (bytes .entry)) .arena ⌝ }
+{
+    let s = e.shared;
+    let c = s.cache;
+    let pending = c.pending;
+    match pending {
+        Pending::Nothing => crate::state::refused(e, 11),
+        Pending::Header => {
+            if fits_header(failure, bytes.len()) {
+                return header_came(e, failure, bytes);
+            }
+            crate::state::refused(e, 11)
+        }
+        Pending::Entry(_) | Pending::Chunk => need_came(e, arena, failure, bytes),
+    }
+}
