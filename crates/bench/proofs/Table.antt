@@ -1,5 +1,7 @@
 -- The table of bench lines holds: every line is computed from the definitions. Assumes nothing.
-use mathlib.Core.Path.{refl}
+use mathlib.Core.Path.{_≡_, refl}
+use mathlib.Core.List.{[]}
+use lib.Ieee.{Float}
 use lib.Ieee.{ofInt, ofBits, toBits, units}
 use Rattle.crc.specs.Fcs.{add, lower, divide, remainder, zeros, bits, number, message, fcs, crc32}
 use Rattle.num.specs.Root.{rootIn, wholeRoot, nearRoot, squareRoot}
@@ -8,7 +10,19 @@ use Rattle.pages.specs.Runs.{span}
 use Rattle.pages.specs.Victim.{age, leastOf, bestOf}
 use Rattle.num.specs.Fold.{upTo}
 use Rattle.ways.specs.Twins.{push, twinStep, twinsTo}
-use Rattle.bench.specs.Lines.{Lines}
+use Rattle.engine.specs.Calls.{new, fix}
+use Rattle.engine.specs.declared.Taken.the-variants as Taken
+use Rattle.engine.proofs.StateLaws.{new-ok}
+use Rattle.bench.specs.Lines.{Lines, fixAt}
+
+-- a new engine is no state that number 12 names, so that the point alone is tested
+at-limit : (horizon : Float) → fix (new [] horizon) [] (fixAt 360000000) .answer ≡ Taken.Done
+unfolding fix
+at-limit horizon = rw (new-ok [] horizon)
+
+past-limit : (horizon : Float) → fix (new [] horizon) [] (fixAt 360000001) .answer ≡ Taken.Refused 8
+unfolding fix
+past-limit horizon = rw (new-ok [] horizon)
 
 pub lines : Lines
 unfolding add lower divide remainder zeros bits number message fcs crc32 ofInt rootIn wholeRoot nearRoot squareRoot ofBits toBits units keyOf checkedOf entryOf span age leastOf bestOf upTo push twinStep twinsTo
@@ -31,4 +45,7 @@ lines = record {
   one-wanted = refl;
   five-wanted = refl;
   corner-twins = refl;
+  cut-toward-zero = refl;
+  fix-at-limit = at-limit;
+  fix-past-limit = past-limit;
 }

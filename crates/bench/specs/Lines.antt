@@ -6,7 +6,7 @@ use mathlib.Core.Bool.{false}
 use mathlib.Core.List.{[], _∷_}
 use lib.ListN.{replicate}
 use lib.IntN.{ℤ, pos, negsuc}
-use lib.Ieee.{fin, binary32, ofInt, ofBits, toBits}
+use lib.Ieee.{Float, fin, binary32, ofInt, ofBits, toBits}
 use Rattle.crc.specs.Fcs.{crc32}
 use Rattle.num.specs.Root.{squareRoot}
 use Rattle.pack.specs.Grid.{keyOf, entryOf}
@@ -19,6 +19,10 @@ use Rattle.pages.specs.Victim.{victim}
 use Rattle.pages.specs.declared.Pages.{Pages}
 use Rattle.pages.specs.declared.victim.Found.the-variants as Found
 use Rattle.ways.specs.Twins.{noTwin, boundaryTwins}
+use Rattle.follower.specs.Fixes.{fromE7}
+use Rattle.follower.specs.declared.Fix.{Fix}
+use Rattle.engine.specs.Calls.{new, fix}
+use Rattle.engine.specs.declared.Taken.the-variants as Taken
 use Rattle.ways.specs.declared.twins.Twin.{Twin}
 
 -- a header with these grid fields and all others 0
@@ -52,6 +56,10 @@ fourEmpty = record { slots = replicate 96 emptySlot; used = replicate 96 0; coun
 abbrev twin : ℤ → ℤ → ℕ → ℕ → Twin
 twin row col x y = record { row = row; col = col; x = x; y = y }
 
+-- a fix at a latitude, on the first meridian
+abbrev pub fixAt : ℕ → Fix
+fixAt lat = record { lat = pos lat; lon = pos 0; «at_ms» = 0 }
+
 pub record Lines : Type 0 where
   -- CRC of ASCII 123456789; of no bytes
   pub crc-of-digits : crc32 (49 ∷ 50 ∷ 51 ∷ 52 ∷ 53 ∷ 54 ∷ 55 ∷ 56 ∷ 57 ∷ []) ≡ 0xcbf43926
@@ -81,3 +89,8 @@ pub record Lines : Type 0 where
   -- the tiles that share the point 0, 0 of a tile of size 1,000, by steps in rows and columns, and where it stands there
   pub corner-twins : boundaryTwins 0 0 1000
       ≡ record { v = twin (pos 0) (negsuc 0) 1000 0 ∷ twin (negsuc 0) (pos 0) 0 1000 ∷ twin (negsuc 0) (negsuc 0) 1000 1000 ∷ replicate 5 noTwin; len = 3 }
+  -- -15 in 1e-7 degrees is -1 in micro-degrees
+  pub cut-toward-zero : fromE7 (negsuc 14) (pos 0) 0 ≡ record { lat = negsuc 0; lon = pos 0; «at_ms» = 0 }
+  -- a fix at 360,000,000 is accepted, one at 360,000,001 refused with 8, by a new engine of any horizon
+  pub fix-at-limit : (horizon : Float) → fix (new [] horizon) [] (fixAt 360000000) .answer ≡ Taken.Done
+  pub fix-past-limit : (horizon : Float) → fix (new [] horizon) [] (fixAt 360000001) .answer ≡ Taken.Refused 8
