@@ -230,9 +230,13 @@ impl Town<'_> {
         }
     }
 
-    /// A ring of many short edges, longer than what is remembered as visited.
+    /// A ring of many short edges: about as many as are remembered as visited, or more.
     pub fn ring(&mut self) {
-        let (at, nodes) = (self.place(), 100 + self.random.below(120));
+        let nodes = match self.random.below(2) {
+            0 => 127 + self.random.below(3),
+            _ => 100 + self.random.below(120),
+        };
+        let at = self.place();
         let metres = pick(&[1.0, 2.0, 4.0, 30.0], self.random);
         let radius = metres * nodes as f64 / (2.0 * PI);
         let kind = Kind { flags: pick(&[0, 0, ONEWAY], self.random), ..self.kind() };
