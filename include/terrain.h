@@ -107,6 +107,10 @@ uint32_t terrain_match_repeat(const uint8_t *script, size_t script_len, const ui
 size_t terrain_road_replay(const uint8_t *script, size_t script_len, const uint8_t *pack, size_t pack_len, uint8_t *arena, size_t arena_len, uint8_t *out, size_t out_len);
 uint32_t terrain_road_repeat(const uint8_t *script, size_t script_len, const uint8_t *pack, size_t pack_len, uint8_t *arena, size_t arena_len, uint32_t times);
 
+/* The same two with calls on a new engine over the arena; `packs` holds several packs, of which a script uses one at a time. */
+size_t terrain_replay(const uint8_t *script, size_t script_len, const uint8_t *packs, size_t packs_len, uint8_t *arena, size_t arena_len, uint8_t *out, size_t out_len);
+uint32_t terrain_repeat(const uint8_t *script, size_t script_len, const uint8_t *packs, size_t packs_len, uint8_t *arena, size_t arena_len, uint32_t times);
+
 #ifdef __cplusplus
 }
 #endif

@@ -1,6 +1,7 @@
 //! Copies the original to target/terrain_angles, changes its two angle functions, links libabi.a.
-//! The fields of a matcher's and a cache's state are made public, and matcher and prediction count
-//! which of their ways they take: neither changes an answer.
+//! The fields of a matcher's, a cache's and an engine's state are made public, and matcher,
+//! prediction and engine count which of their ways they take: neither changes an answer.
+mod engine;
 mod predict;
 
 use std::{env, fs, path::Path, path::PathBuf};
@@ -11,8 +12,8 @@ type Change = (&'static str, &'static str);
 type Changes = (&'static str, &'static [Change]);
 
 const FILES: [Changes; 7] = [
-    ("cache.rs", &[SLOT, CACHE]),
-    ("engine.rs", &[(LON_SCALE, LON_SCALE_OF_PORT)]),
+    ("cache.rs", &[SLOT, LOADING, CACHE, NO_PAGES, DROPPED, NO_TILE, NO_ROOM, CORRUPT, WRAPS]),
+    ("engine.rs", engine::COUNTED),
     ("geo.rs", &[(BEARING, BEARING_OF_PORT)]),
     ("matcher.rs", &[MATCHER, LOST, JOINED, HELD, SWITCHED, PAST, INHERITED, REVERSED, NINTH]),
     ("pack.rs", &[]),
@@ -51,20 +52,86 @@ const SLOT: Change = (
 }",
 );
 
+const LOADING: Change = (
+    "struct Loading {
+    key: TileKey,
+    slot: usize,
+    offset: u32,
+    len: usize,
+    done: usize,
+}",
+    "pub struct Loading {
+    pub key: TileKey,
+    pub slot: usize,
+    pub offset: u32,
+    pub len: usize,
+    pub done: usize,
+}",
+);
+
 const CACHE: Change = (
-    "    slots: [Slot; MAX_PAGES],
+    "    arena: &'a mut [u8],
+    slots: [Slot; MAX_PAGES],
     used: [Cell<u32>; MAX_PAGES],
     count: usize,
     missing: [Option<TileKey>; MISSING],
     next_missing: usize,
     clock: Cell<u32>,
+    loading: Option<Loading>,
 ",
-    "    pub slots: [Slot; MAX_PAGES],
+    "    pub arena: &'a mut [u8],
+    pub slots: [Slot; MAX_PAGES],
     pub used: [Cell<u32>; MAX_PAGES],
     pub count: usize,
     pub missing: [Option<TileKey>; MISSING],
-    next_missing: usize,
+    pub next_missing: usize,
     pub clock: Cell<u32>,
+    pub loading: Option<Loading>,
+",
+);
+
+const NO_PAGES: Change = (
+    "        if self.count == 0 {
+",
+    "        if self.count == 0 {
+            crate::took(crate::Path::NoPages, true);
+",
+);
+const DROPPED: Change = (
+    "                if let Some(abandoned) = self.loading.take() {
+",
+    "                if let Some(abandoned) = self.loading.take() {
+                    crate::took(crate::Path::LoadDropped, true);
+",
+);
+const NO_TILE: Change = (
+    "                let Some((offset, len)) = header.locate(&entry)? else {
+",
+    "                let Some((offset, len)) = header.locate(&entry)? else {
+                    crate::took(crate::Path::NoTile, true);
+",
+);
+const NO_ROOM: Change = (
+    "                let Some(slot) = self.victim(pages).filter(|_| len <= MAX_TILE_BYTES) else {
+",
+    "                let Some(slot) = self.victim(pages).filter(|_| len <= MAX_TILE_BYTES) else {
+                    crate::took(crate::Path::NoRoom, true);
+",
+);
+const CORRUPT: Change = (
+    "            self.evict(loading.slot, 1);
+            self.forget(key);
+",
+    "            crate::took(crate::Path::Corrupt, true);
+            self.evict(loading.slot, 1);
+            self.forget(key);
+",
+);
+const WRAPS: Change = (
+    "        self.next_missing = (self.next_missing + 1) % MISSING;
+",
+    "        self.next_missing = (self.next_missing + 1) % MISSING;
+        crate::took(crate::Path::RingWraps, self.next_missing == 0);
 ",
 );
 

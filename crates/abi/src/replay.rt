@@ -65,3 +65,20 @@ pub extern "C" fn terrain_road_repeat(
 ) -> u32 {
     road_replay::repeated(script, pack, arena, times)
 }
+
+// Runs a script of calls on the engine and its cache over one of several packs; the bytes of answers that it wrote.
+#[no_mangle]
+pub extern "C" fn terrain_replay(
+    script: &[u8],
+    packs: &[u8],
+    arena: &mut [u8],
+    out: &mut [u8],
+) -> usize {
+    engine_replay::run(script, packs, arena, out)
+}
+
+// As for the cache.
+#[no_mangle]
+pub extern "C" fn terrain_repeat(script: &[u8], packs: &[u8], arena: &mut [u8], times: u32) -> u32 {
+    engine_replay::repeated(script, packs, arena, times)
+}

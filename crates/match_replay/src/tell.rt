@@ -26,7 +26,7 @@ fn direction(forward: Forward) -> u32 {
     }
 }
 
-fn blank(out: &mut [u8]) {
+pub fn blank(out: &mut [u8]) {
     let mut i = 0;
     while i < 64 {
         words::put(out, i, 0);
@@ -93,7 +93,7 @@ fn road(m: Matched, at: usize, out: &mut [u8]) {
 }
 
 // All fields of a match.
-fn matched(m: Matched, at: usize, out: &mut [u8]) {
+pub fn matched(m: Matched, at: usize, out: &mut [u8]) {
     if 64 < at {
         return;
     }

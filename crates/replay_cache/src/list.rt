@@ -88,7 +88,7 @@ fn agrees(answer: &[u8], wanted: &[u8]) -> bool {
     crc::crc32(answer) == word(wanted, 4)
 }
 
-// Answer `i` of a case: those of a cache, of a matcher and of a road differ in length.
+// Answer `i` of a case: those of a cache, of a matcher, of a road and of an engine differ in length.
 fn answer(out: &[u8], i: u32, how: u32) -> &[u8] {
     if how < 256 {
         return part(out, (i as u64) * 1884, 1884);
@@ -96,7 +96,10 @@ fn answer(out: &[u8], i: u32, how: u32) -> &[u8] {
     if how < 512 {
         return part(out, (i as u64) * 256, 256);
     }
-    part(out, (i as u64) * 1088, 1088)
+    if how < 768 {
+        return part(out, (i as u64) * 1088, 1088);
+    }
+    part(out, (i as u64) * 1280, 1280)
 }
 
 // How many of the answers differ from what is wanted of them.
@@ -114,7 +117,7 @@ fn wrong(out: &[u8], wanted: &[u8], records: u32, how: u32) -> u64 {
 }
 
 // Runs a script over an arena of `len` bytes that `how` tells: the byte that fills it, and 256 more where the script is for a matcher, 512 more
-// where it is for roads.
+// where it is for roads, 768 more where it is for an engine.
 fn ran(script: &[u8], pack: &[u8], len: usize, how: u32, out: &mut [u8]) -> usize {
     let mut arena = [(how % 256) as u8; ARENA];
     if ARENA < len {
@@ -126,7 +129,10 @@ fn ran(script: &[u8], pack: &[u8], len: usize, how: u32, out: &mut [u8]) -> usiz
     if how < 512 {
         return match_replay::run(script, pack, &mut arena[0..len], out);
     }
-    road_replay::run(script, pack, &mut arena[0..len], out)
+    if how < 768 {
+        return road_replay::run(script, pack, &mut arena[0..len], out);
+    }
+    engine_replay::run(script, pack, &mut arena[0..len], out)
 }
 
 // How many answers of a case differ.

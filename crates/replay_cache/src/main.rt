@@ -1,9 +1,9 @@
-// Replays a fixed list of scripts on the cache, on the matcher and of roads on standard input, and prints how many answers were compared and how many differed. The answers are the
+// Replays a fixed list of scripts on the cache, on the matcher, of roads and on an engine on standard input, and prints how many answers were compared and how many differed. The answers are the
 // Rust's, and document 01's where the Rust has no refusal; docs/DIFFERENCES.md says how the list was made.
 //
 // The list comes in blocks of 65,536 bytes, all numbers words of 32 bits, little-endian. A block begins with a pack: how many places of it are told, and for each its
 // offset, its length and its bytes, filled up to whole words; the other bytes are those of `pattern`. Then come cases: how many records, the arena's length, the
-// byte that fills it (and 256 more for a script on the matcher, 512 more for one of roads), how much of the pack is lent, the records, and for each the first four words of its answer and the CRC-32 of all of it. A case of no
+// byte that fills it (and 256 more for a script on the matcher, 512 more for one of roads, 768 more for one on an engine, whose packs are joined), how much of the pack is lent, the records, and for each the first four words of its answer and the CRC-32 of all of it. A case of no
 // records ends a block.
 mod list;
 

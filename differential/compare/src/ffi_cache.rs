@@ -67,6 +67,16 @@ unsafe extern "C" {
         out: *mut u8,
         out_len: usize,
     ) -> usize;
+    fn terrain_replay(
+        script: *const u8,
+        script_len: usize,
+        packs: *const u8,
+        packs_len: usize,
+        arena: *mut u8,
+        arena_len: usize,
+        out: *mut u8,
+        out_len: usize,
+    ) -> usize;
     fn terrain_road_repeat(
         script: *const u8,
         script_len: usize,
@@ -100,6 +110,11 @@ pub fn replay_matches(script: &[Record], pack: &[u8], arena: &[u8]) -> Replayed 
 /// A script on predictions, a matcher and its cache.
 pub fn replay_roads(script: &[Record], pack: &[u8], arena: &[u8]) -> Replayed {
     replayed(terrain_road_replay, 272, script, pack, arena)
+}
+
+/// A script on an engine; the packs are joined as it takes them.
+pub fn replay_engine(script: &[Record], packs: &[u8], arena: &[u8]) -> Replayed {
+    replayed(terrain_replay, 320, script, packs, arena)
 }
 
 /// Lends room for as many answers as the script has records, and looks at what lies beside it.

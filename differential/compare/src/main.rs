@@ -15,6 +15,7 @@ mod angles;
 mod bench;
 mod cache;
 mod crc;
+mod engine;
 mod expected;
 mod ffi;
 mod ffi_cache;
@@ -51,6 +52,8 @@ pub struct Scale {
     matches: u64,
     /// Networks whose roads are followed.
     roads: u64,
+    /// What the numbers of trips of engines go by.
+    engines: u64,
 }
 
 const GATE: Scale = Scale {
@@ -62,6 +65,7 @@ const GATE: Scale = Scale {
     cache: 200,
     matches: 2_000,
     roads: 1_000,
+    engines: 400,
 };
 const FULL: Scale = Scale {
     threads: 2,
@@ -72,12 +76,14 @@ const FULL: Scale = Scale {
     cache: 8_000,
     matches: 20_000,
     roads: 10_000,
+    engines: 4_000,
 };
 
 fn compare(scale: &Scale) -> Vec<Tally> {
     let leaves = [numbers::compare(scale), crc::compare(scale), angles::compare(scale)];
     let rest = [format_and_geometry(scale), cache::compare(scale), matching::compare(scale)];
-    leaves.into_iter().chain(rest).chain([road::compare(scale)]).flatten().collect()
+    let last = [road::compare(scale), engine::compare(scale)];
+    leaves.into_iter().chain(rest).chain(last).flatten().collect()
 }
 
 fn format_and_geometry(scale: &Scale) -> Vec<Tally> {
@@ -98,17 +104,21 @@ fn main() -> ExitCode {
         ["full", "matching"] => matching::compare(&FULL),
         ["gate", "road"] => road::compare(&GATE),
         ["full", "road"] => road::compare(&FULL),
+        ["gate", "engine"] => engine::compare(&GATE),
+        ["full", "engine"] => engine::compare(&FULL),
         ["bench"] => bench::run(),
         ["list", file] => list::write(file),
         ["list_format", file] => list_format::write(file),
         ["list_cache", file] => cache::list::write(file),
         ["list_matches", file] => matching::list::write(file),
         ["list_roads", file] => road::list::write(file),
+        ["list_engine", file] => engine::list::write(file),
         ["bench", "road"] => road::bench::run(),
+        ["bench", "engine"] => engine::bench::run(),
         ["panics"] => panics::print(),
         _ => {
             eprintln!(
-                "usage: run [gate [cache | matching | road] | full [format | cache | matching | road] | bench [road] | panics | list FILE | list_format FILE | list_cache FILE | list_matches FILE | list_roads FILE]"
+                "usage: run [gate [cache | matching | road | engine] | full [format | cache | matching | road | engine] | bench [road | engine] | panics | list FILE | list_format FILE | list_cache FILE | list_matches FILE | list_roads FILE | list_engine FILE]"
             );
             return ExitCode::from(2);
         }

@@ -1,6 +1,6 @@
 //! The Rust original with its two angle functions answered by the port: build.rs writes the
-//! sources to target/terrain_angles and links libabi.a. The ways of matcher and prediction are
-//! counted.
+//! sources to target/terrain_angles and links libabi.a. The ways of matcher, prediction and engine
+//! are counted.
 #![no_std]
 
 use core::sync::atomic::{AtomicU64, Ordering};
@@ -25,16 +25,17 @@ fn met(way: usize, is_so: bool) {
     MET[way].fetch_add(u64::from(is_so), Ordering::Relaxed);
 }
 
-/// The rules of a prediction that are counted, and their names.
-macro_rules! rules {
-    ($($rule:ident: $name:literal,)*) => {
+/// What is counted, and its names.
+macro_rules! counted {
+    ($one:ident, $all:ident; $($rule:ident: $name:literal,)*) => {
         #[derive(Clone, Copy, PartialEq)]
-        pub enum Rule { $($rule,)* }
-        pub const RULES: &[(Rule, &str)] = &[$((Rule::$rule, $name),)*];
+        pub enum $one { $($rule,)* }
+        pub const $all: &[($one, &str)] = &[$(($one::$rule, $name),)*];
     };
 }
 
-rules! {
+// The rules of a prediction.
+counted! { Rule, RULES;
     Horizon: "ends at the horizon",
     Fork: "ends at a fork",
     DeadEnd: "ends as a dead end",
@@ -110,6 +111,84 @@ impl Rule {
 fn was(rule: Rule, is_so: bool) {
     if is_so {
         WAS[rule as usize].fetch_add(1, Ordering::Relaxed);
+    }
+}
+
+// The paths of an engine: how steps end, the ends of published roads, then what leads there.
+counted! { Path, PATHS;
+    Idle: "status Idle",
+    Working: "status Working",
+    NoPack: "status NoPack",
+    OffMap: "status OffMap",
+    Horizon: "published: Horizon",
+    Fork: "published: Fork",
+    DeadEnd: "published: DeadEnd",
+    MapEdge: "published: MapEdge",
+    Uncertain: "published: Uncertain",
+    Memory: "published: Memory",
+    ResetWithFix: "reset with a fix",
+    ResetWithout: "reset without a fix",
+    SamePlace: "fix at the same place",
+    HeadingSet: "heading set",
+    HeadingAged: "heading aged out",
+    HistoryFull: "history full",
+    LostPublished: "lost with a published match",
+    LostNothing: "lost without",
+    HeaderRead: "header read",
+    HeaderMissed: "header missed, to be read again",
+    HeaderEighth: "header missed the eighth time",
+    HeaderPast: "header past the end",
+    HeaderRule: "header that breaks a rule",
+    HeaderSum: "header whose sum is wrong",
+    LoadDone: "load done",
+    LoadMore: "load goes on",
+    LoadMissed: "load missed",
+    LoadPast: "load past the end",
+    BadEntry: "load with a bad entry",
+    LoadEighth: "load failed the eighth time",
+    LoadDropped: "load dropped for another",
+    NoPages: "tile missing: no pages",
+    NoTile: "tile missing: no roads",
+    NoRoom: "tile missing: too large",
+    Corrupt: "tile missing: corrupt",
+    RingWraps: "ring of missing tiles wraps",
+    NoFix: "no fix",
+    OffMapPublished: "off the map with a published match",
+    OffMapNothing: "off the map without",
+    MatchNeeds: "match needs a tile",
+    MatchLimit: "reload limit in a match",
+    NonePublished: "none found with a published match",
+    NoneNothing: "none found without",
+    FirstRoad: "road due: the first",
+    ChangedEdge: "road due: changed edge alone",
+    TimeDue: "road due: time alone",
+    NotDue: "match and no road due",
+    RoadNoMatch: "road due and no match any more",
+    Rematch: "rematch by 6",
+    RoadNeeds: "road needs a tile",
+    RoadLimit: "reload limit in a road",
+    Road: "road published",
+    NothingDue: "nothing due",
+}
+
+/// How often each was taken.
+pub static TOOK: [AtomicU64; PATHS.len()] = [const { AtomicU64::new(0) }; PATHS.len()];
+
+impl Path {
+    /// The statuses come first, in the order of their numbers.
+    fn of_status(status: u32) -> Self {
+        PATHS[status as usize].0
+    }
+
+    /// Then the ends.
+    fn of_end(end: u32) -> Self {
+        PATHS[4 + end as usize].0
+    }
+}
+
+fn took(path: Path, is_so: bool) {
+    if is_so {
+        TOOK[path as usize].fetch_add(1, Ordering::Relaxed);
     }
 }
 

@@ -31,13 +31,13 @@ macro_rules! words {
 }
 
 /// Degrees between two bearings on the circle.
-fn between(a: f64, b: f64) -> f64 {
+pub fn between(a: f64, b: f64) -> f64 {
     let difference = (a - b).abs() % 360.0;
     difference.min(360.0 - difference)
 }
 
 /// Most degrees of the port's bearings from the Rust's and from exact ones, on a tile's segments.
-fn apart(plain: &Plain) -> [f64; 2] {
+pub fn apart(plain: &Plain) -> [f64; 2] {
     let mut most = [0.0_f64; 2];
     for edge in &plain.edges {
         let (from, count) = (edge.first_vertex as usize, usize::from(edge.vertices));

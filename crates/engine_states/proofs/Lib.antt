@@ -1,0 +1,13 @@
+-- No public call of the engine makes a state that number 12 names (EngineClosed), from any state that it doesn't, with the 96 slots that the array
+-- has; without them it can (EngineShort, CacheSized). CacheKept, CacheSized: the cache's causes. SightKept, MatcherKept, RoadBounds: what a fix, a
+-- match and a road leave. KeptParts, EngineKept: the engine's calls. EngineSized: the slots stay 96.
+pub mod CacheKept
+pub mod CacheSized
+pub mod SightKept
+pub mod MatcherKept
+pub mod RoadBounds
+pub mod KeptParts
+pub mod EngineKept
+pub mod EngineSized
+pub mod EngineShort
+pub mod EngineClosed

@@ -1,0 +1,489 @@
+-- What a road over any reader answers: a tile that it needs lies in the grid (`road-need`), and it has at most as many samples as the arrays have
+-- places (`road-lengths`). The idea: each edge that is walked lies in a tile of the grid, since a tile beside it is checked before it is looked
+-- up and every choice is of a tile looked up; and a sample is counted only where it is written. Assumes nothing.
+use Prim.Native.Nat.{ℕ, zero, suc, _+_, _-_, _<_, _≤_}
+use mathlib.Core.Path.{_≡_, refl, subst, _∙_}
+use mathlib.Core.Bool.{Bool, true, false, _&&_, cond}
+use mathlib.Core.List.{List, []}
+use mathlib.Core.Logic.{⊎-elim}
+use native.Mathlib.Omega.{arith}
+use lib.Dec.{ltb, leb}
+use lib.IntN.{ℤ, pos, _+ℤ_}
+use lib.Ieee.{Float, binary32, ofBits, add, sub, lt, le}
+use lib.ListN.{length, getD, set, replicate, length-set}
+use lib.Seq.{set-out, getD-set-same, getD-set-other}
+use borrow.Author.Tests.{ltb-true, lt-ltb}
+use Rattle.num.specs.Order.{isFinite}
+use Rattle.num.proofs.FoldLaws.{up-keeps}
+use Rattle.pack.specs.Grid.{inGrid, checkedOf}
+use Rattle.pack.specs.declared.Header.{Header}
+use Rattle.pack.specs.declared.Keyed.{Keyed}
+use Rattle.pack.specs.declared.Keyed.the-variants as Keyed
+use Rattle.pack.specs.declared.TileKey.{TileKey}
+use Rattle.pack.proofs.Laws.{row-below, col-below, checked-in-grid}
+use Rattle.pages.specs.Runs.{span}
+use Rattle.pages.proofs.Below.{below-or, same-or}
+use Rattle.tile.specs.Layout as Layout
+use Rattle.tile.specs.Readers.{nodeAt}
+use Rattle.tile.specs.declared.Edge.{Edge}
+use Rattle.tile.specs.declared.Found.{Found}
+use Rattle.tile.specs.declared.Found.the-variants as Found
+use Rattle.geo.specs.Flat.{whole}
+use Rattle.geo.specs.declared.Point.{Point}
+use Rattle.cache.specs.Direct.{Look, ready, missing, absent, stale}
+use Rattle.candidates.specs.Score.{sameId}
+use Rattle.candidates.specs.declared.Forward.{Forward}
+use Rattle.candidates.specs.declared.Forward.the-variants as Forward
+use Rattle.candidates.specs.declared.Matched.{Matched}
+use Rattle.samples.specs.Samples.{Pushed, sampleAt, pushFrom, pushed}
+use Rattle.samples.specs.declared.Mark.{Mark}
+use Rattle.ways.specs.Choose.{noChoice, noChoices, choiceIn, push, pickStep, noPick, pickTo, pick}
+use Rattle.ways.specs.Outgoing.{lastOf}
+use Rattle.ways.specs.Twins.{noTwin}
+use Rattle.ways.specs.declared.Choice.{Choice}
+use Rattle.ways.specs.declared.Choices.{Choices}
+use Rattle.ways.specs.declared.choose.Picked.{Picked}
+use Rattle.ways.specs.declared.outgoing.Leg.{Leg}
+use Rattle.ways.specs.declared.twins.Twin.{Twin}
+use Rattle.ways.specs.declared.twins.TwinList.{TwinList}
+use Rattle.ages.specs.Reader.{Reader, plain}
+use Rattle.track.specs.Ridden.{Backs, Written, backStep, backNext, backsTo, backs, lastSample, noMark, ridden}
+use Rattle.track.specs.Start.{startOk}
+use Rattle.track.specs.Vertex as Vertex
+use Rattle.track.specs.Vertex.{Along, stepOf, passed, advanced, vertexStep, vertices, toEnd}
+use Rattle.track.specs.declared.Track.{Track}
+use Rattle.track.specs.declared.Trip.{Trip}
+use Rattle.track.specs.declared.ridden.Back.{Back}
+use Rattle.track.specs.declared.ridden.Behind.{Behind}
+use Rattle.junction.specs.Consider.{choiceOf, isWayOn, considerStep, considerTo, consider}
+use Rattle.junction.specs.Cross.{Ways, considerBy, twinLook, twinKey, goingOver, stepOver, crossTo, crossOver}
+use Rattle.junction.specs.Decide.{lowered, decide}
+use Rattle.junction.specs.Meets.{meet, budget}
+use Rattle.junction.specs.declared.Arrival.{Arrival}
+use Rattle.junction.specs.declared.Decision.{Decision}
+use Rattle.junction.specs.declared.End.the-variants as End
+use Rattle.junction.specs.declared.Ending.{Ending}
+use Rattle.junction.specs.declared.Ending.the-variants as Ending
+use Rattle.junction.specs.declared.Visited.{Visited}
+use Rattle.walk.specs.Walk.{withEnding, moved, reached, taken, onRoad, throughEdge, withEntry, entered, isRound, turned, incomingOf, nodeOf}
+use Rattle.walk.specs.Walk.{arrivalOf, nextLook, Run, takenBy, decidedOver, onwardBy, onwardOver, waysOver, crossedOver, goesOn, legOf, along}
+use Rattle.walk.specs.Walk.{driven, edgeLook, edgeStep, walkTo}
+use Rattle.walk.specs.declared.Walk.{Walk}
+use Rattle.predict.specs.Predict.{walkFrom, prediction, outcomeBy, outcome, Forecast, tripOf, roadOver, startLook, directedOver, forecastOver}
+use Rattle.predict.specs.Predict.{predictOver}
+use Rattle.predict.specs.declared.Outcome.{Outcome}
+use Rattle.predict.specs.declared.Outcome.the-variants as Outcome
+use Rattle.predict.specs.declared.Prediction.{Prediction}
+
+-- ---- the samples
+
+-- no more than the n places are counted
+record Filled (n : ℕ) (m : Mark) (hs : List ℤ) : Type 0 where
+  most : m .len ≤ n
+  long : length hs ≡ n
+
+module _ (n : ℕ) where
+  either-pushed : (t : Bool) (a b : Pushed) → Filled n (a .mark) (a .heights) → Filled n (b .mark) (b .heights)
+      → Filled n (cond t a b .mark) (cond t a b .heights)
+  either-pushed true a b p q = p
+  either-pushed false a b p q = q
+
+  push-fills : (room : ℕ) (m : Mark) (d : Float) (z : ℤ) (len : ℕ) (hs : List ℤ) → len + room ≤ n → length hs ≡ n
+      → Filled n (pushFrom room m d z len hs .mark) (pushFrom room m d z len hs .heights)
+  unfolding pushFrom
+  push-fills zero m d z len hs few long = record { most = omega arith; long = long }
+  push-fills (suc room) m d z len hs few long =
+      either-pushed (lt d (sampleAt len)) _ _ (record { most = omega arith; long = long })
+      (push-fills room m d z (len + 1) _ (omega arith) (length-set hs len _ ∙ long))
+
+  pushed-fills : (m : Mark) (hs : List ℤ) (d : Float) (z : ℤ) → Filled n m hs → Filled n (pushed m hs d z .mark) (pushed m hs d z .heights)
+  pushed-fills m hs d z f = push-fills (length hs - m .len) m d z (m .len) hs (omega (arith, f .most, f .long)) (f .long)
+
+  -- ---- along an edge
+
+  abbrev AlongFills : Along → Type 0
+  AlongFills a = Filled n (a .track .mark) (a .heights)
+
+  either-along : (t : Bool) (a b : Along) → AlongFills a → AlongFills b → AlongFills (cond t a b)
+  either-along true a b p q = p
+  either-along false a b p q = q
+
+  advanced-fills : (trip : Trip) (leg : Leg) (bs : List ℕ) (lonUm : ℕ) (t : Track) (i : ℕ) (hs : List ℤ) → Filled n (t .mark) hs
+      → AlongFills (advanced trip leg bs lonUm t i hs)
+  unfolding advanced Vertex.reached passed
+  advanced-fills trip leg bs lonUm t i hs f =
+      either-along (le (trip .«horizon_m») (add binary32 (t .distance) (stepOf (t .here) _ lonUm))) _ _ (pushed-fills (t .mark) hs _ _ f)
+      (pushed-fills (t .mark) hs _ _ f)
+
+  to-end-fills : (trip : Trip) (leg : Leg) (bs : List ℕ) (lonUm from : ℕ) (a : Along) → AlongFills a → AlongFills (toEnd trip leg bs lonUm from a)
+  unfolding vertices
+  to-end-fills trip leg bs lonUm from a f =
+      up-keeps (vertexStep trip leg bs lonUm from) a AlongFills (lastOf leg + 1 - from) f
+      (λ (i : ℕ) (below : i < lastOf leg + 1 - from) (b : Along) (g : AlongFills b).
+      either-along (b .track .over) b _ g (advanced-fills trip leg bs lonUm (b .track) (from + i) (b .heights) g))
+
+  -- ---- behind the rider
+
+  abbrev BackFills : Backs → Type 0
+  BackFills b = Filled n (b .back .mark) (b .heights)
+
+  either-back : (t : Bool) (a b : Backs) → BackFills a → BackFills b → BackFills (cond t a b)
+  either-back true a b p q = p
+  either-back false a b p q = q
+
+  back-fills : (trip : Trip) (leg : Leg) (bs : List ℕ) (lonUm : ℕ) (reach : Float) (b : Back) (i : ℕ) (hs : List ℤ) → Filled n (b .mark) hs
+      → BackFills (backStep trip leg bs lonUm reach b i hs)
+  unfolding backStep
+  back-fills trip leg bs lonUm reach b i hs f =
+      either-back (le reach (add binary32 (b .distance) (stepOf (b .here) _ lonUm))) _ _ (pushed-fills (b .mark) hs _ _ f)
+      (pushed-fills (b .mark) hs _ _ f)
+
+  backs-fill : (trip : Trip) (leg : Leg) (bs : List ℕ) (lonUm : ℕ) (reach : Float) (from : ℕ) (b : Back) (hs : List ℤ) → Filled n (b .mark) hs
+      → BackFills (backs trip leg bs lonUm reach from b hs)
+  unfolding backs backsTo
+  backs-fill trip leg bs lonUm reach from b hs f =
+      up-keeps (backNext trip leg bs lonUm reach from) (record { back = b; heights = hs }) BackFills (lastOf leg + 1 - from) f
+      (λ (i : ℕ) (below : i < lastOf leg + 1 - from) (c : Backs) (g : BackFills c).
+      either-back (c .back .over) c _ g (back-fills trip leg bs lonUm reach (c .back) (from + i) (c .heights) g))
+
+  last-fits : (b : Back) (hs : List ℤ) → Filled n (b .mark) hs → lastSample b hs .behind .len ≤ n
+  unfolding lastSample
+  last-fits b hs f = by (le (whole 1) (sub binary32 (b .distance) (sampleAt (b .mark .len - 1)))) (ltb (b .mark .len) (length hs)) refl _ _ refl refl
+    where
+      by : (s t : Bool) → ltb (b .mark .len) (length hs) ≡ t → (x y : Written) → x .behind .len ≡ b .mark .len + 1 → y .behind .len ≡ b .mark .len
+          → cond (s && t) x y .behind .len ≤ n
+      by true true e x y p q = omega (arith, p, ltb-true (b .mark .len) (length hs) e, f .long)
+      by true false e x y p q = omega (arith, q, f .most)
+      by false t e x y p q = omega (arith, q, f .most)
+
+  ridden-fits : (trip : Trip) (leg : Leg) (bs : List ℕ) (lonUm : ℕ) (m : Matched) (here : Point) (hs : List ℤ) → length hs ≡ n
+      → ridden trip leg bs lonUm m here hs .behind .len ≤ n
+  unfolding ridden
+  ridden-fits trip leg bs lonUm m here hs long =
+      last-fits _ _ (backs-fill trip leg bs lonUm _ _ _ _ (pushed-fills noMark hs (whole 0) (pos 0) (record { most = omega arith; long = long })))
+
+-- ---- the choices of a junction
+
+module _ (h : Header) where
+  -- a needed key lies in the grid
+  abbrev NeedIn : Ending → Type 0
+  NeedIn Ending.Going = Unit
+  NeedIn (Ending.Stops end) = Unit
+  NeedIn (Ending.Need key) = inGrid h key ≡ true
+  NeedIn Ending.Stale = Unit
+
+  -- whether or not a place was taken
+  abbrev ChoicesIn : Choices → Type 0
+  ChoicesIn c = (i : ℕ) → inGrid h (choiceIn c i .way .tile) ≡ true
+
+  either-choices : (t : Bool) (a b : Choices) → ChoicesIn a → ChoicesIn b → ChoicesIn (cond t a b)
+  either-choices true a b p q = p
+  either-choices false a b p q = q
+
+  set-in : (v : List Choice) (at : ℕ) (new : Choice) → ((i : ℕ) → inGrid h (getD v i noChoice .way .tile) ≡ true) → inGrid h (new .way .tile) ≡ true
+      → (i : ℕ) → inGrid h (getD (set v at new) i noChoice .way .tile) ≡ true
+  set-in v at new all in-grid i =
+      ⊎-elim
+      (λ (e : i ≡ at). rw e
+      (⊎-elim
+      (λ (below : at < length v). rw (getD-set-same v at new noChoice below) in-grid)
+      (λ (past : length v ≤ at). rw (set-out v at new past) (all at))
+      (below-or at (length v))))
+      (λ (e : i ≡ at → ⊥). rw (getD-set-other v at i new noChoice e) (all i))
+      (same-or i at)
+
+  push-in : (c : Choices) (new : Choice) → ChoicesIn c → inGrid h (new .way .tile) ≡ true → ChoicesIn (push c new)
+  unfolding push
+  push-in c new all in-grid = either-choices (leb 12 (c .len)) c _ all (set-in (c .v) (c .len) new all in-grid)
+
+  consider-in : (c : Choices) (a : Arrival) (v : Visited) (bs : List ℕ) (key : TileKey) (node : ℕ) → ChoicesIn c → inGrid h key ≡ true
+      → ChoicesIn (consider c a v bs key node)
+  unfolding consider considerTo considerStep choiceOf
+  consider-in c a v bs key node all in-grid =
+      up-keeps (λ (d : Choices) (i : ℕ). considerStep d a v bs key (Layout.entryOf bs (Layout.adjacencyStart bs node + i))) c ChoicesIn
+      (Layout.adjacencyEnd bs node - Layout.adjacencyStart bs node) all
+      (λ (i : ℕ) (below : i < Layout.adjacencyEnd bs node - Layout.adjacencyStart bs node) (d : Choices) (good : ChoicesIn d).
+      let entry = Layout.entryOf bs (Layout.adjacencyStart bs node + i) in
+      either-choices (isWayOn a v bs key entry) _ d (push-in d (choiceOf a bs key entry) good in-grid) good)
+
+  at-in : (x : Found) (c : Choices) (a : Arrival) (v : Visited) (bs : List ℕ) (key : TileKey) → ChoicesIn c → inGrid h key ≡ true
+      → ChoicesIn (considerBy x c a v bs key)
+  at-in (Found.At node) c a v bs key all in-grid = consider-in c a v bs key node all in-grid
+  at-in Found.Nothing c a v bs key all in-grid = all
+
+  -- ---- the tiles that share the node
+
+  record WaysIn {S : Type 0} (x : Ways S) : Type 0 where
+    choices : ChoicesIn (x .choices)
+    need : NeedIn (x .ending)
+
+  module _ {S : Type 0} (rd : Reader S) (a : Arrival) (same : a .header ≡ h) (v : Visited) where
+    twin-look-in : (l : Look) (x : Ways S) (key : TileKey) (twin : Twin) → inGrid h key ≡ true → WaysIn x → WaysIn (twinLook rd a v l x key twin)
+    twin-look-in (ready bs) x key twin in-grid good =
+        record { choices = at-in (nodeAt bs (twin .x) (twin .y)) (x .choices) a v bs key (good .choices) in-grid; need = good .need }
+    twin-look-in missing x key twin in-grid good = record { choices = good .choices; need = good .need }
+    twin-look-in absent x key twin in-grid good = record { choices = good .choices; need = in-grid }
+    twin-look-in stale x key twin in-grid good = record { choices = good .choices; need = tt }
+
+    twin-key-in : (k : Keyed) (row col : ℤ) (x : Ways S) (twin : Twin) → checkedOf (a .header) row col ≡ k → WaysIn x → WaysIn (twinKey rd a v k x twin)
+    twin-key-in (Keyed.In key) row col x twin e good =
+        twin-look-in (rd .at (x .carried) key) x key twin (rw same at (checked-in-grid (a .header) row col e)) good
+    twin-key-in Keyed.Outside row col x twin e good = record { choices = good .choices; need = good .need }
+    twin-key-in (Keyed.Refused number) row col x twin e good = good
+
+    going-in : (ending : Ending) (x : Ways S) (twin : Twin) → WaysIn x → WaysIn (goingOver rd a v ending x twin)
+    going-in Ending.Going x twin good =
+        let row = pos (a .way .tile .row) +ℤ twin .row in
+        let col = pos (a .way .tile .col) +ℤ twin .col in
+        twin-key-in (checkedOf (a .header) row col) row col x twin refl good
+    going-in (Ending.Stops end) x twin good = good
+    going-in (Ending.Need key) x twin good = good
+    going-in Ending.Stale x twin good = good
+
+    either-ways : (t : Bool) (x y : Ways S) → WaysIn x → WaysIn y → WaysIn (cond t x y)
+    either-ways true x y p q = p
+    either-ways false x y p q = q
+
+    cross-in : (s : S) (choices : Choices) (twins : TwinList) → ChoicesIn choices → WaysIn (crossOver rd a v s choices twins)
+    unfolding crossTo
+    cross-in s choices twins all =
+        up-keeps (λ (y : Ways S) (i : ℕ). stepOver rd a v y (getD (twins .v) i noTwin) i (twins .len))
+        (record { choices = choices; blocked = false; ending = Ending.Going; carried = s }) WaysIn 8 (record { choices = all; need = tt })
+        (λ (i : ℕ) (below : i < 8) (y : Ways S) (good : WaysIn y).
+        either-ways (ltb i (twins .len)) _ y (going-in (y .ending) y (getD (twins .v) i noTwin) good) good)
+
+  -- ---- the way that is taken
+
+  abbrev PickIn : Picked → Type 0
+  PickIn p = inGrid h (p .best .way .tile) ≡ true
+
+  either-pick : (t : Bool) (a b : Picked) → PickIn a → PickIn b → PickIn (cond t a b)
+  either-pick true a b p q = p
+  either-pick false a b p q = q
+
+  pick-in : (c : Choices) → ChoicesIn c → inGrid h (noChoice .way .tile) ≡ true → PickIn (pick c)
+  unfolding pickTo pickStep
+  pick-in c all origin =
+      up-keeps (λ (p : Picked) (i : ℕ). pickStep p (c .len) i (choiceIn c i)) noPick PickIn 12 origin
+      (λ (i : ℕ) (below : i < 12) (p : Picked) (good : PickIn p).
+      either-pick (ltb i (c .len)) _ p
+      (either-pick (p .any) _ _ (either-pick (le (p .best .cost) (choiceIn c i .cost)) _ _ good (all i)) (all i)) good)
+
+  record DecisionIn (d : Decision) : Type 0 where
+    grid : inGrid h (d .way .tile) ≡ true
+    need : NeedIn (d .ending)
+
+  either-decision : (t : Bool) (a b : Decision) → DecisionIn a → DecisionIn b → DecisionIn (cond t a b)
+  either-decision true a b p q = p
+  either-decision false a b p q = q
+
+  decide-in : (c : Choices) (blocked : Bool) (confidence : Float) → ChoicesIn c → inGrid h (noChoice .way .tile) ≡ true
+      → DecisionIn (decide c blocked confidence)
+  unfolding decide
+  decide-in c blocked confidence all origin =
+      let p : Picked = pick c in
+      let grid : inGrid h (p .best .way .tile) ≡ true = pick-in c all origin in
+      let margin = sub binary32 (p .second) (p .best .cost) in
+      either-decision (p .any) _ _
+      (either-decision (isFinite (p .second)) _ _
+      (either-decision (lt margin (whole 1)) _ _ (record { grid = grid; need = tt })
+      (either-decision (lt (lowered confidence margin) (ofBits binary32 0x3e99999a)) _ _ (record { grid = grid; need = tt }) (record { grid = grid; need = tt })))
+      (record { grid = grid; need = tt }))
+      (either-decision blocked _ _ (record { grid = grid; need = tt }) (record { grid = grid; need = tt }))
+
+  -- ---- at the junction
+
+  -- a walk in the grid that stands where the track is
+  record At (t : Track) (w : Walk) : Type 0 where
+    grid : inGrid h (w .way .tile) ≡ true
+    need : NeedIn (w .ending)
+    track : w .track ≡ t
+
+  origin-in : (k : TileKey) → inGrid h k ≡ true → inGrid h (noChoice .way .tile) ≡ true
+  origin-in k e = rw (lt-ltb 0 (h .rows) (omega (arith, row-below h k e)), lt-ltb 0 (h .cols) (omega (arith, col-below h k e)))
+
+  none-in : inGrid h (noChoice .way .tile) ≡ true → (n i : ℕ) → inGrid h (getD (replicate n noChoice) i noChoice .way .tile) ≡ true
+  none-in origin zero i = origin
+  none-in origin (suc n) zero = origin
+  none-in origin (suc n) (suc i) = none-in origin n i
+
+  module _ (t : Track) where
+    end-at : (w : Walk) (ending : Ending) → At t w → NeedIn ending → At t (withEnding w ending)
+    unfolding withEnding
+    end-at w ending good need = record { grid = good .grid; need = need; track = good .track }
+
+    next-at : (l : Look) (w : Walk) → At t w → At t (nextLook l w)
+    unfolding onRoad
+    next-at (ready bs) w good = record { grid = good .grid; need = good .need; track = good .track }
+    next-at missing w good = end-at w (Ending.Need (w .way .tile)) good (good .grid)
+    next-at absent w good = end-at w (Ending.Need (w .way .tile)) good (good .grid)
+    next-at stale w good = end-at w Ending.Stale good tt
+
+    either-at : (b : Bool) (v w : Walk) → At t v → At t w → At t (cond b v w)
+    either-at true v w p q = p
+    either-at false v w p q = q
+
+    turned-at : (w : Walk) (e : Edge) (incoming : Float) → At t w → At t (turned w e incoming)
+    unfolding turned withEntry
+    turned-at w e incoming good =
+        either-at (isRound e) _ _ (record { grid = good .grid; need = good .need; track = good .track })
+        (record { grid = good .grid; need = good .need; track = good .track })
+
+    module _ {S : Type 0} (rd : Reader S) where
+      taken-by-at : (ending : Ending) (w : Walk) (s : S) → At t w → At t (takenBy rd ending w s .walk)
+      taken-by-at Ending.Going w s good = next-at (rd .at s (w .way .tile)) w good
+      taken-by-at (Ending.Stops end) w s good = good
+      taken-by-at (Ending.Need key) w s good = good
+      taken-by-at Ending.Stale w s good = good
+
+      decided-at : (w : Walk) (s : S) (d : Decision) → At t w → DecisionIn d → At t (decidedOver rd w s d .walk)
+      unfolding taken
+      decided-at w s d good by = taken-by-at (d .ending) (taken w d) s (record { grid = by .grid; need = by .need; track = good .track })
+
+      onward-at : (ending : Ending) (w : Walk) (x : Ways S) → At t w → WaysIn x → NeedIn ending → At t (onwardBy rd ending w x .walk)
+      onward-at Ending.Going w x good ways need =
+          decided-at w (x .carried) _ good (decide-in (x .choices) (x .blocked) (w .confidence) (ways .choices) (origin-in (w .way .tile) (good .grid)))
+      onward-at (Ending.Stops end) w x good ways need = end-at w (Ending.Stops end) good tt
+      onward-at (Ending.Need key) w x good ways need = end-at w (Ending.Need key) good need
+      onward-at Ending.Stale w x good ways need = end-at w Ending.Stale good tt
+
+      onward-of : (w : Walk) (x : Ways S) → At t w → WaysIn x → At t (onwardOver rd w x .walk)
+      onward-of w x good ways = onward-at (x .ending) w x good ways (ways .need)
+
+      ways-in : (w : Walk) (s : S) (bs : List ℕ) (leg : Leg) (incoming : Float) → At t w → WaysIn (waysOver rd h w s bs leg incoming)
+      ways-in w s bs leg incoming good =
+          cross-in rd (arrivalOf h w incoming) refl (w .visited) s _ _
+          (consider-in noChoices (arrivalOf h w incoming) (w .visited) bs (w .way .tile) (nodeOf leg)
+          (none-in (origin-in (w .way .tile) (good .grid)) 12) (good .grid))
+
+      crossed-at : (w : Walk) (s : S) (bs : List ℕ) (leg : Leg) → At t w → At t (crossedOver rd h w s bs leg .walk)
+      unfolding crossedOver
+      crossed-at w s bs leg good =
+          let incoming = incomingOf w (Layout.headOf bs .«lon_um») in
+          let next : At t (turned w (leg .edge) incoming) = turned-at w (leg .edge) incoming good in
+          onward-of (turned w (leg .edge) incoming) _ next (ways-in (turned w (leg .edge) incoming) s bs leg incoming next)
+
+-- ---- the walk
+
+module _ {S : Type 0} (rd : Reader S) (trip : Trip) (budget n : ℕ) where
+  record RunIn (r : Run S) : Type 0 where
+    grid : inGrid (trip .header) (r .walk .way .tile) ≡ true
+    need : NeedIn (trip .header) (r .walk .ending)
+    filled : Filled n (r .walk .track .mark) (r .heights)
+
+  at-run : (t : Track) (w : Walk) (s : S) (hs : List ℤ) → At (trip .header) t w → Filled n (t .mark) hs
+      → RunIn (record { walk = w; carried = s; heights = hs })
+  at-run t w s hs good filled = record { grid = good .grid; need = good .need; filled = rw (good .track) filled }
+
+  either-run : (b : Bool) (x y : Run S) → RunIn x → RunIn y → RunIn (cond b x y)
+  either-run true x y p q = p
+  either-run false x y p q = q
+
+  driven-in : (w : Walk) (s : S) (bs : List ℕ) (hs : List ℤ) → At (trip .header) (w .track) w → Filled n (w .track .mark) hs
+      → RunIn (driven rd trip budget w s bs hs)
+  unfolding along reached moved withEnding
+  driven-in w s bs hs good filled =
+      let a : Along = along trip w bs hs in
+      let fills : Filled n (a .track .mark) (a .heights)
+      = to-end-fills n trip (legOf (trip .header) (w .way) bs) bs (Layout.headOf bs .«lon_um») (w .from) (record { track = w .track; heights = hs }) filled in
+      either-run (a .track .over) _ _ (record { grid = good .grid; need = tt; filled = fills })
+      (at-run (a .track) _ _ (a .heights)
+      (crossed-at (trip .header) (a .track) rd (moved w (a .track)) s bs _ (record { grid = good .grid; need = good .need; track = refl })) fills)
+
+  entered-at : (w : Walk) (pages : ℕ) → At (trip .header) (w .track) w → At (trip .header) (w .track) (entered w budget pages)
+  unfolding throughEdge
+  entered-at w pages good =
+      either-at (trip .header) (w .track) (meet (w .met) budget (w .way .tile) pages .fits) _ _
+      (record { grid = good .grid; need = good .need; track = good .track })
+      (end-at (trip .header) (w .track) w (Ending.Stops End.Memory) good tt)
+
+  -- a run whose walk stands in the grid, on its own track
+  run-at : (r : Run S) → RunIn r → At (trip .header) (r .walk .track) (r .walk)
+  run-at r good = record { grid = good .grid; need = good .need; track = refl }
+
+  look-in : (l : Look) (r : Run S) → RunIn r → RunIn (edgeLook rd trip budget l r)
+  look-in (ready bs) r good =
+      let w : Walk = r .walk in
+      let next : Walk = entered w budget (span (length bs)) in
+      let s = rd .found (r .carried) (w .way .tile) in
+      let in-tile : At (trip .header) (w .track) next = entered-at w (span (length bs)) (run-at r good) in
+      let filled : Filled n (next .track .mark) (r .heights) = rw (in-tile .track) (good .filled) in
+      either-run (goesOn (next .ending)) _ _
+      (driven-in next s bs (r .heights) (record { grid = in-tile .grid; need = in-tile .need; track = refl }) filled)
+      (record { grid = in-tile .grid; need = in-tile .need; filled = filled })
+  look-in missing r good =
+      at-run (r .walk .track) _ _ (r .heights) (end-at (trip .header) _ (r .walk) (Ending.Need (r .walk .way .tile)) (run-at r good) (good .grid)) (good .filled)
+  look-in absent r good =
+      at-run (r .walk .track) _ _ (r .heights) (end-at (trip .header) _ (r .walk) (Ending.Need (r .walk .way .tile)) (run-at r good) (good .grid)) (good .filled)
+  look-in stale r good =
+      at-run (r .walk .track) _ _ (r .heights) (end-at (trip .header) _ (r .walk) Ending.Stale (run-at r good) tt) (good .filled)
+
+  walk-in : (r : Run S) → RunIn r → (edges : ℕ) → RunIn (walkTo rd trip budget r edges)
+  unfolding walkTo
+  walk-in r good edges =
+      up-keeps (λ (x : Run S) (i : ℕ). edgeStep rd trip budget x) r RunIn edges good
+      (λ (i : ℕ) (below : i < edges) (x : Run S) (was : RunIn x).
+      either-run (goesOn (x .walk .ending)) _ x (look-in (rd .at (x .carried) (x .walk .way .tile)) x was) was)
+
+-- ---- the road
+
+-- a needed key of the grid, or lengths of at most a ahead and b behind
+abbrev pub RoadIn : Header → ℕ → ℕ → Outcome → Type 0
+RoadIn h a b (Outcome.Road p) = (p .len ≤ a) × (p .behind ≤ b)
+RoadIn h a b (Outcome.Need key) = inGrid h key ≡ true
+RoadIn h a b Outcome.Rematch = Unit
+RoadIn h a b (Outcome.Refused number) = Unit
+
+outcome-in : (h : Header) (a b : ℕ) (ending : Ending) (w : Walk) (behind : Behind) → NeedIn h ending → w .track .mark .len ≤ a → behind .len ≤ b
+    → RoadIn h a b (outcomeBy ending w behind)
+unfolding prediction
+outcome-in h a b Ending.Going w behind need p q = (p, q)
+outcome-in h a b (Ending.Stops end) w behind need p q = (p, q)
+outcome-in h a b (Ending.Need key) w behind need p q = need
+outcome-in h a b Ending.Stale w behind need p q = tt
+
+module _ {S : Type 0} (rd : Reader S) (n a b : ℕ) (samples behind : List ℤ) (ahead-long : length samples ≡ a) (behind-long : length behind ≡ b) where
+  either-road : (h : Header) (t : Bool) (x y : Forecast S) → RoadIn h a b (x .answer) → RoadIn h a b (y .answer) → RoadIn h a b (cond t x y .answer)
+  either-road h true x y p q = p
+  either-road h false x y p q = q
+
+  run-road : (trip : Trip) (r : Run S) (x : Behind) → RunIn rd trip (budget n) a r → x .len ≤ b → RoadIn (trip .header) a b (outcome (r .walk) x)
+  run-road trip r x good few = outcome-in (trip .header) a b (r .walk .ending) (r .walk) x (good .need) (good .filled .most) few
+
+  road-in : (trip : Trip) (m : Matched) (forward : Bool) (s : S) (bs : List ℕ) → inGrid (trip .header) (m .tile .key) ≡ true
+      → RoadIn (trip .header) a b (roadOver rd n trip m forward s bs samples behind .answer)
+  unfolding roadOver walkFrom
+  road-in trip m forward s bs in-grid =
+      let first = pushed-fills a noMark samples (whole 0) (pos 0) (record { most = omega arith; long = ahead-long }) in
+      run-road trip _ _ (walk-in rd trip (budget n) a _ (record { grid = in-grid; need = tt; filled = first }) 2000)
+      (ridden-fits b trip _ bs _ m _ behind behind-long)
+
+  look-road : (l : Look) (h : Header) (m : Matched) (forward : Bool) (horizon : Float) (s : S) → inGrid h (m .tile .key) ≡ true
+      → RoadIn h a b (startLook rd n l h m forward horizon s samples behind .answer)
+  look-road (ready bs) h m forward horizon s in-grid =
+      either-road h (sameId (Layout.idOf bs) (m .tile)) _ _
+      (either-road h (startOk bs m) _ _ (road-in (tripOf h m horizon) m forward _ bs in-grid) tt) tt
+  look-road missing h m forward horizon s in-grid = tt
+  look-road absent h m forward horizon s in-grid = in-grid
+  look-road stale h m forward horizon s in-grid = tt
+
+  directed-road : (forward : Forward) (h : Header) (m : Matched) (horizon : Float) (s : S) → inGrid h (m .tile .key) ≡ true
+      → RoadIn h a b (directedOver rd n forward h m horizon s samples behind .answer)
+  directed-road Forward.Unknown h m horizon s in-grid = (omega arith, omega arith)
+  directed-road (Forward.Is forward) h m horizon s in-grid = look-road (rd .at s (m .tile .key)) h m forward horizon s in-grid
+
+  pub forecast-in : (h : Header) (m : Matched) (horizon : Float) (s : S) → inGrid h (m .tile .key) ≡ true
+      → RoadIn h a b (forecastOver rd n h m horizon s samples behind .answer)
+  unfolding forecastOver
+  forecast-in h m horizon s in-grid = directed-road (m .forward) h m horizon s in-grid
+
+module _ (at : TileKey → Look) (n : ℕ) (h : Header) (m : Matched) (horizon : Float) (samples behind : List ℤ)
+    (in-grid : inGrid h (m .tile .key) ≡ true) (ahead-long : length samples ≡ 501) (behind-long : length behind ≡ 11) where
+  pub predict-in : RoadIn h 501 11 (predictOver at n h m horizon samples behind .answer)
+  predict-in = forecast-in (plain at) n 501 11 samples behind ahead-long behind-long h m horizon [] in-grid
+
+  pub road-need : (key : TileKey) → predictOver at n h m horizon samples behind .answer ≡ Outcome.Need key → inGrid h key ≡ true
+  road-need key e = subst (RoadIn h 501 11) e predict-in
+
+  pub road-lengths : (p : Prediction) → predictOver at n h m horizon samples behind .answer ≡ Outcome.Road p → (p .len ≤ 501) × (p .behind ≤ 11)
+  road-lengths p e = subst (RoadIn h 501 11) e predict-in
