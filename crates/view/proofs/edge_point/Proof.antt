@@ -1,0 +1,16 @@
+-- `view::edge_point` meets its contract: the run's bytes, and the point that a view of them gives. Assumes nothing.
+use borrow.Author.Needs.{needs}
+use Rattle.view.proofs.edge_point.Statement.{statement}
+use Rattle.view.proofs.edge_point.Tie as tie
+
+run-requires : tie.Need-run-requires
+run-requires c κs = tt
+
+point-in-requires : tie.Need-point-in-requires
+point-in-requires c κs = tt
+
+returns : tie.Need-returns
+returns c = rw (c .point-in .ensures, c .before .run .ensures)
+
+pub edge-point-spec : {M : Type 1} → statement M
+edge-point-spec = tie.close (tie.spec run-requires point-in-requires returns)

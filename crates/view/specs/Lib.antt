@@ -1,0 +1,2 @@
+-- The view of a tile.
+pub mod Views
