@@ -62,10 +62,10 @@ module _ (R : Datum) (Ps : List Datum) (f : (κs : Lfts 1) → List ℕ → Data
   Shown callee = (𝓣 : Tables 𝓤 H) → Triple 𝓤 (𝓣 .C callee) (Answer lent R Ps f 𝓤 H A)
       → Meets 𝓤 H A (ended seen R Ps f .signature) (WpFn 𝓤 H (𝓣 .C) (𝓣 .Λ) (function R Ps callee)) (closing 𝓤 H A (ended seen R Ps f) (clauses seen R Ps f 𝓤 H A))
 
-  apart : (W : Given 𝓤 H A) (κ : Lft) (q : Share) (d : Tile) (xs : Data (κ, tt) Ps) → ent 𝓤 (Entry seen R Ps f 𝓤 H A W κ q d xs) (Answer lent R Ps f 𝓤 H A .pre (to lent R Ps f 𝓤 H A W κ q (d .bytes) xs (slice d)))
+  apart : (W : Given 𝓤 H A) (κ : Lft) (q : Share) (d : Tile) (xs : Data (κ, tt) Ps) → ent 𝓤 (Entry seen R Ps f 𝓤 H A κ q d xs) (Answer lent R Ps f 𝓤 H A .pre (to lent R Ps f 𝓤 H A κ q (d .bytes) xs (slice (d .bytes))))
   apart W κ q d xs =
       qed W ((‵ (flft κ q) ⊛ ‵ ftrue) ∷ ‵ (owns (B (κ, tt) ∷ typesAt (slots Ps) (κ, tt)) (d, xs) (T′.lowered d ∷ [], values (κ, tt) Ps xs)) ∷ []) ∵
-      move ! (1 ∷ []) $ fsplit ! $ use1 W (‵ (ShrSlice (named 0) κ u8 .own (d .bytes) (slice d ∷ []))) (field-out 𝓤 H A W κ d 0) $
+      move ! (1 ∷ []) $ fsplit ! $ use1 W (‵ (ShrSlice (named 0) κ u8 .own (d .bytes) (slice (d .bytes) ∷ []))) (field-out 𝓤 H A W κ d 0) $
       -- [what the bytes own; what the data own; the token]
       fjoin ! $ move ! (1 ∷ 0 ∷ []) $ join ! $ frame ! $ done !
 
@@ -81,16 +81,16 @@ module _ (R : Datum) (f : List ℕ → R .row .Denot) {M : Type 1} (𝓤 : URA M
   abbrev F₀ : (κs : Lfts 1) → List ℕ → Data κs Ps₀ → R .row .Denot
   F₀ κs bs xs = f bs
 
-  none-walk : (𝓣 : Tables 𝓤 H) → Triple 𝓤 (𝓣 .C callee) (Answer lent R Ps₀ F₀ 𝓤 H A) → Walk seen R Ps₀ F₀ 𝓤 H A W 𝓣 (function R Ps₀ callee)
+  none-walk : (𝓣 : Tables 𝓤 H) → Triple 𝓤 (𝓣 .C callee) (Answer lent R Ps₀ F₀ 𝓤 H A) → Walk seen R Ps₀ F₀ 𝓤 H A 𝓣 (function R Ps₀ callee)
   none-walk 𝓣 known κ q d xs is are =
-      qed W (raw (Entry seen R Ps₀ F₀ 𝓤 H A W κ q d xs) ∷ []) ∵ enter ! (𝓣 .C) (𝓣 .Λ) (function R Ps₀ callee) _ _ $
+      qed W (raw (Entry seen R Ps₀ F₀ 𝓤 H A κ q d xs) ∷ []) ∵ enter ! (𝓣 .C) (𝓣 .Λ) (function R Ps₀ callee) _ _ $
       alloc1 ! (λ l₀. alloc1 ! (λ l₁. alloc1 ! (λ l₂. alloc0 ! $ params1 ! $ pass1 ! (init ! 2 refl (view-typed 𝓤 H A W κ d is)) $ pass0 ! $
       assigns ! (of-opd ! (load ! (from ! (fld ! refl (stop !))) (look-in ! 2 (sub ! 0 refl (whole !))))) (from ! (stop !)) (init ! 0 refl (tt, view-typed 𝓤 H A W κ d is .1 .0)) $
-      move ! (6 ∷ []) $ use1 W (raw (Answer lent R Ps₀ F₀ 𝓤 H A .pre (to lent R Ps₀ F₀ 𝓤 H A W κ q (d .bytes) xs (slice d)))) (apart R Ps₀ F₀ 𝓤 H A W κ q d xs) $
-      calls-at ! (fmOf 𝓤 H (W .laws) 𝓣) (Answer lent R Ps₀ F₀ 𝓤 H A) known (to lent R Ps₀ F₀ 𝓤 H A W κ q (d .bytes) xs (slice d)) (and-then ! (load ! (from ! (stop !)) (look ! 1 refl)) (no-more !)) (λ u. answers lent R Ps₀ F₀ 𝓤 H A W κ q (d .bytes) xs (slice d) ! tt u (λ r e ris.
+      move ! (6 ∷ []) $ use1 W (raw (Answer lent R Ps₀ F₀ 𝓤 H A .pre (to lent R Ps₀ F₀ 𝓤 H A κ q (d .bytes) xs (slice (d .bytes))))) (apart R Ps₀ F₀ 𝓤 H A W κ q d xs) $
+      calls-at ! (fmOf 𝓤 H (W .laws) 𝓣) (Answer lent R Ps₀ F₀ 𝓤 H A) known (to lent R Ps₀ F₀ 𝓤 H A κ q (d .bytes) xs (slice (d .bytes))) (and-then ! (load ! (from ! (stop !)) (look ! 1 refl)) (no-more !)) (λ u. answers lent R Ps₀ F₀ 𝓤 H A κ q (d .bytes) xs (slice (d .bytes)) W ! tt u (λ r e ris.
       -- [the answer; the token; _2; …; _1; …; room for _0; …]
       land ! (from ! (stop !)) (init ! 6 refl (typed R 𝓤 H A W r u ris)) $ returns ! (look ! 6 refl) $ forget ! 2 refl $ forget ! 4 refl $ forget ! 6 refl $
-      move ! (6 ∷ 7 ∷ []) $ free1 ! $ move ! (4 ∷ 5 ∷ []) $ free1 ! $ move ! (2 ∷ 3 ∷ []) $ free1 ! $ free0 ! $ by ! (exits seen R Ps₀ F₀ 𝓤 H A W κ q d xs r u e))))))
+      move ! (6 ∷ 7 ∷ []) $ free1 ! $ move ! (4 ∷ 5 ∷ []) $ free1 ! $ move ! (2 ∷ 3 ∷ []) $ free1 ! $ free0 ! $ by ! (exits seen R Ps₀ F₀ 𝓤 H A κ q d xs W r u e))))))
 
   pub none : Shown R Ps₀ F₀ 𝓤 H A callee
   none 𝓣 known = meets seen R Ps₀ F₀ 𝓤 H A W 𝓣 (function R Ps₀ callee) (none-walk 𝓣 known)
@@ -103,16 +103,16 @@ module _ (R P : Datum) (f : List ℕ → P .row .Denot → R .row .Denot) {M : T
   abbrev F₁ : (κs : Lfts 1) → List ℕ → Data κs Ps₁ → R .row .Denot
   F₁ κs bs xs = f bs (xs .0)
 
-  one-walk : (𝓣 : Tables 𝓤 H) → Triple 𝓤 (𝓣 .C callee) (Answer lent R Ps₁ F₁ 𝓤 H A) → Walk seen R Ps₁ F₁ 𝓤 H A W 𝓣 (function R Ps₁ callee)
+  one-walk : (𝓣 : Tables 𝓤 H) → Triple 𝓤 (𝓣 .C callee) (Answer lent R Ps₁ F₁ 𝓤 H A) → Walk seen R Ps₁ F₁ 𝓤 H A 𝓣 (function R Ps₁ callee)
   one-walk 𝓣 known κ q d xs is are =
-      qed W (raw (Entry seen R Ps₁ F₁ 𝓤 H A W κ q d xs) ∷ []) ∵ enter ! (𝓣 .C) (𝓣 .Λ) (function R Ps₁ callee) _ _ $
+      qed W (raw (Entry seen R Ps₁ F₁ 𝓤 H A κ q d xs) ∷ []) ∵ enter ! (𝓣 .C) (𝓣 .Λ) (function R Ps₁ callee) _ _ $
       alloc1 ! (λ l₀. alloc1 ! (λ l₁. alloc1 ! (λ l₂. alloc1 ! (λ l₃. alloc0 ! $ params1 ! $ pass1 ! (init ! 4 refl (view-typed 𝓤 H A W κ d is)) $ pass1 ! (init ! 2 refl (typed P 𝓤 H A W (xs .0) _ (are .0))) $ pass0 ! $
       assigns ! (of-opd ! (load ! (from ! (fld ! refl (stop !))) (look-in ! 4 (sub ! 0 refl (whole !))))) (from ! (stop !)) (init ! 0 refl (tt, view-typed 𝓤 H A W κ d is .1 .0)) $
-      move ! (8 ∷ []) $ use1 W (raw (Answer lent R Ps₁ F₁ 𝓤 H A .pre (to lent R Ps₁ F₁ 𝓤 H A W κ q (d .bytes) xs (slice d)))) (apart R Ps₁ F₁ 𝓤 H A W κ q d xs) $
-      calls-at ! (fmOf 𝓤 H (W .laws) 𝓣) (Answer lent R Ps₁ F₁ 𝓤 H A) known (to lent R Ps₁ F₁ 𝓤 H A W κ q (d .bytes) xs (slice d)) (and-then ! (load ! (from ! (stop !)) (look ! 1 refl)) (and-then ! (load ! (from ! (stop !)) (look ! 3 refl)) (no-more !))) (λ u. answers lent R Ps₁ F₁ 𝓤 H A W κ q (d .bytes) xs (slice d) ! tt u (λ r e ris.
+      move ! (8 ∷ []) $ use1 W (raw (Answer lent R Ps₁ F₁ 𝓤 H A .pre (to lent R Ps₁ F₁ 𝓤 H A κ q (d .bytes) xs (slice (d .bytes))))) (apart R Ps₁ F₁ 𝓤 H A W κ q d xs) $
+      calls-at ! (fmOf 𝓤 H (W .laws) 𝓣) (Answer lent R Ps₁ F₁ 𝓤 H A) known (to lent R Ps₁ F₁ 𝓤 H A κ q (d .bytes) xs (slice (d .bytes))) (and-then ! (load ! (from ! (stop !)) (look ! 1 refl)) (and-then ! (load ! (from ! (stop !)) (look ! 3 refl)) (no-more !))) (λ u. answers lent R Ps₁ F₁ 𝓤 H A κ q (d .bytes) xs (slice (d .bytes)) W ! tt u (λ r e ris.
       -- [the answer; the token; _3; …; _2; …; _1; …; room for _0; …]
       land ! (from ! (stop !)) (init ! 8 refl (typed R 𝓤 H A W r u ris)) $ returns ! (look ! 8 refl) $ forget ! 2 refl $ forget ! 4 refl $ forget ! 6 refl $ forget ! 8 refl $
-      move ! (8 ∷ 9 ∷ []) $ free1 ! $ move ! (6 ∷ 7 ∷ []) $ free1 ! $ move ! (4 ∷ 5 ∷ []) $ free1 ! $ move ! (2 ∷ 3 ∷ []) $ free1 ! $ free0 ! $ by ! (exits seen R Ps₁ F₁ 𝓤 H A W κ q d xs r u e)))))))
+      move ! (8 ∷ 9 ∷ []) $ free1 ! $ move ! (6 ∷ 7 ∷ []) $ free1 ! $ move ! (4 ∷ 5 ∷ []) $ free1 ! $ move ! (2 ∷ 3 ∷ []) $ free1 ! $ free0 ! $ by ! (exits seen R Ps₁ F₁ 𝓤 H A κ q d xs W r u e)))))))
 
   pub one : Shown R Ps₁ F₁ 𝓤 H A callee
   one 𝓣 known = meets seen R Ps₁ F₁ 𝓤 H A W 𝓣 (function R Ps₁ callee) (one-walk 𝓣 known)
@@ -125,16 +125,16 @@ module _ (R P Q : Datum) (f : List ℕ → P .row .Denot → Q .row .Denot → R
   abbrev F₂ : (κs : Lfts 1) → List ℕ → Data κs Ps₂ → R .row .Denot
   F₂ κs bs xs = f bs (xs .0) (xs .1 .0)
 
-  two-walk : (𝓣 : Tables 𝓤 H) → Triple 𝓤 (𝓣 .C callee) (Answer lent R Ps₂ F₂ 𝓤 H A) → Walk seen R Ps₂ F₂ 𝓤 H A W 𝓣 (function R Ps₂ callee)
+  two-walk : (𝓣 : Tables 𝓤 H) → Triple 𝓤 (𝓣 .C callee) (Answer lent R Ps₂ F₂ 𝓤 H A) → Walk seen R Ps₂ F₂ 𝓤 H A 𝓣 (function R Ps₂ callee)
   two-walk 𝓣 known κ q d xs is are =
-      qed W (raw (Entry seen R Ps₂ F₂ 𝓤 H A W κ q d xs) ∷ []) ∵ enter ! (𝓣 .C) (𝓣 .Λ) (function R Ps₂ callee) _ _ $
+      qed W (raw (Entry seen R Ps₂ F₂ 𝓤 H A κ q d xs) ∷ []) ∵ enter ! (𝓣 .C) (𝓣 .Λ) (function R Ps₂ callee) _ _ $
       alloc1 ! (λ l₀. alloc1 ! (λ l₁. alloc1 ! (λ l₂. alloc1 ! (λ l₃. alloc1 ! (λ l₄. alloc0 ! $ params1 ! $ pass1 ! (init ! 6 refl (view-typed 𝓤 H A W κ d is)) $ pass1 ! (init ! 4 refl (typed P 𝓤 H A W (xs .0) _ (are .0))) $ pass1 ! (init ! 2 refl (typed Q 𝓤 H A W (xs .1 .0) _ (are .1 .0))) $ pass0 ! $
       assigns ! (of-opd ! (load ! (from ! (fld ! refl (stop !))) (look-in ! 6 (sub ! 0 refl (whole !))))) (from ! (stop !)) (init ! 0 refl (tt, view-typed 𝓤 H A W κ d is .1 .0)) $
-      move ! (10 ∷ []) $ use1 W (raw (Answer lent R Ps₂ F₂ 𝓤 H A .pre (to lent R Ps₂ F₂ 𝓤 H A W κ q (d .bytes) xs (slice d)))) (apart R Ps₂ F₂ 𝓤 H A W κ q d xs) $
-      calls-at ! (fmOf 𝓤 H (W .laws) 𝓣) (Answer lent R Ps₂ F₂ 𝓤 H A) known (to lent R Ps₂ F₂ 𝓤 H A W κ q (d .bytes) xs (slice d)) (and-then ! (load ! (from ! (stop !)) (look ! 1 refl)) (and-then ! (load ! (from ! (stop !)) (look ! 5 refl)) (and-then ! (load ! (from ! (stop !)) (look ! 3 refl)) (no-more !)))) (λ u. answers lent R Ps₂ F₂ 𝓤 H A W κ q (d .bytes) xs (slice d) ! tt u (λ r e ris.
+      move ! (10 ∷ []) $ use1 W (raw (Answer lent R Ps₂ F₂ 𝓤 H A .pre (to lent R Ps₂ F₂ 𝓤 H A κ q (d .bytes) xs (slice (d .bytes))))) (apart R Ps₂ F₂ 𝓤 H A W κ q d xs) $
+      calls-at ! (fmOf 𝓤 H (W .laws) 𝓣) (Answer lent R Ps₂ F₂ 𝓤 H A) known (to lent R Ps₂ F₂ 𝓤 H A κ q (d .bytes) xs (slice (d .bytes))) (and-then ! (load ! (from ! (stop !)) (look ! 1 refl)) (and-then ! (load ! (from ! (stop !)) (look ! 5 refl)) (and-then ! (load ! (from ! (stop !)) (look ! 3 refl)) (no-more !)))) (λ u. answers lent R Ps₂ F₂ 𝓤 H A κ q (d .bytes) xs (slice (d .bytes)) W ! tt u (λ r e ris.
       -- [the answer; the token; _4; …; _3; …; _2; …; _1; …; room for _0; …]
       land ! (from ! (stop !)) (init ! 10 refl (typed R 𝓤 H A W r u ris)) $ returns ! (look ! 10 refl) $ forget ! 2 refl $ forget ! 4 refl $ forget ! 6 refl $ forget ! 8 refl $ forget ! 10 refl $
-      move ! (10 ∷ 11 ∷ []) $ free1 ! $ move ! (8 ∷ 9 ∷ []) $ free1 ! $ move ! (6 ∷ 7 ∷ []) $ free1 ! $ move ! (4 ∷ 5 ∷ []) $ free1 ! $ move ! (2 ∷ 3 ∷ []) $ free1 ! $ free0 ! $ by ! (exits seen R Ps₂ F₂ 𝓤 H A W κ q d xs r u e))))))))
+      move ! (10 ∷ 11 ∷ []) $ free1 ! $ move ! (8 ∷ 9 ∷ []) $ free1 ! $ move ! (6 ∷ 7 ∷ []) $ free1 ! $ move ! (4 ∷ 5 ∷ []) $ free1 ! $ move ! (2 ∷ 3 ∷ []) $ free1 ! $ free0 ! $ by ! (exits seen R Ps₂ F₂ 𝓤 H A κ q d xs W r u e))))))))
 
   pub two : Shown R Ps₂ F₂ 𝓤 H A callee
   two 𝓣 known = meets seen R Ps₂ F₂ 𝓤 H A W 𝓣 (function R Ps₂ callee) (two-walk 𝓣 known)
@@ -147,16 +147,16 @@ module _ (R P Q S : Datum) (f : List ℕ → P .row .Denot → Q .row .Denot →
   abbrev F₃ : (κs : Lfts 1) → List ℕ → Data κs Ps₃ → R .row .Denot
   F₃ κs bs xs = f bs (xs .0) (xs .1 .0) (xs .1 .1 .0)
 
-  three-walk : (𝓣 : Tables 𝓤 H) → Triple 𝓤 (𝓣 .C callee) (Answer lent R Ps₃ F₃ 𝓤 H A) → Walk seen R Ps₃ F₃ 𝓤 H A W 𝓣 (function R Ps₃ callee)
+  three-walk : (𝓣 : Tables 𝓤 H) → Triple 𝓤 (𝓣 .C callee) (Answer lent R Ps₃ F₃ 𝓤 H A) → Walk seen R Ps₃ F₃ 𝓤 H A 𝓣 (function R Ps₃ callee)
   three-walk 𝓣 known κ q d xs is are =
-      qed W (raw (Entry seen R Ps₃ F₃ 𝓤 H A W κ q d xs) ∷ []) ∵ enter ! (𝓣 .C) (𝓣 .Λ) (function R Ps₃ callee) _ _ $
+      qed W (raw (Entry seen R Ps₃ F₃ 𝓤 H A κ q d xs) ∷ []) ∵ enter ! (𝓣 .C) (𝓣 .Λ) (function R Ps₃ callee) _ _ $
       alloc1 ! (λ l₀. alloc1 ! (λ l₁. alloc1 ! (λ l₂. alloc1 ! (λ l₃. alloc1 ! (λ l₄. alloc1 ! (λ l₅. alloc0 ! $ params1 ! $ pass1 ! (init ! 8 refl (view-typed 𝓤 H A W κ d is)) $ pass1 ! (init ! 6 refl (typed P 𝓤 H A W (xs .0) _ (are .0))) $ pass1 ! (init ! 4 refl (typed Q 𝓤 H A W (xs .1 .0) _ (are .1 .0))) $ pass1 ! (init ! 2 refl (typed S 𝓤 H A W (xs .1 .1 .0) _ (are .1 .1 .0))) $ pass0 ! $
       assigns ! (of-opd ! (load ! (from ! (fld ! refl (stop !))) (look-in ! 8 (sub ! 0 refl (whole !))))) (from ! (stop !)) (init ! 0 refl (tt, view-typed 𝓤 H A W κ d is .1 .0)) $
-      move ! (12 ∷ []) $ use1 W (raw (Answer lent R Ps₃ F₃ 𝓤 H A .pre (to lent R Ps₃ F₃ 𝓤 H A W κ q (d .bytes) xs (slice d)))) (apart R Ps₃ F₃ 𝓤 H A W κ q d xs) $
-      calls-at ! (fmOf 𝓤 H (W .laws) 𝓣) (Answer lent R Ps₃ F₃ 𝓤 H A) known (to lent R Ps₃ F₃ 𝓤 H A W κ q (d .bytes) xs (slice d)) (and-then ! (load ! (from ! (stop !)) (look ! 1 refl)) (and-then ! (load ! (from ! (stop !)) (look ! 7 refl)) (and-then ! (load ! (from ! (stop !)) (look ! 5 refl)) (and-then ! (load ! (from ! (stop !)) (look ! 3 refl)) (no-more !))))) (λ u. answers lent R Ps₃ F₃ 𝓤 H A W κ q (d .bytes) xs (slice d) ! tt u (λ r e ris.
+      move ! (12 ∷ []) $ use1 W (raw (Answer lent R Ps₃ F₃ 𝓤 H A .pre (to lent R Ps₃ F₃ 𝓤 H A κ q (d .bytes) xs (slice (d .bytes))))) (apart R Ps₃ F₃ 𝓤 H A W κ q d xs) $
+      calls-at ! (fmOf 𝓤 H (W .laws) 𝓣) (Answer lent R Ps₃ F₃ 𝓤 H A) known (to lent R Ps₃ F₃ 𝓤 H A κ q (d .bytes) xs (slice (d .bytes))) (and-then ! (load ! (from ! (stop !)) (look ! 1 refl)) (and-then ! (load ! (from ! (stop !)) (look ! 7 refl)) (and-then ! (load ! (from ! (stop !)) (look ! 5 refl)) (and-then ! (load ! (from ! (stop !)) (look ! 3 refl)) (no-more !))))) (λ u. answers lent R Ps₃ F₃ 𝓤 H A κ q (d .bytes) xs (slice (d .bytes)) W ! tt u (λ r e ris.
       -- [the answer; the token; _5; …; _4; …; _3; …; _2; …; _1; …; room for _0; …]
       land ! (from ! (stop !)) (init ! 12 refl (typed R 𝓤 H A W r u ris)) $ returns ! (look ! 12 refl) $ forget ! 2 refl $ forget ! 4 refl $ forget ! 6 refl $ forget ! 8 refl $ forget ! 10 refl $ forget ! 12 refl $
-      move ! (12 ∷ 13 ∷ []) $ free1 ! $ move ! (10 ∷ 11 ∷ []) $ free1 ! $ move ! (8 ∷ 9 ∷ []) $ free1 ! $ move ! (6 ∷ 7 ∷ []) $ free1 ! $ move ! (4 ∷ 5 ∷ []) $ free1 ! $ move ! (2 ∷ 3 ∷ []) $ free1 ! $ free0 ! $ by ! (exits seen R Ps₃ F₃ 𝓤 H A W κ q d xs r u e)))))))))
+      move ! (12 ∷ 13 ∷ []) $ free1 ! $ move ! (10 ∷ 11 ∷ []) $ free1 ! $ move ! (8 ∷ 9 ∷ []) $ free1 ! $ move ! (6 ∷ 7 ∷ []) $ free1 ! $ move ! (4 ∷ 5 ∷ []) $ free1 ! $ move ! (2 ∷ 3 ∷ []) $ free1 ! $ free0 ! $ by ! (exits seen R Ps₃ F₃ 𝓤 H A κ q d xs W r u e)))))))))
 
   pub three : Shown R Ps₃ F₃ 𝓤 H A callee
   three 𝓣 known = meets seen R Ps₃ F₃ 𝓤 H A W 𝓣 (function R Ps₃ callee) (three-walk 𝓣 known)

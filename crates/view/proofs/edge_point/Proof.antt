@@ -1,5 +1,4 @@
 -- `view::edge_point` meets its contract: the run's bytes, and the point that a view of them gives. Assumes nothing.
-use borrow.Author.Needs.{needs}
 use Rattle.view.proofs.edge_point.Statement.{statement}
 use Rattle.view.proofs.edge_point.Tie as tie
 

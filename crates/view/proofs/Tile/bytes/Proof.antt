@@ -19,15 +19,15 @@ use Rattle.view.proofs.Tile.bytes.Statement as stated
 use Rattle.view.proofs.Tile.bytes.Code as code
 
 abbrev piece : Piece
-piece = record { slot = shrSliceOf (0 ∷ []) tt (plain (λ _. u8)); get = λ κs d. d .bytes; val = slice; out = λ 𝓤 H A W κ d. field-out 𝓤 H A W κ d 0 }
+piece = record { slot = shrSliceOf (0 ∷ []) tt (plain (λ _. u8)); get = λ κs d. d .bytes; val = λ d. slice (d .bytes); out = λ 𝓤 H A W κ d. field-out 𝓤 H A W κ d 0 }
 
 module _ {M : Type 1} (𝓤 : URA M) (H : Heap 𝓤) (A : Atoms 𝓤) (W : Given 𝓤 H A) (𝓣 : Tables 𝓤 H) where
-  walk : Walk piece 𝓤 H A W 𝓣 code.function
+  walk : Walk piece 𝓤 H A 𝓣 code.function
   walk κ q d wt =
-      qed W (raw (Entry piece 𝓤 H A W κ q d) ∷ []) ∵ enter ! (𝓣 .C) (𝓣 .Λ) code.function _ _ $
+      qed W (raw (Entry piece 𝓤 H A κ q d) ∷ []) ∵ enter ! (𝓣 .C) (𝓣 .Λ) code.function _ _ $
       alloc1 ! (λ l₀. alloc1 ! (λ l₁. alloc0 ! $ params1 ! $ pass1 ! (init ! 0 refl wt) $ pass0 ! $
       assigns ! (of-opd ! (load ! (from ! (fld ! refl (stop !))) (look-in ! 0 (sub ! 0 refl (whole !))))) (from ! (stop !)) (init ! 2 refl (tt, wt .1 .0)) $
-      returns ! (look ! 2 refl) $ forget ! 0 refl $ forget ! 2 refl $ move ! (2 ∷ 3 ∷ []) $ free1 ! $ free1 ! $ free0 ! $ by ! (exits piece 𝓤 H A W κ q d)))
+      returns ! (look ! 2 refl) $ forget ! 0 refl $ forget ! 2 refl $ move ! (2 ∷ 3 ∷ []) $ free1 ! $ free1 ! $ free0 ! $ by ! (exits piece 𝓤 H A κ q d W)))
 
 pub bytes-spec : {M : Type 1} → stated.statement M
 unfolding code.routine tablesOf
