@@ -1,5 +1,6 @@
--- A function with plain parameters that makes a view of its bytes in a local and passes it on, with the data, to a thin function, whose answer it returns. Its contract says nothing of a view, so whoever calls it needs no walk.
--- `starts` gives what `Tile::view` asks, `views` what it has said, and `passes-on` what the thin function asks. In a local MIR erases the lifetime of the view's type, so the view is shown to have the type at `erased`.
+-- A function with plain parameters that makes a view of its bytes in a local and passes it on, with the data, to a thin function, whose answer it
+-- returns. Its contract says nothing of a view, so whoever calls it needs no walk. `starts` gives what `Tile::view` asks, `views` what it has said, and
+-- `passes-on` what the thin function asks. In a local MIR erases the lifetime of the view's type, so the view is shown to have the type at `erased`.
 -- Then comes a walk through the locals for two data and for three. Assumes nothing.
 use mathlib.Core.Path.{_≡_, refl, ap, _∙_}
 use Prim.Native.Nat.{ℕ}

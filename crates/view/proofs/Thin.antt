@@ -1,5 +1,7 @@
--- A thin function takes a view and plain data, takes the bytes out of the view, calls a covered function on the bytes and the same data, and returns its answer. `apart` gives what the callee asks, out of what is owned at entry.
--- Then comes a walk through the locals for each number of data: `none`, `one` and the like take it to the contract. A local's place in the context is a number that is written, and the walks differ in those alone. Assumes nothing.
+-- A thin function takes a view and plain data, takes the bytes out of the view, calls a covered function on the bytes and the same data, and returns its
+-- answer. `apart` gives what the callee asks, out of what is owned at entry. Then comes a walk through the locals for each number of data: `none`, `one`
+-- and the like take it to the contract. A local's place in the context is a number that is written, and the walks differ in those alone. Assumes
+-- nothing.
 use mathlib.Core.Path.{refl}
 use Prim.Native.Nat.{ℕ, suc}
 use mathlib.Core.List.{List, [], _∷_}

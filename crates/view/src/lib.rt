@@ -1,8 +1,9 @@
 // A view of a tile: a record that holds the tile's bytes, lent, beside the numbers of its head; the Rust's `Tile<'a>`.
 //
-// Thin functions make the view and take it apart; covered functions on slice and numbers, those of `tile` and `geo` and the module `on`, do the reading. An enum can't hold a view, so what may be refused is asked first, on
-// the bytes: `tile::parse`, or the cache's lookup. Then the view is made of those bytes. Making it refuses nothing, and every reader is total: a view of any other bytes reads them as the core does, with 7 for an index past
-// its count. `node_at` and `edge_point` go from bytes to a view and on to its answer; their callers meet no view.
+// Thin functions make the view and take it apart; covered functions on slice and numbers, those of `tile` and `geo` and the module `on`, do the reading.
+// An enum can't hold a view, so what may be refused is asked first, on the bytes: `tile::parse`, or the cache's lookup. Then the view is made of those
+// bytes. Making it refuses nothing, and every reader is total: a view of any other bytes reads them as the core does, with 7 for an index past its
+// count. `node_at` and `edge_point` go from bytes to a view and on to its answer; their callers meet no view.
 pub mod on;
 
 use geo::EdgePoint;
@@ -24,6 +25,8 @@ ghost use Rattle.geo.specs.Points as Points;
 ghost use Rattle.cache.specs.Lookups as Lookups;
 ghost use Rattle.view.specs.Views as Views;
 
+// Key, counts and micrometres per micro-degree stand in the head, as `tile::read::head` has it. The readers go by the bytes alone, so that no count can
+// disagree with them.
 pub struct Tile<'a> {
     pub bytes: &'a [u8],
     pub head: Head,
@@ -47,7 +50,8 @@ impl<'a> Tile<'a> {
         }
     }
 
-    // The view of a run of the arena, by its first page and length as the cache's lookup answers them. Of a run that passes the arena's end, the part that is there.
+    // The view of a run of the arena, by its first page and length as the cache's lookup answers them. Of a run that passes the arena's end, the part
+    // that is there.
     pub fn run(arena: &'a [u8], first: usize, len: usize) -> Tile<'a>
         ensures { λ r. ⌜ (now (r .bytes) ≡ Lookups.runBytes (now (arena .entry)) first len) × (r .head ≡ Layout.headOf (Lookups.runBytes (now (arena .entry)) first len)) ⌝ }
     {

@@ -1,4 +1,5 @@
--- `view::point_in` meets its contract: a view of the bytes is made, and handed to `Tile::edge_point`. The walk is `three` of `Made.antt`. Assumes nothing.
+-- `view::point_in` meets its contract: a view of the bytes is made, and handed to `Tile::edge_point`. The walk is `three` of `Made.antt`. Assumes
+-- nothing.
 use mathlib.Core.Path.{refl}
 use mir.Syntax.{w64}
 use contract.Running.{givenOf, tables, tablesOf}

@@ -1,4 +1,5 @@
--- `Tile::id` meets its contract: the view is taken apart, and its bytes are handed to `tile::read::id`. The walk is `none` of `Thin.antt`. Assumes nothing.
+-- `Tile::id` meets its contract: the view is taken apart, and its bytes are handed to `tile::read::id`. The walk is `none` of `Thin.antt`. Assumes
+-- nothing.
 use mathlib.Core.Path.{refl}
 use contract.Running.{givenOf, tables, tablesOf}
 use denote.Triple.Spec.{tripleOf}

@@ -1,4 +1,5 @@
--- `Tile::point` meets its contract: the view is taken apart, and its bytes are handed to `tile::read::point`, with what else was passed. The walk is `two` of `Thin.antt`. Assumes nothing.
+-- `Tile::point` meets its contract: the view is taken apart, and its bytes are handed to `tile::read::point`, with what else was passed. The walk is
+-- `two` of `Thin.antt`. Assumes nothing.
 use mathlib.Core.Path.{refl}
 use mir.Syntax.{w64}
 use contract.Running.{givenOf, tables, tablesOf}
