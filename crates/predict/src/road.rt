@@ -187,7 +187,7 @@ fn road_of(
     let back = leg_of(header, start, edge, !forward);
     let b = track::ridden::ridden(trip, back, bytes, head.lon_um, start, here, behind);
     let none = no_mark();
-    let mark = samples::push(none, samples, 0.0, 0);
+    let mark = samples::push_on(none, samples, 0.0, 0);
     let leg = leg_of(header, start, edge, forward);
     let w = walk_from(start, leg, here, mark);
     let g = c.pages;

@@ -1,4 +1,4 @@
--- The turns of `push`, on the definition: out of room, past the distance, and one sample more. Each is one step of the recursion. Assumes
+-- The turns of `pushed`, on the definition: out of room, past the distance, and one sample more. Each is one step of the recursion. Assumes
 -- nothing.
 use Prim.Native.Nat.{ℕ, zero, suc, _+_}
 use mathlib.Core.Path.{_≡_, refl}

@@ -1,4 +1,4 @@
-// An elevation every 20 m of road: `Sampler` of the Rust's predict.rs, with the heights lent beside a mark that goes by value.
+// An elevation every 20 m of road: `Sampler` of the Rust's predict.rs, with the mark and the heights lent side by side.
 ghost use mathlib.Core.Path.{_≡_};
 ghost use Rattle.samples.specs.Samples as Samples;
 
@@ -29,8 +29,8 @@ fn height_at(m: Mark, at: f32, distance: f32, z: i32) -> i16
     num::cast::i16_of_f32(num::order::clamp(num::convert::f32_of_i32(z), -32768.0, 32767.0))
 }
 
-// The samples up to a road point written, as far as there is room; the mark stands at it.
-pub fn push(m: Mark, heights: &mut [i16], distance: f32, z: i32) -> Mark
+// The samples up to a road point written, as far as there is room, and the mark that stands at it: `push` on values.
+fn pushed(m: Mark, heights: &mut [i16], distance: f32, z: i32) -> Mark
     ensures { λ r. ⌜ r ≡ Samples.pushed m (now (heights .entry)) distance z .mark ⌝ }
     ensures { λ r. ⌜ now (heights .exit) ≡ Samples.pushed m (now (heights .entry)) distance z .heights ⌝ }
 {
@@ -44,4 +44,22 @@ pub fn push(m: Mark, heights: &mut [i16], distance: f32, z: i32) -> Mark
         len += 1;
     }
     Mark { len, distance, z }
+}
+
+// The samples up to a road point written, as far as there is room; the mark is moved on to it.
+pub fn push(mark: &mut Mark, heights: &mut [i16], distance: f32, z: i32)
+    ensures { λ _. ⌜ now (mark .exit) ≡ Samples.pushed (now (mark .entry)) (now (heights .entry)) distance z .mark ⌝ }
+    ensures { λ _. ⌜ now (heights .exit) ≡ Samples.pushed (now (mark .entry)) (now (heights .entry)) distance z .heights ⌝ }
+{
+    *mark = pushed(*mark, heights, distance, z);
+}
+
+// One push on a mark that goes by value, for callers that keep it in their own state: it is put into a local and lent.
+pub fn push_on(m: Mark, heights: &mut [i16], distance: f32, z: i32) -> Mark
+    ensures { λ r. ⌜ r ≡ Samples.pushed m (now (heights .entry)) distance z .mark ⌝ }
+    ensures { λ r. ⌜ now (heights .exit) ≡ Samples.pushed m (now (heights .entry)) distance z .heights ⌝ }
+{
+    let mut mark = m;
+    push(&mut mark, heights, distance, z);
+    mark
 }

@@ -52,7 +52,7 @@ fn back_step(
     let old = b.mark;
     if distance >= reach {
         let there = height_back(old, z, reach, step);
-        let mark = samples::push(old, heights, reach, there);
+        let mark = samples::push_on(old, heights, reach, there);
         let here = b.here;
         return Back {
             here,
@@ -61,7 +61,7 @@ fn back_step(
             over: true,
         };
     }
-    let mark = samples::push(old, heights, distance, z);
+    let mark = samples::push_on(old, heights, distance, z);
     Back {
         here: point,
         distance,
@@ -141,7 +141,7 @@ pub fn ridden(
         distance: 0.0,
         z: 0,
     };
-    let mark = samples::push(none, heights, 0.0, 0);
+    let mark = samples::push_on(none, heights, 0.0, 0);
     let b = Back {
         here,
         distance: 0.0,

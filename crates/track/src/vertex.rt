@@ -58,7 +58,7 @@ fn reach(trip: Trip, t: Track, step: f32, z: i32, heights: &mut [i16]) -> Track
     let part = part_of(horizon - t.distance, step);
     let old = t.mark;
     let there = height_there(old, z, part);
-    let mark = samples::push(old, heights, horizon, there);
+    let mark = samples::push_on(old, heights, horizon, there);
     let here = t.here;
     let history = t.history;
     Track {
@@ -76,7 +76,7 @@ fn pass(t: Track, distance: f32, point: Point, z: i32, heights: &mut [i16]) -> T
     ensures { λ r. ⌜ now (heights .exit) ≡ Vertex.passed t distance point z (now (heights .entry)) .heights ⌝ }
 {
     let old = t.mark;
-    let mark = samples::push(old, heights, distance, z);
+    let mark = samples::push_on(old, heights, distance, z);
     let before = t.history;
     let history = crate::incoming::push(before, point, distance);
     Track {

@@ -25,8 +25,8 @@ ridden-requires c κs = tt
 no-mark-requires : tie.Need-no-mark-requires
 no-mark-requires c κs = tt
 
-push-requires : tie.Need-push-requires
-push-requires c κs = tt
+push-on-requires : tie.Need-push-on-requires
+push-on-requires c κs = tt
 
 leg-of-requires-2 : tie.Need-leg-of-requires-2
 leg-of-requires-2 c κs = tt
@@ -72,8 +72,8 @@ returns c =
       room .budget .ensures,
       begun .walk-from .ensures,
       begun .before .leg-of2 .ensures,
-      pushed .push .ensures .0,
-      pushed .push .ensures .1,
+      pushed .push-on .ensures .0,
+      pushed .push-on .ensures .1,
       unmarked .no-mark .ensures,
       placed .place .ensures,
       placed .before .edge .ensures,
@@ -98,7 +98,7 @@ road-of-spec =
     leg-of-requires
     ridden-requires
     no-mark-requires
-    push-requires
+    push-on-requires
     leg-of-requires-2
     walk-from-requires
     budget-requires

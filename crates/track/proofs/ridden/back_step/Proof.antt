@@ -25,8 +25,8 @@ step-of-requires c κs = tt
 height-back-requires : tie.Need-height-back-requires
 height-back-requires c κs = tt
 
-push-requires : tie.Need-push-requires
-push-requires c κs = tt
+push-on-requires : tie.Need-push-on-requires
+push-on-requires c κs = tt
 
 same-length : tie.Need-same-length
 same-length c = search needs
@@ -56,11 +56,11 @@ returns c =
       step .step-of .ensures,
       point .point .ensures,
       node .node-at .ensures,
-    ) at (push .push .ensures) in
+    ) at (push .push-on .ensures) in
     (rw (far, pushes .0), rw far (pushes .1))
 
-push-requires-2 : tie.Need-push-requires-2
-push-requires-2 c κs = tt
+push-on-requires-2 : tie.Need-push-on-requires-2
+push-on-requires-2 c κs = tt
 
 same-length-2 : tie.Need-same-length-2
 same-length-2 c = search needs
@@ -88,7 +88,7 @@ returns-2 c =
       step .step-of .ensures,
       point .point .ensures,
       node .node-at .ensures,
-    ) at (push .push2 .ensures) in
+    ) at (push .push-on2 .ensures) in
     (rw (short, pushes .0, step .step-of .ensures, point .point .ensures, node .node-at .ensures), rw short (pushes .1))
 
 pub back-step-spec : {M : Type 1} → statement M
@@ -101,9 +101,9 @@ back-step-spec =
     less-requires
     step-of-requires
     height-back-requires
-    push-requires
+    push-on-requires
     same-length
     returns
-    push-requires-2
+    push-on-requires-2
     same-length-2
     returns-2)

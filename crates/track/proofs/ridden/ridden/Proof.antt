@@ -16,8 +16,8 @@ literal-200 = refl
 min-requires : tie.Need-min-requires
 min-requires c κs = tt
 
-push-requires : tie.Need-push-requires
-push-requires c κs = tt
+push-on-requires : tie.Need-push-on-requires
+push-on-requires c κs = tt
 
 first-of-requires : tie.Need-first-of-requires
 first-of-requires c κs = tt
@@ -44,8 +44,8 @@ returns c =
       back .go-back .ensures .0,
       back .go-back .ensures .1,
       first .first-of .ensures,
-      push .push .ensures .0,
-      push .push .ensures .1,
+      push .push-on .ensures .0,
+      push .push-on .ensures .1,
       least .min .ensures,
       literal-0,
       literal-200,
@@ -57,7 +57,7 @@ ridden-spec =
     tie.close
     (tie.spec
     min-requires
-    push-requires
+    push-on-requires
     first-of-requires
     go-back-requires
     last-sample-requires

@@ -5,11 +5,11 @@ use Rattle.track.specs.Vertex.{passed}
 use Rattle.track.proofs.vertex.pass.Statement.{statement}
 use Rattle.track.proofs.vertex.pass.Tie as tie
 
+push-on-requires : tie.Need-push-on-requires
+push-on-requires c κs = tt
+
 push-requires : tie.Need-push-requires
 push-requires c κs = tt
-
-push-requires-2 : tie.Need-push-requires-2
-push-requires-2 c κs = tt
 
 same-length : tie.Need-same-length
 same-length c = search needs
@@ -18,8 +18,8 @@ returns : tie.Need-returns
 unfolding passed
 returns c =
     let push = c .before .before .before .before in
-    let pushes = rw (toZ-ofZ (push .before .before .before .fits .z)) at (push .push .ensures) in
-    (rw (pushes .0, c .before .push2 .ensures), pushes .1)
+    let pushes = rw (toZ-ofZ (push .before .before .before .fits .z)) at (push .push-on .ensures) in
+    (rw (pushes .0, c .before .push .ensures), pushes .1)
 
 pub pass-spec : {M : Type 1} → statement M
-pass-spec = tie.close (tie.spec push-requires push-requires-2 same-length returns)
+pass-spec = tie.close (tie.spec push-on-requires push-requires same-length returns)

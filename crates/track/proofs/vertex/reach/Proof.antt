@@ -13,8 +13,8 @@ part-of-requires c κs = tt
 height-there-requires : tie.Need-height-there-requires
 height-there-requires c κs = tt
 
-push-requires : tie.Need-push-requires
-push-requires c κs = tt
+push-on-requires : tie.Need-push-on-requires
+push-on-requires c κs = tt
 
 same-length : tie.Need-same-length
 same-length c = search needs
@@ -31,8 +31,8 @@ returns c =
       there .height-there .ensures,
       part .part-of .ensures,
       toZ-ofZ (part .before .before .fits .z),
-    ) at (push .push .ensures) in
+    ) at (push .push-on .ensures) in
     (rw (pushes .0), pushes .1)
 
 pub reach-spec : {M : Type 1} → statement M
-reach-spec = tie.close (tie.spec part-of-requires height-there-requires push-requires same-length returns)
+reach-spec = tie.close (tie.spec part-of-requires height-there-requires push-on-requires same-length returns)
