@@ -2,8 +2,8 @@
 -- a contract of two clauses.
 --     R, typed, had        a mark's type; its machine value is of that type; what it owns is had for nothing
 --     dv, zv               the machine values of a distance and a height.        Figures, figures    what they own, had for nothing too
--- says-both            a goal P ∗ (⌜φ⌝ ∗ ⌜ψ⌝): both are shown, and P is left.        hears-both    ⌜φ⌝ ∗ ⌜ψ⌝ at the head of the context: both are
--- learned
+--     says-both            a goal P ∗ (⌜φ⌝ ∗ ⌜ψ⌝): both are shown, and P is left
+--     hears-both           ⌜φ⌝ ∗ ⌜ψ⌝ at the head of the context: both are learned
 --     local                a local is read, where entry n of the context is its cell
 --     lies-in, lies-out    a local that holds a mark is memory in which the mark lies, and back
 -- Assumes `Given`.

@@ -21,7 +21,7 @@ use prog.Wp.{Heap, Calls, Loops, WpFn, Tables}
 use ghost.Atoms.{Atoms, sem}
 use contract.Monad.{Fun, fact}
 use contract.Running.{givenOf, tables, tablesOf}
-use types.Kit.{Given, ‵, raw, some, later, _⊛_, ⋆, _$_, _∵_, !, qed, by, move, keep, drop, use0}
+use types.Kit.{Given, Item, ‵, raw, some, later, _⊛_, ⋆, _$_, _∵_, !, qed, by, move, keep, drop, use0}
 use types.Kit.{use1, use2, split, join, pick, fsplit, fsplit3, fjoin, fjoin3, feqL, feqI, suffices, frame, await, done}
 use types.Run.{look, look-raw, init, store-raw, forget, stop, hop, fld, from, load, addr, unit-lit, of-opd}
 use types.Run.{and-then, no-more, assigns, land, returns, enter, alloc1, alloc0, params1, pass1, pass0, free1, free0}
@@ -113,12 +113,24 @@ module _ {M : Type 1} (𝓤 : URA M) (H : Heap 𝓤) (A : Atoms 𝓤) (W : Given
       use0 W (‵ (Figures d z)) (figures 𝓤 H A W d z d-fits z-fits) $ move ! (2 ∷ 0 ∷ []) $ fjoin ! $
       use0 W (‵ (R .own h (mach ∷ []))) (had 𝓤 H A W h mach g) $ fjoin ! $ move ! (1 ∷ 0 ∷ []) $ join ! $ frame ! $ done !
 
-  exits : (m : Mark) (zs : List ℤ) → m ≡ p .mark → zs ≡ p .heights → length zs ≡ length ys
-      → ent 𝓤 (⋆ 𝓤 H A (‵ (fobs γ (R .coded .code m)) ∷ ‵ (fbor κ
-      (Body (mem R) b o γ)) ∷ ‵ (flft κ q) ∷ (‵ (flft κ′ q′) ⊛ ‵ ftrue) ∷ ‵ (finally i16 γ′ zs) ∷ [])) (Post vunit)
+  -- what `pushed` hands back at the machine value w: the token, some mark, and what is ensured of it, at some last heights
+  abbrev back : Val → Item 𝓤
+  back w =
+      later (some (λ (m : Mark). ((‵ (flft κ′ q′) ⊛ ‵ ftrue) ⊛ ‵ (R .own m (w ∷ []))) ⊛
+      raw (ensured 𝓤 H A pushed.ended (pushed.clauses 𝓤 H A at-mem run) (κ′, tt) (h, (x, (d, (z, tt)))) tt m)))
+
+  abbrev told : Mark → Item 𝓤
+  told m =
+      some (λ (ws : Unit {0} × (List ℤ × (Unit {0} × (Unit {0} × Unit {0})))). ‵ (lasts pushed.ended (κ′, tt) (h, (x, (d, (z, tt)))) ws) ⊛
+      raw (fact 𝓤 (m ≡ p .mark)) ⊛ raw (fact 𝓤 (ws .1 .0 ≡ p .heights)))
+
+  -- what is had at exit: the mark's borrow at m, both tokens, and that the heights end as zs
+  abbrev left : Mark → List ℤ → List (Item 𝓤)
+  left m zs = ‵ (fobs γ (R .coded .code m)) ∷ ‵ (fbor κ (Body (mem R) b o γ)) ∷ ‵ (flft κ q) ∷ (‵ (flft κ′ q′) ⊛ ‵ ftrue) ∷ ‵ (finally i16 γ′ zs) ∷ []
+
+  exits : (m : Mark) (zs : List ℤ) → m ≡ p .mark → zs ≡ p .heights → length zs ≡ length ys → ent 𝓤 (⋆ 𝓤 H A (left m zs)) (Post vunit)
   exits m zs is-mark is-heights l =
-      qed W (‵ (fobs γ (R .coded .code m)) ∷ ‵ (fbor κ
-      (Body (mem R) b o γ)) ∷ ‵ (flft κ q) ∷ (‵ (flft κ′ q′) ⊛ ‵ ftrue) ∷ ‵ (finally i16 γ′ zs) ∷ []) ∵
+      qed W (left m zs) ∵
       suffices ! _ (ends-at 𝓤 H A push.ended stayed (push.clauses 𝓤 H A at-mem run) W (((κ, (κ′, tt)), (q, (q′, tt)), tt, a, vals), tt) vunit tt
       (m, (zs, (tt, (tt, tt)))) (tt, (l, (tt, (tt, tt))))) $
       says-both ! is-mark is-heights $
@@ -132,15 +144,14 @@ module _ {M : Type 1} (𝓤 : URA M) (H : Heap 𝓤) (A : Atoms 𝓤) (W : Given
     walk room =
         qed W ((‵ (flft κ q) ⊛ ‵ (flft κ′ q′) ⊛ ‵ ftrue) ∷ ‵ (owns (MutRef (named 0) κ R ∷ MutSlice (named 1) κ′ i16 ∷ f32 ∷ i32 ∷ []) a vals) ∷ []) ∵
         enter ! C Λ code.function (vptr b o ∷ s ∷ dv d ∷ zv z ∷ []) _ $
-        alloc1 ! (λ l₀. alloc1 ! (λ l₁. alloc1 !
-        (λ l₂. alloc1 ! (λ l₃. alloc1 ! (λ l₄. alloc1 ! (λ l₅. alloc1 ! (λ l₆. alloc1 ! (λ l₇. alloc1 ! (λ l₈. alloc0 ! $
-        params1 ! $ pass1 ! (init ! 14 refl (tt, tt)) $
-        pass1 ! (init ! 12 refl (tt, (tt, (record { fits = room .0 }, tt)))) $ pass1 ! (init ! 10 refl (tt, passes _ d-fits)) $
-        pass1 ! (init ! 8 refl (sint-lawful 𝓤 H A W w32 .typed z _ (refl, z-fits) .0)) $ pass0 ! $
+        alloc1 ! (λ l₀. alloc1 ! (λ l₁. alloc1 ! (λ l₂. alloc1 ! (λ l₃. alloc1 ! (λ l₄.
+        alloc1 ! (λ l₅. alloc1 ! (λ l₆. alloc1 ! (λ l₇. alloc1 ! (λ l₈. alloc0 ! $
+        params1 ! $ pass1 ! (init ! 14 refl (tt, tt)) $ pass1 ! (init ! 12 refl (tt, (tt, (record { fits = room .0 }, tt)))) $
+        pass1 ! (init ! 10 refl (tt, passes _ d-fits)) $ pass1 ! (init ! 8 refl (sint-lawful 𝓤 H A W w32 .typed z _ (refl, z-fits) .0)) $ pass0 ! $
         -- the mark's borrow is opened
         move ! (19 ∷ []) $ fsplit ! $ fsplit3 ! $ drop ! $ move ! (21 ∷ []) $ split ! $ move ! (2 ∷ 3 ∷ 0 ∷ []) $
-        opens ! tt R {h = h} b o (λ vs. spelt ! R (Is R) (shows 𝓤 H A R) (LL.vals T.the-type T′.the-laws)
-        (LL.tells T.the-type T′.the-laws) fullShare h vs b o $
+        opens ! tt R {h = h} b o (λ vs.
+        spelt ! R (Is R) (shows 𝓤 H A R) (LL.vals T.the-type T′.the-laws) (LL.tells T.the-type T′.the-laws) fullShare h vs b o $
         move ! (1 ∷ []) $ peeks ! R (Is R) (shows 𝓤 H A R) h (mach ∷ []) (λ g. move ! (1 ∷ 0 ∷ []) $
         -- [the mark's cell; what a Mark owns; the open borrow; obs; auth; the heights' token; what heights, distance and z own; _8; …; _7; …; _6; …;
         -- _5; …; _4; …; _3; …; _2; …; _1; …; room for _0; …]
@@ -148,23 +159,15 @@ module _ {M : Type 1} (𝓤 : URA M) (H : Heap 𝓤) (A : Atoms 𝓤) (W : Given
         (init ! 11 refl (typed 𝓤 H A W h _ g)) $
         assigns ! (addr ! (from ! (fld ! refl (hop ! (look-in ! 19 (sub ! 0 refl (whole !))) (stop !))))) (from ! (stop !)) (init ! 9 refl (tt, tt)) $
         assigns ! (agg ! (and-then ! (local ! 9 refl)
-        (and-then ! (load ! (from ! (fld ! refl (stop !))) (look-in ! 19 (sub ! 1 refl (whole !)))) (no-more !)))) (from ! (stop !))
-        (init ! 7 refl (tt, (tt, (record { fits = room .0 }, tt)))) $
+        (and-then ! (load ! (from ! (fld ! refl (stop !))) (look-in ! 19 (sub ! 1 refl (whole !)))) (no-more !))))
+        (from ! (stop !)) (init ! 7 refl (tt, (tt, (record { fits = room .0 }, tt)))) $
         -- `pushed`
         move ! (6 ∷ []) $ fsplit ! $ move ! (7 ∷ 0 ∷ []) $ use2 W (raw (Core 𝓤 H A at-mem run .pre to-pushed)) (goes g) $
         calls-at ! fm (Core 𝓤 H A at-mem run) known to-pushed
         (and-then ! (local ! 11 refl) (and-then ! (local ! 7 refl) (and-then ! (local ! 17 refl) (and-then ! (local ! 15 refl) (no-more !))))) (λ w.
-        use1 W (later (some (λ (m : Mark).
-        ((‵ (flft κ′ q′) ⊛ ‵ ftrue) ⊛ ‵ (R .own m (w ∷ []))) ⊛ raw (ensured 𝓤 H A pushed.ended (pushed.clauses 𝓤 H A at-mem run) (κ′, tt)
-        (h, (x, (d, (z, tt)))) tt m)))) (id⊢ 𝓤 _) $
-        await ! tt $
-        pick ! (λ m.
-        split ! $ move ! (1 ∷ []) $
-        use1 W (some (λ (zs : Unit {0} × (List ℤ × (Unit {0} × (Unit {0} × Unit {0})))). ‵ (lasts pushed.ended (κ′, tt)
-        (h, (x, (d, (z, tt)))) zs) ⊛ raw (fact 𝓤 (m ≡ p .mark)) ⊛ raw (fact 𝓤 (zs .1 .0 ≡ p .heights)))) (id⊢ 𝓤 _) $
-        pick ! (λ zs.
-        split ! $ move ! (1 ∷ []) $ hears-both ! (m ≡ p .mark) (zs .1 .0 ≡ p .heights) (λ is-mark is-heights. fsplit ! $ drop ! $ fsplit ! $
-        fsplit ! $ move ! (1 ∷ []) $ feqL ! (λ l.
+        use1 W (back w) (id⊢ 𝓤 _) $ await ! tt $ pick ! (λ m. split ! $ move ! (1 ∷ []) $ use1 W (told m) (id⊢ 𝓤 _) $ pick ! (λ ws. split ! $
+        move ! (1 ∷ []) $ hears-both ! (m ≡ p .mark) (ws .1 .0 ≡ p .heights) (λ is-mark is-heights.
+        fsplit ! $ drop ! $ fsplit ! $ fsplit ! $ move ! (1 ∷ []) $ feqL ! (λ l.
         -- [the last heights; …; the token and the result; …]
         move ! (2 ∷ []) $ split ! $ move ! (1 ∷ []) $ peeks ! R (Is R) (shows 𝓤 H A R) m (w ∷ []) (λ is.
         land ! (from ! (stop !)) (init ! 16 refl (typed 𝓤 H A W m _ is)) $
@@ -177,7 +180,7 @@ module _ {M : Type 1} (𝓤 : URA M) (H : Heap 𝓤) (A : Atoms 𝓤) (W : Given
         move ! (24 ∷ 25 ∷ []) $ free1 ! $ move ! (22 ∷ 23 ∷ []) $ free1 ! $ move ! (20 ∷ 21 ∷ []) $ free1 ! $ move ! (18 ∷ 19 ∷ []) $ free1 ! $
         move ! (16 ∷ 17 ∷ []) $ free1 ! $ move ! (14 ∷ 15 ∷ []) $ free1 ! $ move ! (12 ∷ 13 ∷ []) $ free1 ! $ move ! (10 ∷ 11 ∷ []) $ free1 ! $
         move ! (8 ∷ 9 ∷ []) $ free1 ! $ free0 ! $
-        keep ! (0 ∷ 1 ∷ 2 ∷ 3 ∷ 4 ∷ []) $ by ! (exits m (zs .1 .0) is-mark is-heights l))))))))))))))))))
+        keep ! (0 ∷ 1 ∷ 2 ∷ 3 ∷ 4 ∷ []) $ by ! (exits m (ws .1 .0) is-mark is-heights l))))))))))))))))))
 
 module _ {M : Type 1} (𝓤 : URA M) (H : Heap 𝓤) (A : Atoms 𝓤) (W : Given 𝓤 H A) (mem : Memory → SProp 𝓤) (run : Routine → Fun 𝓤) where
   push-walks : (C : Calls 𝓤 H) (Λ : Loops 𝓤 H) → FmC 𝓤 H (W .laws) C → Triple 𝓤 (C #samples·pushed) (Core 𝓤 H A mem run)

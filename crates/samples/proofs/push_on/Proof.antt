@@ -21,7 +21,7 @@ use prog.Wp.{Heap, Calls, Loops, WpFn, Tables}
 use ghost.Atoms.{Atoms, sem}
 use contract.Monad.{Fun, fact}
 use contract.Running.{givenOf, tables, tablesOf}
-use types.Kit.{Given, ‵, raw, some, later, _⊛_, _$_, _∵_, !, qed, by, move, keep, use0}
+use types.Kit.{Given, Item, ‵, raw, some, later, _⊛_, ⋆, _$_, _∵_, !, qed, by, move, keep, use0}
 use types.Kit.{use1, use2, use3, split, join, pick, fsplit, fjoin, feqL, suffices, frame, await, done}
 use types.Run.{look, init, forget, stop, hop, fld, from, load, addr, of-opd, and-then, no-more}
 use types.Run.{assigns, land, returns, enter, alloc1, alloc0, params1, pass1, pass0, free1, free0}
@@ -117,15 +117,31 @@ module _ {M : Type 1} (𝓤 : URA M) (H : Heap 𝓤) (A : Atoms 𝓤) (W : Given
     tt,
   )
 
-  goes : (l ν : ℕ) (δ : GName)
-      → ent 𝓤 (sep 𝓤 (sep 𝓤 (A .lft (ν ∷ []) fullShare) (sep 𝓤 (A .lft κ q) (sem 𝓤 H A ftrue)))
-      (sep 𝓤 (sem 𝓤 H A (MutRef (named 0) (ν ∷ []) R .own (y l δ) (vptr l 0 ∷ []))) (sem 𝓤 H A (MutSlice (named 1) κ i16 .own x (s ∷ [])))))
-      (Push 𝓤 H A at-mem run .pre (to-push l ν δ))
+  -- what `push` is passed: the tokens, the local's borrow and the heights
+  abbrev passed : ℕ → ℕ → GName → List (Item 𝓤)
+  passed l ν δ =
+      (‵ (flft (ν ∷ []) fullShare) ⊛ ‵ (flft κ q) ⊛ ‵ ftrue) ∷ ‵ (MutRef (named 0) (ν ∷ []) R .own (y l δ) (vptr l 0 ∷ [])) ∷
+      ‵ (MutSlice (named 1) κ i16 .own x (s ∷ [])) ∷ []
+
+  goes : (l ν : ℕ) (δ : GName) → ent 𝓤 (⋆ 𝓤 H A (passed l ν δ)) (Push 𝓤 H A at-mem run .pre (to-push l ν δ))
   goes l ν δ =
-      qed W ((‵ (flft (ν ∷ []) fullShare) ⊛ ‵ (flft κ q) ⊛ ‵ ftrue) ∷ ‵ (MutRef (named 0) (ν ∷ []) R .own (y l δ) (vptr l 0 ∷ [])) ∷ ‵ (MutSlice
-      (named 1) κ i16 .own x (s ∷ [])) ∷ []) ∵
-      use0 W (‵ (Figures d z)) (figures 𝓤 H A W d z d-fits z-fits) $ move ! (3 ∷ 0 ∷ []) $ fjoin ! $ move ! (2 ∷ 0 ∷ []) $ fjoin ! $
-      move ! (1 ∷ 0 ∷ []) $ join ! $ frame ! $ done !
+      qed W (passed l ν δ) ∵ use0 W (‵ (Figures d z)) (figures 𝓤 H A W d z d-fits z-fits) $
+      move ! (3 ∷ 0 ∷ []) $ fjoin ! $ move ! (2 ∷ 0 ∷ []) $ fjoin ! $ move ! (1 ∷ 0 ∷ []) $ join ! $ frame ! $ done !
+
+  -- what is lent: the local's borrow, and the lender's part
+  abbrev lent : ℕ → ℕ → Item 𝓤
+  lent l ν = later (some (λ (δ : GName). ‵ (MutRef (named 0) (ν ∷ []) R .own (y l δ) (vptr l 0 ∷ [])) ⊛ ‵ (flent (ν ∷ []) (Body (mem R) l 0 δ))))
+
+  -- what `push` hands back at the machine value w: the tokens, nothing, and what is ensured, at some last mark and heights
+  abbrev back : ℕ → ℕ → GName → Val → Item 𝓤
+  back l ν δ w =
+      later (some (λ (r : Unit {0}). ((‵ (flft (ν ∷ []) fullShare) ⊛ ‵ (flft κ q) ⊛ ‵ ftrue) ⊛ ‵ (unit .own r (w ∷ []))) ⊛
+      raw (ensured 𝓤 H A push.ended (push.clauses 𝓤 H A at-mem run) (ν ∷ [], (κ, tt)) (y l δ, (x, (d, (z, tt)))) tt r)))
+
+  abbrev told : ℕ → ℕ → GName → Item 𝓤
+  told l ν δ =
+      some (λ (ws : Mark × (List ℤ × (Unit {0} × (Unit {0} × Unit {0})))). ‵ (lasts push.ended (ν ∷ [], (κ, tt)) (y l δ, (x, (d, (z, tt)))) ws) ⊛
+      raw (fact 𝓤 (ws .0 ≡ p .mark)) ⊛ raw (fact 𝓤 (ws .1 .0 ≡ p .heights)))
 
   exits : Is R h (mach ∷ []) → (m : Mark) (zs : List ℤ) → m ≡ p .mark → zs ≡ p .heights → length zs ≡ length ys
       → ent 𝓤 (sep 𝓤 (sep 𝓤 (A .lft κ q) (sem 𝓤 H A ftrue)) (sep 𝓤 (sem 𝓤 H A (finally i16 γ zs)) (sem 𝓤 H A (R .own m (T′.lowered m ∷ [])))))
@@ -144,46 +160,33 @@ module _ {M : Type 1} (𝓤 : URA M) (H : Heap 𝓤) (A : Atoms 𝓤) (W : Given
     walk g room =
         qed W ((‵ (flft κ q) ⊛ ‵ ftrue) ∷ ‵ (owns (R ∷ MutSlice (named 0) κ i16 ∷ f32 ∷ i32 ∷ []) a vals) ∷ []) ∵
         enter ! C Λ code.function (mach ∷ s ∷ dv d ∷ zv z ∷ []) _ $
-        alloc1 ! (λ l₀. alloc1 ! (λ l₁. alloc1 !
-        (λ l₂. alloc1 ! (λ l₃. alloc1 ! (λ l₄. alloc1 ! (λ l₅. alloc1 ! (λ l₆. alloc1 ! (λ l₇. alloc1 ! (λ l₈. alloc1 ! (λ l₉. alloc0 ! $
-        params1 ! $ pass1 ! (init ! 16 refl (typed 𝓤 H A W h _ g)) $
-        pass1 ! (init ! 14 refl (tt, (tt, (record { fits = room .0 }, tt)))) $ pass1 ! (init ! 12 refl (tt, passes _ d-fits)) $
-        pass1 ! (init ! 10 refl (sint-lawful 𝓤 H A W w32 .typed z _ (refl, z-fits) .0)) $ pass0 ! $
+        alloc1 ! (λ l₀. alloc1 ! (λ l₁. alloc1 ! (λ l₂. alloc1 ! (λ l₃. alloc1 ! (λ l₄.
+        alloc1 ! (λ l₅. alloc1 ! (λ l₆. alloc1 ! (λ l₇. alloc1 ! (λ l₈. alloc1 ! (λ l₉. alloc0 ! $
+        params1 ! $ pass1 ! (init ! 16 refl (typed 𝓤 H A W h _ g)) $ pass1 ! (init ! 14 refl (tt, (tt, (record { fits = room .0 }, tt)))) $
+        pass1 ! (init ! 12 refl (tt, passes _ d-fits)) $ pass1 ! (init ! 10 refl (sint-lawful 𝓤 H A W w32 .typed z _ (refl, z-fits) .0)) $ pass0 ! $
         -- [_9; …; _8; …; _7; …; _6; …; _5; …; _4; …; _3; …; _2; …; _1; …; room for _0; …; the token; what m, heights, distance and z own]
         assigns ! (of-opd ! (local ! 16 refl)) (from ! (stop !)) (init ! 8 refl (typed 𝓤 H A W h _ g)) $
         assigns ! (addr ! (from ! (stop !))) (from ! (stop !)) (init ! 4 refl (tt, tt)) $
         assigns ! (addr ! (from ! (fld ! refl (hop ! (look-in ! 14 (sub ! 0 refl (whole !))) (stop !))))) (from ! (stop !)) (init ! 2 refl (tt, tt)) $
         assigns ! (agg ! (and-then ! (local ! 2 refl)
-        (and-then ! (load ! (from ! (fld ! refl (stop !))) (look-in ! 14 (sub ! 1 refl (whole !)))) (no-more !)))) (from ! (stop !))
-        (init ! 0 refl (tt, (tt, (record { fits = room .0 }, tt)))) $
+        (and-then ! (load ! (from ! (fld ! refl (stop !))) (look-in ! 14 (sub ! 1 refl (whole !)))) (no-more !))))
+        (from ! (stop !)) (init ! 0 refl (tt, (tt, (record { fits = room .0 }, tt)))) $
         -- the local is lent for a lifetime ν of the call
         move ! (21 ∷ []) $ fsplit ! $ move ! (10 ∷ 0 ∷ []) $ use2 W (‵ (mem R .lies h l₅ 0)) (lies-in 𝓤 H A W h mach l₅) $
         lft-new ! tt (λ ν. move ! (1 ∷ []) $
-        use1 W (later (some (λ (δ : GName). ‵ (MutRef (named 0) (ν ∷ []) R .own (y l₅ δ) (vptr l₅ 0 ∷ [])) ⊛ ‵ (flent (ν ∷ [])
-        (Body (mem R) l₅ 0 δ))))) (lends-ref 𝓤 H A W R (named 0) (ν ∷ []) h l₅ 0) $
-        await ! tt $
-        pick ! (λ δ. split ! $
+        use1 W (lent l₅ ν) (lends-ref 𝓤 H A W R (named 0) (ν ∷ []) h l₅ 0) $ await ! tt $ pick ! (λ δ. split ! $
         -- [the local's borrow; the lender's part; ν's token; what heights, distance and z own; _9; …; _8; …; _7; …; _6; …; …; _4; …; _3; …; _2; …;
         -- _1; …; room for _0; …; the token]
         move ! (3 ∷ []) $ fsplit ! $ move ! (4 ∷ 24 ∷ 2 ∷ 0 ∷ []) $ join ! $
         use3 W (raw (Push 𝓤 H A at-mem run .pre (to-push l₅ ν δ))) (goes l₅ ν δ) $
         calls-at ! fm (Push 𝓤 H A at-mem run) known (to-push l₅ ν δ)
         (and-then ! (local ! 7 refl) (and-then ! (local ! 3 refl) (and-then ! (local ! 14 refl) (and-then ! (local ! 12 refl) (no-more !))))) (λ w.
-        use1 W (later (some (λ (r : Unit {0}).
-        ((‵ (flft (ν ∷ []) fullShare) ⊛ ‵ (flft κ q) ⊛ ‵ ftrue) ⊛ ‵ (unit .own r (w ∷ []))) ⊛ raw (ensured 𝓤 H A push.ended
-        (push.clauses 𝓤 H A at-mem run) (ν ∷ [], (κ, tt)) (y l₅ δ, (x, (d, (z, tt)))) tt r)))) (id⊢ 𝓤 _) $
-        await ! tt $
-        pick ! (λ r.
-        split ! $ move ! (1 ∷ []) $
-        use1 W (some (λ (ws : Mark × (List ℤ × (Unit {0} × (Unit {0} × Unit {0})))). ‵ (lasts push.ended (ν ∷ [], (κ, tt))
-        (y l₅ δ, (x, (d, (z, tt)))) ws) ⊛ raw (fact 𝓤 (ws .0 ≡ p .mark)) ⊛ raw (fact 𝓤 (ws .1 .0 ≡ p .heights)))) (id⊢ 𝓤 _) $
-        pick ! (λ ws.
-        split ! $ move ! (1 ∷ []) $ hears-both ! (ws .0 ≡ p .mark) (ws .1 .0 ≡ p .heights) (λ is-mark is-heights. fsplit ! $ move ! (1 ∷ []) $
-        fsplit ! $ fsplit ! $ move ! (1 ∷ []) $ feqL ! (λ l.
+        use1 W (back l₅ ν δ w) (id⊢ 𝓤 _) $ await ! tt $ pick ! (λ r. split ! $ move ! (1 ∷ []) $ use1 W (told l₅ ν δ) (id⊢ 𝓤 _) $
+        pick ! (λ ws. split ! $ move ! (1 ∷ []) $ hears-both ! (ws .0 ≡ p .mark) (ws .1 .0 ≡ p .heights) (λ is-mark is-heights.
+        fsplit ! $ move ! (1 ∷ []) $ fsplit ! $ fsplit ! $ move ! (1 ∷ []) $ feqL ! (λ l.
         -- [the last heights; …; the last mark; the tokens and the result; …]
-        move ! (3 ∷ []) $ split ! $ move ! (1 ∷ []) $
-        facts ! unit (Is unit) (shows 𝓤 H A unit) r (w ∷ [])
-        (λ is. land ! (from ! (stop !)) (init ! 12 refl (nothing-lawful 𝓤 H A W .typed r _ is .0)) $
+        move ! (3 ∷ []) $ split ! $ move ! (1 ∷ []) $ facts ! unit (Is unit) (shows 𝓤 H A unit) r (w ∷ []) (λ is.
+        land ! (from ! (stop !)) (init ! 12 refl (nothing-lawful 𝓤 H A W .typed r _ is .0)) $
         -- the lifetime is ended, and the local comes back at the last mark
         split ! $ lft-end ! tt $ move ! (0 ∷ 6 ∷ 4 ∷ []) $
         use3 W (later (‵ (mem R .lies (ws .0) l₅ 0))) (ref-back 𝓤 H A W R (ν ∷ []) δ (ws .0) l₅ 0) $ await ! tt $
