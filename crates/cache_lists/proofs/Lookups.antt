@@ -30,7 +30,7 @@ use Rattle.cache.proofs.SearchLaws.{lowest-at, lowest-none, lowest-some}
 
 -- ---- keys
 
-same-key : (a b : TileKey) → sameKey a b ≡ true → a ≡ b
+pub same-key : (a b : TileKey) → sameKey a b ≡ true → a ≡ b
 same-key a b e =
     let row : a .row ≡ b .row = eqb-true (a .row) (b .row) (and-left (eqb (a .row) (b .row)) _ e) in
     let col : a .col ≡ b .col = eqb-true (a .col) (b .col) (and-right (eqb (a .row) (b .row)) _ e) in
@@ -39,7 +39,7 @@ same-key a b e =
 pub key-same : (k : TileKey) → sameKey k k ≡ true
 key-same k = rw (eq-eqb (k .row) (k .row) refl, eq-eqb (k .col) (k .col) refl)
 
-holds-key : (m : MaybeKey) (key : TileKey) → holds m key ≡ true → m ≡ MaybeKey.Key key
+pub holds-key : (m : MaybeKey) (key : TileKey) → holds m key ≡ true → m ≡ MaybeKey.Key key
 holds-key (MaybeKey.Key k) key e = ap MaybeKey.Key (same-key k key e)
 holds-key MaybeKey.Nothing key e = let z : _≡_ {A = ℕ} 0 1 = cc in absurd (omega arith)
 

@@ -41,13 +41,13 @@ use Rattle.cache_lists.proofs.Chunk.{not-written, put-written, ready-ke
 
 -- ---- the invariant after a call
 
-inv-got : {c : Cache} {arena : List ℕ} {h : Header} {key : TileKey} {r : Got} → Inv c → Gets c arena h key r → Inv (r .cache)
+pub inv-got : {c : Cache} {arena : List ℕ} {h : Header} {key : TileKey} {r : Got} → Inv c → Gets c arena h key r → Inv (r .cache)
 inv-got f (denied n s) = f
 inv-got f (ringed e) = f
 inv-got f unknown = f
 inv-got {c} f (handed i e p) = inv-touched c i f
 
-inv-step : {c : Cache} {arena : List ℕ} {h : Header} {key : TileKey} {failure : ℕ} {bs : List ℕ} {r : After}
+pub inv-step : {c : Cache} {arena : List ℕ} {h : Header} {key : TileKey} {failure : ℕ} {bs : List ℕ} {r : After}
     → Inv c → Step c arena h key failure bs r → Inv (r .cache)
 inv-step f (refuses n s) = f
 inv-step f (knows e) = f
@@ -65,7 +65,7 @@ pub clear-is : (c : Cache) → Inv c → Cached.clear c ≡ record { answer = Cl
 unfolding Cached.clear
 clear-is c f = rw (inv-ok c f)
 
-inv-call : (w : World) (c : Call) → Inv (w .cache) → Inv (exec c w .world .cache)
+pub inv-call : (w : World) (c : Call) → Inv (w .cache) → Inv (exec c w .world .cache)
 unfolding exec
 inv-call w capacity f = f
 inv-call w loads f = f
@@ -93,7 +93,7 @@ handed-out {c} {arena} {h} {key} (handed i e p) first len q =
       accepted = and-right (leb (first * 8192 + len) (length arena)) _ ok;
     }
 
-handed-call : (w : World) (c : Call) → HandedOut w c
+pub handed-call : (w : World) (c : Call) → HandedOut w c
 unfolding exec
 handed-call w capacity = tt
 handed-call w loads = tt
@@ -109,7 +109,7 @@ one-of Request.Settled = omega arith
 one-of (Request.Refused n) = omega arith
 one-of (Request.Read offset n) = omega arith
 
-one-read : (w : World) (c : Call) → length (reads w c) ≤ 1
+pub one-read : (w : World) (c : Call) → length (reads w c) ≤ 1
 one-read w capacity = omega arith
 one-read w loads = omega arith
 one-read w (pages h key) = omega arith
@@ -150,7 +150,7 @@ module _ (c : Cache) (arena : List ℕ) (h : Header) (key : TileKey) where
       by true false grid t g e = absurd (omega arith)
       by false t grid q g e = absurd (omega arith)
 
-takes-call : (w : World) (c : Call) → TakesOnly w c
+pub takes-call : (w : World) (c : Call) → TakesOnly w c
 unfolding exec
 takes-call w capacity = tt
 takes-call w loads = tt
@@ -162,7 +162,7 @@ takes-call w (loadFrom h key pack) = tt
 takes-call w clear = tt
 
 -- only a chunk is written
-written-step : {c : Cache} {arena : List ℕ} {h : Header} {key : TileKey} {failure : ℕ} {bs : List ℕ} {r : After}
+pub written-step : {c : Cache} {arena : List ℕ} {h : Header} {key : TileKey} {failure : ℕ} {bs : List ℕ} {r : After}
     → Step c arena h key failure bs r → Written (c .loading) arena (r .arena)
 written-step {c} {arena} (refuses n s) = not-written (c .loading) arena
 written-step {c} {arena} (knows e) = not-written (c .loading) arena

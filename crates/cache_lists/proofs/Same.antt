@@ -60,7 +60,7 @@ module _ (P : List ℕ) (h : Header) (n : ℕ) (key : TileKey) where
       (below-or (d .pages .count) (span len))
 
   module _ (c : Cache) (arena : List ℕ) (k : Kept P h n c arena) where
-    kept-got : {r : Got} → Gets c arena h key r → Kept P h n (r .cache) arena
+    pub kept-got : {r : Got} → Gets c arena h key r → Kept P h n (r .cache) arena
     kept-got (denied number s) = k
     kept-got (ringed e) = k
     kept-got unknown = k
@@ -82,7 +82,7 @@ module _ (P : List ℕ) (h : Header) (n : ℕ) (key : TileKey) where
           → (l .offset + l .done + chunkLen l ≤ length P) × (bs ≡ take (chunkLen l) (drop (l .offset + l .done) P))
       chunk-fair came = fair-came came (came .size)
 
-      kept-step : {r : After} → Step c arena h key failure bs r → Kept P h n (r .cache) (r .arena)
+      pub kept-step : {r : After} → Step c arena h key failure bs r → Kept P h n (r .cache) (r .arena)
       kept-step (refuses number s) = k
       kept-step (knows e) = k
       kept-step (uses i e) = kept-touched P h n c arena i k
@@ -105,7 +105,7 @@ module _ (P : List ℕ) (h : Header) (n : ℕ) (key : TileKey) where
 
     -- ---- the same as the direct lookup
 
-    same-got : {r : Got} → Gets c arena h key r → SameLook arena (r .answer) (direct P h n key)
+    pub same-got : {r : Got} → Gets c arena h key r → SameLook arena (r .answer) (direct P h n key)
     same-got (denied number s) = tt
     same-got (ringed e) = in-ring (c .missing) key e (λ (i : ℕ). k .ring i key)
     same-got unknown = tt
@@ -114,12 +114,12 @@ module _ (P : List ℕ) (h : Header) (n : ℕ) (key : TileKey) where
     -- ---- not refused with 12
 
     module _ (ok : rules h ≡ true) (holds : n * 8192 ≤ length arena) where
-      kept-ok : cacheOk c h (length arena) ≡ true
+      pub kept-ok : cacheOk c h (length arena) ≡ true
       unfolding cacheOk
       kept-ok = rw (inv-ok c (k .inv), ok, k .count) (le-leb (n * 8192) (length arena) holds)
 
       -- a ready run lies in the arena and holds what the direct lookup gives, so it passes
-      kept-passes : (i : ℕ) → readyAt (c .pages) key ≡ Found.At i → passes arena i (lenAt c i) key (h .tile) ≡ true
+      pub kept-passes : (i : ℕ) → readyAt (c .pages) key ≡ Found.At i → passes arena i (lenAt c i) key (h .tile) ≡ true
       unfolding passes
       kept-passes i e =
           let r : ReadyAt (c .pages) key i = ready-at (c .pages) key i e in
@@ -127,7 +127,7 @@ module _ (P : List ℕ) (h : Header) (n : ℕ) (key : TileKey) where
           rw (le-leb (i * 8192 + lenAt c i) (length arena) (omega (arith, end, span-holds (lenAt c i), k .count)))
           (direct-ready P h n key _ (k .slots i key (r .ready) (r .keyIs)))
 
-      not-12 : {number : ℕ} → Refusal c arena h key number → number ≡ 12 → ⊥
+      pub not-12 : {number : ℕ} → Refusal c arena h key number → number ≡ 12 → ⊥
       not-12 (named e) z = true≢false (sym kept-ok ∙ e)
       not-12 unasked z = omega arith
       not-12 outside z = omega arith
@@ -163,13 +163,13 @@ module _ (P : List ℕ) (n : ℕ) where
   abbrev pub KeptIn : World → Type 0
   KeptIn w = Kept P (parse (take 512 P) .header) n (w .cache) (w .arena)
 
-  given : {w : World} {h : Header} → Parsed P h → KeptIn w → Kept P h n (w .cache) (w .arena)
+  pub given : {w : World} {h : Header} → Parsed P h → KeptIn w → Kept P h n (w .cache) (w .arena)
   given p k = rw (p .header) at k
 
-  parsed-rules : {h : Header} → Parsed P h → rules h ≡ true
+  pub parsed-rules : {h : Header} → Parsed P h → rules h ≡ true
   parsed-rules p = rw (p .header) at (parse-accepted (take 512 P) (p .accepted) .0)
 
-  kept-call : (w : World) (c : Call) → KeptIn w → Fair P w c → KeptIn (exec c w .world)
+  pub kept-call : (w : World) (c : Call) → KeptIn w → Fair P w c → KeptIn (exec c w .world)
   unfolding exec
   kept-call w capacity k f = k
   kept-call w loads k f = k
@@ -210,7 +210,7 @@ module _ (P : List ℕ) (n : ℕ) where
         by true z = omega arith
         by false z = omega arith
 
-    open-call : (c : Call) → Fair P w c → Open w c
+    pub open-call : (c : Call) → Fair P w c → Open w c
     unfolding exec Cached.capacity Cached.loads
     open-call capacity f = rw (inv-ok (w .cache) (k .inv)) (λ z. omega arith)
     open-call loads f = rw (inv-ok (w .cache) (k .inv)) (λ z. omega arith)

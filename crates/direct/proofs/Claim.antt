@@ -1,0 +1,44 @@
+-- THE THEOREM: the claims of demand 3, of every list of calls from a fresh engine of any page count and horizon over any arena. A fresh engine has the
+-- invariants, and they hold along the list. Assumes nothing.
+use Prim.Native.Nat.{ℕ, _≤_}
+use mathlib.Core.Path.{_≡_, refl}
+use mathlib.Core.Bool.{true}
+use mathlib.Core.List.{List, [], _∷_}
+use lib.Ieee.{Float}
+use Rattle.pack.specs.declared.TileKey.{TileKey}
+use Rattle.cache.specs.Direct.{settled}
+use Rattle.cache_lists.proofs.Inv.{inv-fresh}
+use Rattle.follower.specs.State as Followers
+use Rattle.direct.specs.Lists.{World, Call, exec, start}
+use Rattle.direct.specs.Direct.{Lookup, directly, Direct, newDirect, applied, packAfter, directExec, directShows}
+use Rattle.direct.specs.Claims.{toldOf, tolds, shows, AllFair, madeOf, Answers, AllSame, AllDirect, AllSafe}
+use Rattle.direct.proofs.Safe.{safe-along}
+use Rattle.direct.proofs.Fit.{Fit, fit-after, fit-start}
+use Rattle.direct.proofs.Linked.{Linked, Alike, turn-alike}
+
+pub all-safe : AllSafe
+all-safe n few horizon arena cs = safe-along cs (start n horizon arena) (inv-fresh n few)
+
+-- ---- finished matches and roads
+
+module _ (n : ℕ) (horizon : Float) (at : Lookup) (answers : Answers n at) where
+  same-along : (cs : List Call) (P : List ℕ) (w : World) (d : Direct) → Fit P n horizon w → Linked d (w .engine) → AllFair P cs w
+      → directShows at (madeOf n horizon) P cs (tolds cs w) d ≡ shows cs w
+  unfolding AllFair tolds shows directShows
+  same-along [] P w d fit l fair = refl
+  same-along (c ∷ cs) P w d fit l fair =
+      let a : Alike at n horizon P w d l c = turn-alike at n horizon P w d l fit answers c (fair .0) in
+      rw (
+        a .shown,
+        same-along cs (packAfter P c (toldOf w c)) (exec c w .world) (directExec at (madeOf n horizon) P c (toldOf w c) d .direct)
+            (fit-after P n horizon w c fit (fair .0)) (a .linked) (fair .1),
+      )
+
+pub all-same : AllSame
+unfolding Followers.fresh applied
+all-same n few horizon arena P cs fair at answers =
+    same-along n horizon at answers cs P (start n horizon arena) newDirect (fit-start P n horizon arena few)
+    (record { sight = refl; matcher = refl; none = λ r. refl }) fair
+
+pub all-direct : AllDirect
+all-direct n few horizon arena P cs fair = all-same n few horizon arena P cs fair (directly n) (λ P key s. refl)

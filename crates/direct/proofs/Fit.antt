@@ -1,0 +1,311 @@
+-- Under the premises: what the cache holds is the pack's, the header that was read is the pack's, and what the engine was made with stays. By the
+-- ways that a call goes. Assumes nothing.
+use Prim.Native.Nat.{ℕ, zero, suc, _+_, _*_, _<_, _≤_}
+use mathlib.Core.Path.{_≡_, refl, sym, ap, _∙_}
+use mathlib.Core.Bool.{Bool, true, false, _&&_, not, cond, true≢false}
+use mathlib.Core.List.{List, [], _∷_}
+use mathlib.Core.Logic.{⊎-elim}
+use native.Mathlib.Omega.{arith}
+use lib.Dec.{eqb, ltb}
+use lib.Ieee.{Float}
+use lib.ListN.{length, take, drop, getD, set, replicate, length-set, length-replicate}
+use lib.Seq.{ext-getD, getD-set-same, getD-set-other}
+use Rattle.num.specs.Fold.{upTo}
+use Rattle.num.specs.Order.{min}
+use Rattle.pack.specs.Bytes.{byteAt}
+use Rattle.pack.specs.Grid.{isPoint}
+use Rattle.pack.specs.Sector.{parse}
+use Rattle.pack.specs.declared.Answer.the-variants as SectorIs
+use Rattle.pack.specs.declared.Header.{Header}
+use Rattle.pack.specs.declared.TileKey.{TileKey}
+use Rattle.pages.proofs.Below.{same-or}
+use Rattle.geo.specs.Flat.{whole}
+use Rattle.pages.specs.Runs.{emptySlot, slotAt}
+use Rattle.cache.specs.Keys.{emptyPlace}
+use Rattle.cache.specs.Lookups.{touched}
+use Rattle.cache.specs.State.{fresh, cleared, pendingFits}
+use Rattle.cache.specs.declared.Cache.{Cache}
+use Rattle.cache.specs.declared.Pending.{Pending}
+use Rattle.cache.specs.declared.Pending.the-variants as Pending
+use Rattle.load.specs.Loads as Loads
+use Rattle.load.specs.Loads.{forgot, told}
+use Rattle.load.specs.Calls as Loaded
+use Rattle.cache_lists.specs.Claims as Cached
+use Rattle.cache_lists.specs.Claims.{Parsed}
+use Rattle.cache_lists.proofs.Steps.{Step, refuses, knows, uses, noPages, fails, lacks, begins, goesOn, readies, spoils, load-is}
+use Rattle.cache_lists.proofs.Direct.{direct-none}
+use Rattle.cache_lists.proofs.Inv.{inv-cleared}
+use Rattle.cache_lists.proofs.Kept.{SlotHolds, RingHolds, Kept, kept-fresh, kept-cleared, kept-touched, kept-forgot}
+use Rattle.cache_lists.proofs.Same.{kept-step, given, kept-call}
+use Rattle.matcher.specs.declared.Outcome as MatchOutcome
+use Rattle.matcher.specs.declared.Outcome.the-variants as Match
+use Rattle.matcher.specs.declared.Updated.{Updated}
+use Rattle.predict.specs.Predict as Predict
+use Rattle.predict.specs.declared.Outcome as RoadOutcome
+use Rattle.predict.specs.declared.Outcome.the-variants as Roads
+use Rattle.candidates.specs.declared.Current.{Current}
+use Rattle.candidates.specs.declared.Current.the-variants as Current
+use Rattle.candidates.specs.declared.Matched.{Matched}
+use Rattle.matcher.specs.declared.Matcher.{Matcher}
+use Rattle.follower.specs.State as Followers
+use Rattle.follower.specs.Fixes.{isSamePlace}
+use Rattle.follower.specs.declared.Fix.{Fix}
+use Rattle.follower.specs.declared.Follower.{Follower}
+use Rattle.engine.specs.State.{refused, unchanged, engineOk, forgotten}
+use Rattle.engine.specs.Work.{counted, ended, offMap, mayAsk, matchedBy, matched, matchAsks, matchEndedBy, rematch, roadAsks, roadEndedBy, published}
+use Rattle.engine.specs.Deliver as Delivered
+use Rattle.engine.specs.Deliver.{After, over, withPending, sectorOf, arrived, headerFailed, loadFailed, loadedBy, loaded}
+use Rattle.engine.specs.Steps.{steppedBy, stepped}
+use Rattle.engine.specs.Calls as Engines
+use Rattle.engine.specs.declared.Changed.{Changed}
+use Rattle.engine.specs.declared.Engine.{Engine}
+use Rattle.engine.specs.declared.Phase.{Phase}
+use Rattle.engine.specs.declared.Phase.the-variants as Phase
+use Rattle.engine.specs.declared.Status.{Status}
+use Rattle.engine.specs.declared.Status.the-variants as Status
+use Rattle.engine.specs.declared.Stepped.{Stepped}
+use Rattle.engine.proofs.FetchLaws.{isOpen, open-repeats, Opening, opening-is-pending}
+use Rattle.direct.specs.Lists.{withCache, World, Call, fix, lost, reset, step, deliver, stepFrom, read, onCache, nearby, current, update, predict, cacheOf, ofTaken, ofStatus, exec, start}
+use Rattle.direct.specs.Finished.{Task, matchOf, roadAt}
+use Rattle.direct.specs.Direct.{headerOf, packAfter}
+use Rattle.direct.specs.Claims.{toldOf, openRead, FairBytes, FairLent, Fair}
+use Rattle.direct.proofs.Ways as Ways
+use Rattle.direct.proofs.Ways.{Same, Steps, Brings, brought, Delivers, Lends, step-is, deliver-is, lends-is}
+use Rattle.direct.proofs.Changes.{step-keeps, deliver-keeps, update-keeps, predict-keeps}
+use Rattle.direct.proofs.Safe.{inv-pending}
+use Rattle.direct.proofs.Beside as Sides
+use Rattle.direct.proofs.Beside.{Beside, Heads, Left, step-beside, deliver-left}
+
+-- ---- a sector of 512 bytes is those bytes
+
+module _ (bs : List ℕ) where
+  abbrev filledTo : ℕ → List ℕ
+  filledTo k = upTo (λ (out : List ℕ) (i : ℕ). set out i (byteAt bs i)) (replicate 512 0) k
+
+  filled-length : (k : ℕ) → length (filledTo k) ≡ 512
+  unfolding upTo
+  filled-length zero = length-replicate {A = ℕ} 512 0
+  filled-length (suc k) = length-set (filledTo k) k (byteAt bs k) ∙ filled-length k
+
+  filled-at : (k : ℕ) → k ≤ 512 → (i : ℕ) → i < k → getD (filledTo k) i 0 ≡ byteAt bs i
+  unfolding upTo
+  filled-at zero few i below = absurd (omega arith)
+  filled-at (suc k) few i below = ⊎-elim now (λ e. before e (filled-at k (omega arith) i (omega (arith, e)))) (same-or i k)
+    where
+      now : i ≡ k → getD (set (filledTo k) k (byteAt bs k)) i 0 ≡ byteAt bs i
+      now e = rw e (getD-set-same (filledTo k) k (byteAt bs k) 0 (omega (arith, filled-length k)))
+
+      before : (i ≡ k → ⊥) → getD (filledTo k) i 0 ≡ byteAt bs i → getD (set (filledTo k) k (byteAt bs k)) i 0 ≡ byteAt bs i
+      before e was = getD-set-other (filledTo k) k i (byteAt bs k) 0 e ∙ was
+
+  sector-whole : length bs ≡ 512 → sectorOf bs ≡ bs
+  unfolding sectorOf
+  sector-whole size = ext-getD 0 (filledTo 512) bs (filled-length 512 ∙ sym size) (λ i below. filled-at 512 (omega arith) i (omega (arith, filled-length 512)))
+
+-- ---- the invariant
+
+-- the header that was read is the pack's
+abbrev pub HeaderFits : List ℕ → Phase → Header → Type 0
+HeaderFits P Phase.Ready h = Parsed P h
+HeaderFits P Phase.Unread h = Unit
+HeaderFits P Phase.Failed h = Unit
+
+abbrev pub KeptOver : List ℕ → ℕ → Cache → List ℕ → Type 0
+KeptOver P n c arena = Kept P (headerOf P) n c arena
+
+pub record Fit (P : List ℕ) (n : ℕ) (horizon : Float) (w : World) : Type 0 where
+  pub cache : KeptOver P n (w .engine .shared .cache) (w .arena)
+  pub header : HeaderFits P (w .engine .shared .phase) (w .engine .shared .header)
+  pub reach : w .engine .follower .«horizon_m» ≡ min horizon (whole 10000)
+
+-- the fetch that a step answers is open after it
+step-open : (e : Engine) (arena : List ℕ) {offset len : ℕ} → Engines.step e arena .answer ≡ Status.Fetch offset len
+    → openRead (Engines.step e arena .engine) ≡ Status.Fetch offset len
+unfolding Engines.step stepped
+step-open e arena {offset} {len} = by (engineOk e (length arena)) (e .shared .cache .pending) refl
+  where
+    again : isOpen (e .shared .cache .pending) ≡ true → stepped e arena .answer ≡ Status.Fetch offset len → openRead (stepped e arena .engine) ≡ Status.Fetch offset len
+    again o a = let r = open-repeats e arena o in ap (λ (s : Stepped). openRead (s .engine)) r ∙ (sym (ap (λ (s : Stepped). s .answer) r) ∙ a)
+
+    by : (t : Bool) (p : Pending) → e .shared .cache .pending ≡ p → cond t (steppedBy (e .shared .cache .pending) e arena) (refused e 12) .answer ≡ Status.Fetch offset len
+        → openRead (cond t (steppedBy (e .shared .cache .pending) e arena) (refused e 12) .engine) ≡ Status.Fetch offset len
+    by true Pending.Nothing q a =
+        let o : Opening e (stepped e arena) = opening-is-pending e arena q a in ap openRead (o .engine) ∙ sym (o .asks) ∙ a
+    by true Pending.Header q a = again (rw q) a
+    by true (Pending.Entry key) q a = again (rw q) a
+    by true Pending.Chunk q a = again (rw q) a
+    by false p q a = let z : _≡_ {A = ℕ} 0 1 = cc in absurd (omega arith)
+
+fixed-reach : (f : Follower) (x : Fix) → Followers.fixed f x .«horizon_m» ≡ f .«horizon_m»
+unfolding Followers.fixed
+fixed-reach f x = by (isSamePlace (f .sight .fix) x) _ refl
+  where
+    by : (t : Bool) (g : Follower) → g .«horizon_m» ≡ f .«horizon_m» → cond t f g .«horizon_m» ≡ f .«horizon_m»
+    by true g e = refl
+    by false g e = e
+
+module _ (P : List ℕ) (n : ℕ) where
+  -- ---- the cache
+
+  touches : (c : Cache) (arena : List ℕ) (i : ℕ) → KeptOver P n c arena → KeptOver P n (touched c i) arena
+  touches c arena i k = kept-touched P (headerOf P) n c arena i k
+
+  forgets : (c : Cache) (arena : List ℕ) (key : TileKey) → c .pages .count ≡ 0 → KeptOver P n c arena → KeptOver P n (forgot c key) arena
+  forgets c arena key z k = kept-forgot P (headerOf P) n c arena key (direct-none P (headerOf P) n key (sym (k .count) ∙ z)) k
+
+  pends : (c : Cache) (arena : List ℕ) (p : Pending) → pendingFits p c ≡ true → KeptOver P n c arena → KeptOver P n (withPending c p) arena
+  pends c arena p fits k =
+      record { inv = inv-pending c arena p fits (k .inv); count = k .count; slots = k .slots; ring = k .ring; load = k .load }
+
+  pub kept-stepped : (e : Engine) (arena : List ℕ) → KeptOver P n (e .shared .cache) arena → KeptOver P n (Engines.step e arena .engine .shared .cache) arena
+  kept-stepped e arena k = step-keeps (KeptOver P n) touches forgets pends e arena k
+
+  -- a part of a tile came
+  module _ (e : Engine) (arena : List ℕ) (failure : ℕ) (bs : List ℕ) (k : KeptOver P n (e .shared .cache) arena) where
+    either-number : (t : Bool) (x y : Stepped) → ofStatus (x .answer) ≡ 0 → ofStatus (y .answer) ≡ 0 → ofStatus (cond t x y .answer) ≡ 0
+    either-number true x y p q = p
+    either-number false x y p q = q
+
+    -- one that is refused changes nothing
+    part-by : {h : Header} {key : TileKey} {r : Loads.After} → Step (e .shared .cache) arena h key failure bs r
+        → (ofStatus (loaded e (told r) .answer) ≡ 0 → KeptOver P n (r .cache) (r .arena)) → KeptOver P n (r .cache) (r .arena)
+    unfolding arrived loadFailed
+    part-by (refuses number s) f = k
+    part-by (knows q) f = f refl
+    part-by (uses i q) f = f refl
+    part-by (noPages q) f = f refl
+    part-by (fails number) f = f (either-number (ltb (e .follower .failures) 7) _ _ refl refl)
+    part-by (lacks came s) f = f refl
+    part-by (begins came offset len slot q s v) f = f refl
+    part-by (goesOn l came b) f = f refl
+    part-by (readies l came b p) f = f refl
+    part-by (spoils l came b p) f = f refl
+
+    module _ (fits : HeaderFits P (e .shared .phase) (e .shared .header))
+        (fair : ofStatus (Engines.deliver e arena failure bs .answer) ≡ 0 → failure ≡ 0 → FairBytes P (openRead e) bs) where
+      part : (key : TileKey) (b : Brings e arena key failure bs)
+          → ofStatus (loaded e (told (brought e arena key failure bs)) .answer) ≡ ofStatus (Engines.deliver e arena failure bs .answer)
+          → KeptOver P n (brought e arena key failure bs .cache) (brought e arena key failure bs .arena)
+      part key b same =
+          let h : Header = e .shared .header in
+          let parsed : Parsed P h = rw (b .ready) at fits in
+          let goes : Step (e .shared .cache) arena h key failure bs (brought e arena key failure bs) = load-is (e .shared .cache) arena h key failure bs in
+          part-by goes
+          (λ z. rw (parsed .header)
+          (kept-step P h n key (e .shared .cache) arena (given P n parsed k) failure bs
+          (λ y. rw (b .fetches) (rw (b .asks) at (fair (sym same ∙ z) y))) goes))
+
+      pub kept-delivered : KeptOver P n (Engines.deliver e arena failure bs .engine .shared .cache) (Engines.deliver e arena failure bs .arena)
+      kept-delivered = deliver-keeps (KeptOver P n) touches forgets pends e arena failure bs k part
+
+      -- the header that came is the pack's
+      heads-fit : {a : Status} {p : Phase} {h : Header} → Heads e failure bs a p h → a ≡ Engines.deliver e arena failure bs .answer → HeaderFits P p h
+      heads-fit Sides.kept same = fits
+      heads-fit Sides.unread same = tt
+      heads-fit Sides.failed same = tt
+      heads-fit (Sides.came o z size a) same =
+          let pack : (0 + 512 ≤ length P) × (bs ≡ take 512 (drop 0 P)) = (rw o at (fair (ap ofStatus (sym same)) z)) size in
+          let is : sectorOf bs ≡ take 512 P = sector-whole bs size ∙ pack .1 in
+          record { whole = pack .0; accepted = rw is at a; header = rw is }
+
+  -- ---- a step, a delivery, the lent-pack form
+
+  module _ (horizon : Float) (e : Engine) (arena : List ℕ) (f : Fit P n horizon (record { engine = e; arena = arena })) where
+    pub fit-stepped : Fit P n horizon (record { engine = Engines.step e arena .engine; arena = arena })
+    fit-stepped =
+        let b : Beside e (Engines.step e arena .engine) = step-beside e arena in
+        record { cache = kept-stepped e arena (f .cache); header = rw (b .phase, b .header) (f .header); reach = b .horizon ∙ f .reach }
+
+    pub fit-delivered : (failure : ℕ) (bs : List ℕ) → (ofStatus (Engines.deliver e arena failure bs .answer) ≡ 0 → failure ≡ 0 → FairBytes P (openRead e) bs)
+        → Fit P n horizon (record { engine = Engines.deliver e arena failure bs .engine; arena = Engines.deliver e arena failure bs .arena })
+    fit-delivered failure bs fair =
+        let l : Left e failure bs (Engines.deliver e arena failure bs .answer) (Engines.deliver e arena failure bs .engine) = deliver-left e failure bs arena in
+        record {
+          cache = kept-delivered e arena failure bs (f .cache) (f .header) fair;
+          header = heads-fit e arena failure bs (f .cache) (f .header) fair (l .heads) refl;
+          reach = l .follower .horizon ∙ f .reach;
+        }
+
+  -- the lent-pack form
+  fit-lent : (horizon : Float) (e : Engine) (arena Q : List ℕ) {r : After} → Lends e arena Q r → FairLent P (Engines.step e arena .answer) Q
+      → Fit P n horizon (record { engine = e; arena = arena }) → Fit P n horizon (record { engine = r .engine; arena = r .arena })
+  fit-lent horizon e arena Q (Ways.plain t) fair f = fit-stepped horizon e arena f
+  fit-lent horizon e arena Q (Ways.asks offset len failure bs a bytes) fair f =
+      fit-delivered horizon (Engines.step e arena .engine) arena (fit-stepped horizon e arena f) failure bs
+      (λ z y. rw (step-open e arena a) (bytes P (rw a at fair) y))
+
+  -- ---- fixes
+
+  either-fit : (horizon : Float) (arena : List ℕ) (t : Bool) (x y : Changed) → Fit P n horizon (record { engine = x .engine; arena = arena })
+      → Fit P n horizon (record { engine = y .engine; arena = arena }) → Fit P n horizon (record { engine = cond t x y .engine; arena = arena })
+  either-fit horizon arena true x y p q = p
+  either-fit horizon arena false x y p q = q
+
+  fit-follows : (horizon : Float) (e : Engine) (arena : List ℕ) (g : Follower) → g .«horizon_m» ≡ e .follower .«horizon_m»
+      → Fit P n horizon (record { engine = e; arena = arena }) → Fit P n horizon (record { engine = record { shared = e .shared; follower = g }; arena = arena })
+  fit-follows horizon e arena g same f = record { cache = f .cache; header = f .header; reach = same ∙ f .reach }
+
+  fit-fix : (horizon : Float) (e : Engine) (arena : List ℕ) (x : Fix) → Fit P n horizon (record { engine = e; arena = arena })
+      → Fit P n horizon (record { engine = Engines.fix e arena x .engine; arena = arena })
+  unfolding Engines.fix
+  fit-fix horizon e arena x f =
+      either-fit horizon arena (engineOk e (length arena)) _ _
+      (either-fit horizon arena (isPoint (x .lat) (x .lon)) _ _ (fit-follows horizon e arena (Followers.fixed (e .follower) x) (fixed-reach (e .follower) x) f) f) f
+
+  fit-lost : (horizon : Float) (e : Engine) (arena : List ℕ) → Fit P n horizon (record { engine = e; arena = arena })
+      → Fit P n horizon (record { engine = Engines.lost e arena .engine; arena = arena })
+  unfolding Engines.lost Followers.lost
+  fit-lost horizon e arena f = either-fit horizon arena (engineOk e (length arena)) _ _ (fit-follows horizon e arena (Followers.lost (e .follower)) refl f) f
+
+  -- ---- direct calls
+
+  fit-cache : (horizon : Float) (w : World) (c : Cache) (arena : List ℕ) → KeptOver P n c arena → Fit P n horizon w
+      → Fit P n horizon (record { engine = withCache (w .engine) c; arena = arena })
+  fit-cache horizon w c arena k f = record { cache = k; header = f .header; reach = f .reach }
+
+-- ---- a reset: nothing is held of the pack before
+
+-- a cleared cache is one of any pack
+cleared-fits : (P Q : List ℕ) (n : ℕ) (c : Cache) (arena : List ℕ) → KeptOver P n c arena → KeptOver Q n (cleared c) arena
+unfolding cleared fresh
+cleared-fits P Q n c arena k =
+    let e : KeptOver Q n (fresh n) arena = kept-fresh Q (headerOf Q) n arena (rw (k .count) at (k .inv .pages .small)) in
+    record { inv = inv-cleared c (k .inv); count = k .count; slots = e .slots; ring = e .ring; load = tt }
+
+fit-reset : (P Q : List ℕ) (n : ℕ) (horizon : Float) (w : World) → Fit P n horizon w
+    → Fit (packAfter P (reset Q) (toldOf w (reset Q))) n horizon (exec (reset Q) w .world)
+unfolding exec Engines.reset forgotten Followers.reset
+fit-reset P Q n horizon w f = by (engineOk (w .engine) (length (w .arena)))
+  where
+    left : Bool → Changed
+    left t = cond t (forgotten (w .engine)) (unchanged (w .engine) 12)
+
+    by : (t : Bool) → Fit (cond (not (eqb (ofTaken (left t .answer)) 0)) P Q) n horizon (record { engine = left t .engine; arena = w .arena })
+    by true = record { cache = cleared-fits P Q n (w .engine .shared .cache) (w .arena) (f .cache); header = tt; reach = f .reach }
+    by false = f
+
+-- ---- a call
+
+pub fit-after : (P : List ℕ) (n : ℕ) (horizon : Float) (w : World) (c : Call) → Fit P n horizon w → Fair P w c
+    → Fit (packAfter P c (toldOf w c)) n horizon (exec c w .world)
+unfolding exec
+fit-after P n horizon w (fix x) f fair = fit-fix P n horizon (w .engine) (w .arena) x f
+fit-after P n horizon w lost f fair = fit-lost P n horizon (w .engine) (w .arena) f
+fit-after P n horizon w (reset Q) f fair = fit-reset P Q n horizon w f
+fit-after P n horizon w step f fair = fit-stepped P n horizon (w .engine) (w .arena) f
+fit-after P n horizon w (deliver failure bs) f fair = fit-delivered P n horizon (w .engine) (w .arena) f failure bs fair
+fit-after P n horizon w (stepFrom Q) f fair = fit-lent P n horizon (w .engine) (w .arena) Q (lends-is (w .engine) (w .arena) Q) fair f
+fit-after P n horizon w (read r) f fair = f
+fit-after P n horizon w (onCache c) f fair = fit-cache P n horizon w _ _ (kept-call P n (cacheOf w) c (f .cache) fair) f
+fit-after P n horizon w (nearby h p) f fair = f
+fit-after P n horizon w (current m) f fair = f
+fit-after P n horizon w (update m h p heading) f fair =
+    fit-cache P n horizon w _ (w .arena)
+    (update-keeps (KeptOver P n) (touches P n) (forgets P n) (pends P n) m (w .engine .shared .cache) (w .arena) h p heading (f .cache)) f
+fit-after P n horizon w (predict h m reach samples behind) f fair =
+    fit-cache P n horizon w _ (w .arena)
+    (predict-keeps (KeptOver P n) (touches P n) (forgets P n) (pends P n) (w .engine .shared .cache) (w .arena) h m reach samples behind (f .cache)) f
+
+pub fit-start : (P : List ℕ) (n : ℕ) (horizon : Float) (arena : List ℕ) → n ≤ 96 → Fit P n horizon (start n horizon arena)
+unfolding Followers.fresh
+fit-start P n horizon arena few = record { cache = kept-fresh P (headerOf P) n arena few; header = tt; reach = refl }

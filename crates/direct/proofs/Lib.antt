@@ -1,0 +1,11 @@
+-- Demand 3.
+pub mod Ways
+pub mod Changes
+pub mod Found
+pub mod Safe
+pub mod Beside
+pub mod Fit
+pub mod Agreed
+pub mod Seen
+pub mod Linked
+pub mod Claim

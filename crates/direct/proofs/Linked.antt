@@ -1,0 +1,479 @@
+-- The direct engine beside the engine, call by call: what it holds, with what waits done, is what the engine sees and matches, and nothing waits where no
+-- fetch is open (`Linked`). Each call shows what the direct engine works out of it (`turn-linked`). Assumes nothing.
+use Prim.Native.Nat.{ℕ}
+use mathlib.Core.Path.{_≡_, refl, sym, ap, subst, _∙_}
+use mathlib.Core.Bool.{Bool, true, false, _&&_, not, cond, true≢false}
+use mathlib.Core.List.{List, [], _∷_, _++_}
+use native.Mathlib.Omega.{arith}
+use borrow.Author.Tests.{eqb-true}
+use lib.Dec.{eqb}
+use lib.Ieee.{Float}
+use lib.IntN.{ℤ}
+use lib.ListN.{length, take}
+use Rattle.pack.specs.Grid.{isPoint, inGrid}
+use Rattle.pack.specs.declared.Header.{Header}
+use Rattle.pack.specs.declared.TileKey.{TileKey}
+use Rattle.geo.specs.declared.Point.{Point}
+use Rattle.cache.specs.Direct.{Agree, look}
+use Rattle.cache.specs.State.{cacheOk}
+use Rattle.cache.specs.declared.Pending.{Pending}
+use Rattle.cache.specs.declared.Pending.the-variants as Pending
+use Rattle.cache_lists.specs.Claims.{Parsed}
+use Rattle.candidates.specs.declared.Current.{Current}
+use Rattle.candidates.specs.declared.Heading.{Heading}
+use Rattle.candidates.specs.declared.Matched.{Matched}
+use Rattle.matcher.specs.Calls as Matching
+use Rattle.matcher.specs.Gather as Gather
+use Rattle.matcher.specs.Relied as MatchRelied
+use Rattle.matcher.specs.State.{callOk, headingOk}
+use Rattle.matcher.specs.State as Matchers
+use Rattle.matcher.specs.declared.Matcher.{Matcher}
+use Rattle.matcher.specs.declared.Outcome as MatchOutcome
+use Rattle.matcher.specs.declared.Outcome.the-variants as Match
+use Rattle.matcher.specs.declared.Updated.{Updated}
+use Rattle.matcher.proofs.AgreeLaws.{update-agrees}
+use Rattle.predict.specs.Predict as Predict
+use Rattle.predict.specs.Relied as RoadRelied
+use Rattle.predict.specs.declared.Outcome as RoadOutcome
+use Rattle.predict.specs.declared.Outcome.the-variants as Roads
+use Rattle.predict.proofs.RoadLaws.{predict-agrees}
+use Rattle.follower.specs.Fixes as Fixes
+use Rattle.follower.specs.State as Followers
+use Rattle.follower.specs.declared.Fix.{Fix}
+use Rattle.follower.specs.declared.Follower.{Follower}
+use Rattle.follower.specs.declared.Sight.{Sight}
+use Rattle.engine.specs.State.{refused, unchanged, followed, forgotten, engineOk}
+use Rattle.engine.specs.Work.{matchEndedBy, mayAsk, roadEndedBy, counted, ended}
+use Rattle.engine.specs.Deliver.{After, arrived}
+use Rattle.engine.specs.Steps.{stepped}
+use Rattle.engine.specs.Calls as Engines
+use Rattle.engine.specs.declared.Changed.{Changed}
+use Rattle.engine.specs.declared.Engine.{Engine}
+use Rattle.engine.specs.declared.Phase.{Phase}
+use Rattle.engine.specs.declared.Phase.the-variants as Phase
+use Rattle.engine.specs.declared.Status.{Status}
+use Rattle.engine.specs.declared.Status.the-variants as Status
+use Rattle.engine.specs.declared.Stepped.{Stepped}
+use Rattle.direct.specs.Lists as Calls
+use Rattle.direct.specs.Lists.{World, Call, ofTaken, ofStatus, number, exec}
+use Rattle.direct.specs.Finished as Shows
+use Rattle.direct.specs.Finished.{Shown, nothing, isMatch, isRoad, Task, none, offMap, match, road, openTask, phaseTask, taskOf, matchOf, roadAt, taskShown, stepShown, updateShown, predictShown, shown}
+use Rattle.direct.specs.Direct.{Made, Told, Lookup, headerOf, Held, fixed, lostHeld, Worked, idle, stepWorked, updateWorked, predictWorked, worked, Waiting, aFix, aLoss, Direct, acted, applied, queued, flushed, settled, Turn, received, cleared, turned, directExec}
+use Rattle.direct.specs.Claims.{isOpen, isFetching, toldOf, madeOf, Answers, Fair}
+use Rattle.direct.proofs.Ways as Ways
+use Rattle.direct.proofs.Ways.{Same, Steps, step-is, isFetch, Lends, lends-is}
+use Rattle.direct.proofs.Beside.{same-self, same-then, Beside, steps-beside, step-beside, Left, deliver-left}
+use Rattle.direct.proofs.Fit.{Fit, HeaderFits}
+use Rattle.direct.proofs.Agreed.{look-agrees}
+use Rattle.direct.proofs.Seen.{toldBy, Agrees, idle-worked, steps-agree}
+
+pub record Linked (d : Direct) (e : Engine) : Type 0 where
+  pub sight : applied (d .waiting) (d .held) .sight ≡ e .follower .sight
+  pub matcher : applied (d .waiting) (d .held) .matcher ≡ e .follower .matcher
+  pub none : isFetching e ≡ false → d .waiting ≡ []
+
+-- ---- what waits
+
+-- once no fetch is open nothing waits
+settles : (d : Direct) (e : Engine) → applied (d .waiting) (d .held) .sight ≡ e .follower .sight → applied (d .waiting) (d .held) .matcher ≡ e .follower .matcher
+    → Linked (settled (isFetching e) d) e
+unfolding applied
+settles d e s m = by (isFetching e) refl
+  where
+    by : (t : Bool) → isFetching e ≡ t → Linked (settled t d) e
+    by true q = record { sight = s; matcher = m; none = λ r. absurd (true≢false (sym q ∙ r)) }
+    by false q = record { sight = s; matcher = m; none = λ r. refl }
+
+applied-more : (xs : List Waiting) (x : Waiting) (d : Held) → applied (xs ++ (x ∷ [])) d ≡ acted x (applied xs d)
+unfolding applied
+applied-more [] x d = refl
+applied-more (y ∷ xs) x d = applied-more xs x (acted y d)
+
+-- ---- fixes and losses
+
+-- the held state of a follower
+abbrev heldOf : Follower → Current → Held
+heldOf g last = record { sight = g .sight; matcher = g .matcher; last = last }
+
+pub held-is : (d : Held) (g : Follower) → d .sight ≡ g .sight → d .matcher ≡ g .matcher → d ≡ heldOf g (d .last)
+held-is d g s m = λ i. record { sight = s i; matcher = m i; last = d .last }
+
+-- a fix does to what is held what it does to the follower
+pub record Follows (d : Held) (g : Follower) : Type 0 where
+  pub sight : d .sight ≡ g .sight
+  pub matcher : d .matcher ≡ g .matcher
+
+fixed-of : (g : Follower) (last : Current) (f : Fix) → Follows (fixed (heldOf g last) f) (Followers.fixed g f)
+unfolding Followers.fixed
+fixed-of g last f = by (Fixes.isSamePlace (g .sight .fix) f) _ _ _ _ (record { sight = refl; matcher = refl }) (record { sight = refl; matcher = refl })
+  where
+    by : (t : Bool) (a b : Held) (u v : Follower) → Follows a u → Follows b v → Follows (cond t a b) (cond t u v)
+    by true a b u v p q = p
+    by false a b u v p q = q
+
+fixed-follows : (d : Held) (g : Follower) (f : Fix) → d .sight ≡ g .sight → d .matcher ≡ g .matcher → Follows (fixed d f) (Followers.fixed g f)
+fixed-follows d g f s m = subst (λ (x : Held). Follows (fixed x f) (Followers.fixed g f)) (sym (held-is d g s m)) (fixed-of g (d .last) f)
+
+lost-follows : (d : Held) (g : Follower) → d .sight ≡ g .sight → Follows (lostHeld d) (Followers.lost g)
+unfolding Followers.lost
+lost-follows d g s = record { sight = ap Fixes.lost s; matcher = refl }
+
+-- what a fix or a loss leaves: refused, or taken by the engine and by the direct one
+received-linked : (d : Direct) (e : Engine) (x : Waiting) (g : Follower) (t : Bool) → Linked d e → Follows (acted x (applied (d .waiting) (d .held))) g
+    → let n : Engine = cond t e (record { shared = e .shared; follower = g }) in Linked (settled (isFetching n) (cond t d (queued d x))) n
+received-linked d e x g true l f = settles d e (l .sight) (l .matcher)
+received-linked d e x g false l f =
+    settles (queued d x) (record { shared = e .shared; follower = g })
+    (ap (λ (y : Held). y .sight) (applied-more (d .waiting) x (d .held)) ∙ f .sight)
+    (ap (λ (y : Held). y .matcher) (applied-more (d .waiting) x (d .held)) ∙ f .matcher)
+
+-- ---- a step that works at nothing
+
+abbrev isNone : Task → Bool
+isNone none = true
+isNone (offMap f) = false
+isNone (match f) = false
+isNone (road f found) = false
+
+none-shows : (x : Task) (e : Engine) (arena : List ℕ) (m : Engine) → isNone x ≡ true → taskShown x e arena m ≡ nothing
+none-shows none e arena m q = refl
+none-shows (offMap f) e arena m q = absurd (true≢false (sym q))
+none-shows (match f) e arena m q = absurd (true≢false (sym q))
+none-shows (road f found) e arena m q = absurd (true≢false (sym q))
+
+none-keeps : {e : Engine} {arena : List ℕ} {x : Task} {s : Stepped} → Steps e arena x s → isNone x ≡ true → Same (e .follower) (s .engine .follower)
+unfolding arrived
+none-keeps {e} Ways.repeats q = same-self (e .follower)
+none-keeps {e} Ways.fails q = same-self (e .follower)
+none-keeps {e} (Ways.opens p offset len o f r) q = same-self (e .follower)
+none-keeps {e} (Ways.spoils key i r s p) q = same-self (e .follower)
+none-keeps (Ways.arrives key n r s f) q = record { sight = refl; matcher = refl; horizon = refl }
+none-keeps (Ways.rests f a s) q = s
+none-keeps (Ways.leaves f w o) q = absurd (true≢false (sym q))
+none-keeps (Ways.matches f w) q = absurd (true≢false (sym q))
+none-keeps (Ways.follows f key found w k c) q = absurd (true≢false (sym q))
+
+-- one that works at something has no fetch open, in phase Ready
+pub record Busy (e : Engine) : Type 0 where
+  pub idle : isFetching e ≡ false
+  pub ready : e .shared .phase ≡ Phase.Ready
+
+busy : (e : Engine) → isNone (taskOf e) ≡ false → Busy e
+unfolding taskOf
+busy e = by (e .shared .cache .pending) (e .shared .phase) refl refl
+  where
+    by : (p : Pending) (x : Phase) → e .shared .cache .pending ≡ p → e .shared .phase ≡ x → isNone (openTask p e) ≡ false → Busy e
+    by Pending.Nothing Phase.Ready q r o = record { idle = rw q; ready = r }
+    by Pending.Nothing Phase.Unread q r o = absurd (true≢false (rw r at o))
+    by Pending.Nothing Phase.Failed q r o = absurd (true≢false (rw r at o))
+    by Pending.Header x q r o = absurd (true≢false o)
+    by (Pending.Entry key) x q r o = absurd (true≢false o)
+    by Pending.Chunk x q r o = absurd (true≢false o)
+
+-- what works at something asks for nothing
+either-answer : (t : Bool) (x y : Stepped) → isFetch (x .answer) ≡ false → isFetch (y .answer) ≡ false → isFetch (cond t x y .answer) ≡ false
+either-answer true x y p q = p
+either-answer false x y p q = q
+
+match-answers : (x : MatchOutcome.Outcome) (e : Engine) (f : Follower) (p : Fix) (u : Updated) → isFetch (matchEndedBy x e f p u .answer) ≡ false
+match-answers (Match.Found m) e f p u = refl
+match-answers Match.Nothing e f p u = refl
+match-answers (Match.Need key) e f p u = by (mayAsk (f .due) (u .cache .pages .count))
+  where
+    by : (t : Bool) → isFetch (cond t Status.Working Status.Idle) ≡ false
+    by true = refl
+    by false = refl
+match-answers (Match.Refused number) e f p u = refl
+
+road-answers : (x : RoadOutcome.Outcome) (e : Engine) (f : Follower) (p : Fix) (found : Matched) (r : Predict.After) → isFetch (roadEndedBy x e f p found r .answer) ≡ false
+road-answers (Roads.Road y) e f p found r = refl
+road-answers (Roads.Need key) e f p found r = refl
+road-answers Roads.Rematch e f p found r = refl
+road-answers (Roads.Refused number) e f p found r = either-answer (eqb number 10) _ _ refl refl
+
+work-answers : {e : Engine} {arena : List ℕ} {x : Task} {s : Stepped} → Steps e arena x s → isNone x ≡ false → isFetch (s .answer) ≡ false
+work-answers Ways.repeats q = absurd (true≢false q)
+work-answers Ways.fails q = absurd (true≢false q)
+work-answers (Ways.opens p offset len o f r) q = absurd (true≢false q)
+work-answers (Ways.spoils key i r s p) q = absurd (true≢false q)
+work-answers (Ways.arrives key n r s f) q = absurd (true≢false q)
+work-answers (Ways.rests f a s) q = absurd (true≢false q)
+work-answers (Ways.leaves f w o) q = refl
+work-answers {e} {arena} (Ways.matches f w) q = match-answers (matchOf e arena f .answer) e (counted (e .follower)) f (matchOf e arena f)
+work-answers {e} {arena} (Ways.follows f key found w k c) q =
+    road-answers (roadAt e arena found .predicted .answer) e (counted (e .follower)) f found (roadAt e arena found)
+
+-- so a step that asks for something shows nothing
+pub record Silent (e : Engine) (arena : List ℕ) : Type 0 where
+  pub shows : stepShown e arena ≡ nothing
+  pub keeps : Same (e .follower) (Engines.step e arena .engine .follower)
+
+fetch-silent : (e : Engine) (arena : List ℕ) {offset len : ℕ} → Engines.step e arena .answer ≡ Status.Fetch offset len → Silent e arena
+unfolding stepShown Engines.step
+fetch-silent e arena {offset} {len} q = record { shows = shows (engineOk e (length arena)) q; keeps = keeps (engineOk e (length arena)) q }
+  where
+    left : Bool → Stepped
+    left t = cond t (stepped e arena) (refused e 12)
+
+    asks-none : stepped e arena .answer ≡ Status.Fetch offset len → isNone (taskOf e) ≡ true
+    asks-none a = by (isNone (taskOf e)) refl
+      where
+        by : (t : Bool) → isNone (taskOf e) ≡ t → isNone (taskOf e) ≡ true
+        by true r = r
+        by false r = absurd (true≢false (sym (ap isFetch a) ∙ work-answers (step-is e arena) r))
+
+    shows : (t : Bool) → left t .answer ≡ Status.Fetch offset len → cond t (taskShown (taskOf e) e arena (left t .engine)) nothing ≡ nothing
+    shows true a = none-shows (taskOf e) e arena (stepped e arena .engine) (asks-none a)
+    shows false a = refl
+
+    keeps : (t : Bool) → left t .answer ≡ Status.Fetch offset len → Same (e .follower) (left t .engine .follower)
+    keeps true a = none-keeps (step-is e arena) (asks-none a)
+    keeps false a = same-self (e .follower)
+
+-- ---- a call, and the direct engine's turn
+
+module _ (at : Lookup) (n : ℕ) (horizon : Float) (P : List ℕ) (w : World) (d : Direct) (l : Linked d (w .engine)) where
+  abbrev e₁ : Engine
+  e₁ = w .engine
+
+  pub record Alike (c : Call) : Type 0 where
+    pub shown : directExec at (madeOf n horizon) P c (toldOf w c) d .shown ≡ shown w c
+    pub linked : Linked (directExec at (madeOf n horizon) P c (toldOf w c) d .direct) (exec c w .world .engine)
+
+  fix-alike : (f : Fix) → Alike (Calls.fix f)
+  unfolding directExec exec shown Engines.fix
+  fix-alike f = record { shown = refl; linked = linked (engineOk e₁ (length (w .arena))) (isPoint (f .lat) (f .lon)) }
+    where
+      left : Bool → Bool → Changed
+      left s t = cond s (cond t (followed e₁ (Followers.fixed (e₁ .follower) f)) (unchanged e₁ 8)) (unchanged e₁ 12)
+
+      follows : Follows (acted (aFix f) (applied (d .waiting) (d .held))) (Followers.fixed (e₁ .follower) f)
+      follows = fixed-follows (applied (d .waiting) (d .held)) (e₁ .follower) f (l .sight) (l .matcher)
+
+      linked : (s t : Bool)
+          → Linked (settled (isFetching (left s t .engine)) (cond (not (eqb (ofTaken (left s t .answer)) 0)) d (queued d (aFix f)))) (left s t .engine)
+      linked true true = received-linked d e₁ (aFix f) (Followers.fixed (e₁ .follower) f) false l follows
+      linked true false = settles d e₁ (l .sight) (l .matcher)
+      linked false t = settles d e₁ (l .sight) (l .matcher)
+
+  lost-alike : Alike Calls.lost
+  unfolding directExec exec shown Engines.lost
+  lost-alike = record { shown = refl; linked = linked (engineOk e₁ (length (w .arena))) }
+    where
+      left : Bool → Changed
+      left t = cond t (followed e₁ (Followers.lost (e₁ .follower))) (unchanged e₁ 12)
+
+      linked : (t : Bool) → Linked (settled (isFetching (left t .engine)) (cond (not (eqb (ofTaken (left t .answer)) 0)) d (queued d aLoss))) (left t .engine)
+      linked true = received-linked d e₁ aLoss (Followers.lost (e₁ .follower)) false l (lost-follows (applied (d .waiting) (d .held)) (e₁ .follower) (l .sight))
+      linked false = settles d e₁ (l .sight) (l .matcher)
+
+  reset-alike : (Q : List ℕ) → Alike (Calls.reset Q)
+  unfolding directExec exec shown Engines.reset forgotten Followers.reset applied
+  reset-alike Q = record { shown = refl; linked = linked (engineOk e₁ (length (w .arena))) }
+    where
+      left : Bool → Changed
+      left t = cond t (forgotten e₁) (unchanged e₁ 12)
+
+      told : Bool → Told
+      told t = record { refused = not (eqb (ofTaken (left t .answer)) 0); fetching = isFetching (left t .engine); match = false; road = false }
+
+      linked : (t : Bool) → Linked (cleared (told t) d .direct) (left t .engine)
+      linked true = record { sight = l .sight; matcher = refl; none = λ r. refl }
+      linked false = settles d e₁ (l .sight) (l .matcher)
+
+  -- a call that shows nothing, and leaves what is seen and matched
+  quiet : (m : Engine) → Same (e₁ .follower) (m .follower) → Linked (settled (isFetching m) d) m
+  quiet m s = settles d m (l .sight ∙ sym (s .sight)) (l .matcher ∙ sym (s .matcher))
+
+  -- ---- a step
+
+  -- a turn at a step that shows s and leaves the engine m
+  record Stepped₁ (s : Shown) (m : Engine) : Type 0 where
+    shown : (refused : Bool) → turned (toldBy refused (isFetching m) s) d (stepWorked at (madeOf n horizon) P (toldBy refused (isFetching m) s) (d .held)) .shown ≡ s
+    linked : (refused : Bool)
+        → Linked (turned (toldBy refused (isFetching m) s) d (stepWorked at (madeOf n horizon) P (toldBy refused (isFetching m) s) (d .held)) .direct) m
+
+  nothing-turn : (m : Engine) → Same (e₁ .follower) (m .follower) → Stepped₁ nothing m
+  nothing-turn m s = record {
+    shown = λ refused. ap (λ (x : Worked). x .shown) (idle-worked at n horizon P (toldBy refused (isFetching m) nothing) (d .held) refl refl);
+    linked = λ refused. subst (λ (x : Worked). Linked (turned (toldBy refused (isFetching m) nothing) d x .direct) m)
+        (sym (idle-worked at n horizon P (toldBy refused (isFetching m) nothing) (d .held) refl refl)) (quiet m s);
+  }
+
+  quiet-turn : (s : Shown) (m : Engine) → s ≡ nothing → Same (e₁ .follower) (m .follower) → Stepped₁ s m
+  quiet-turn s m q f = subst (λ (x : Shown). Stepped₁ x m) (sym q) (nothing-turn m f)
+
+  module _ (fit : Fit P n horizon w) (answers : Answers n at) where
+    -- where it works at something, nothing waits
+    module _ (b : Busy e₁) where
+      waits-none : d .waiting ≡ []
+      waits-none = l .none (b .idle)
+
+      sight-is : d .held .sight ≡ e₁ .follower .sight
+      unfolding applied
+      sight-is = sym (ap (λ (xs : List Waiting). applied xs (d .held) .sight) waits-none) ∙ l .sight
+
+      matcher-is : d .held .matcher ≡ e₁ .follower .matcher
+      unfolding applied
+      matcher-is = sym (ap (λ (xs : List Waiting). applied xs (d .held) .matcher) waits-none) ∙ l .matcher
+
+      parsed : Parsed P (e₁ .shared .header)
+      parsed = rw (b .ready) at (fit .header)
+
+      busy-turn : (x : Task) (s : Stepped) → Steps e₁ (w .arena) x s → Beside e₁ (s .engine) → Stepped₁ (taskShown x e₁ (w .arena) (s .engine)) (s .engine)
+      unfolding applied
+      busy-turn x s goes beside = record {
+        shown = λ refused. subst (λ (y : Held). stepWorked at (madeOf n horizon) P (told refused) y .shown ≡ taskShown x e₁ (w .arena) (s .engine)) here (agrees refused .shown);
+        linked = λ refused. settles _ (s .engine) (after-sight refused) (after-matcher refused);
+      }
+        where
+          told : Bool → Told
+          told refused = toldBy refused (isFetching (s .engine)) (taskShown x e₁ (w .arena) (s .engine))
+
+          agrees : (refused : Bool) → Agrees at n horizon P e₁ (w .arena) (sym (parsed .header)) (fit .reach) (fit .cache .count)
+              (look-agrees P n (e₁ .shared .cache) (w .arena) (e₁ .shared .header) parsed (fit .cache) at answers) (d .held .last) refused (isFetching (s .engine))
+              (taskShown x e₁ (w .arena) (s .engine)) (s .engine .follower .matcher)
+          agrees refused =
+              steps-agree at n horizon P e₁ (w .arena) (sym (parsed .header)) (fit .reach) (fit .cache .count)
+              (look-agrees P n (e₁ .shared .cache) (w .arena) (e₁ .shared .header) parsed (fit .cache) at answers) (d .held .last) refused (isFetching (s .engine)) goes
+
+          here : heldOf (e₁ .follower) (d .held .last) ≡ d .held
+          here = sym (held-is (d .held) (e₁ .follower) sight-is matcher-is)
+
+          next : Bool → Held → Held
+          next refused y = stepWorked at (madeOf n horizon) P (told refused) y .held
+
+          after-sight : (refused : Bool) → applied (d .waiting) (next refused (d .held)) .sight ≡ s .engine .follower .sight
+          after-sight refused =
+              ap (λ (xs : List Waiting). applied xs (next refused (d .held)) .sight) waits-none
+              ∙ subst (λ (y : Held). next refused y .sight ≡ e₁ .follower .sight) here (agrees refused .sight) ∙ sym (beside .sight)
+
+          after-matcher : (refused : Bool) → applied (d .waiting) (next refused (d .held)) .matcher ≡ s .engine .follower .matcher
+          after-matcher refused =
+              ap (λ (xs : List Waiting). applied xs (next refused (d .held)) .matcher) waits-none
+              ∙ subst (λ (y : Held). next refused y .matcher ≡ s .engine .follower .matcher) here (agrees refused .matcher)
+
+    step-turn : Stepped₁ (stepShown e₁ (w .arena)) (Engines.step e₁ (w .arena) .engine)
+    unfolding stepShown Engines.step
+    step-turn = by (engineOk e₁ (length (w .arena)))
+      where
+        left : Bool → Stepped
+        left t = cond t (stepped e₁ (w .arena)) (refused e₁ 12)
+
+        works : (t : Bool) → isNone (taskOf e₁) ≡ t → Stepped₁ (taskShown (taskOf e₁) e₁ (w .arena) (stepped e₁ (w .arena) .engine)) (stepped e₁ (w .arena) .engine)
+        works true q =
+            quiet-turn _ (stepped e₁ (w .arena) .engine) (none-shows (taskOf e₁) e₁ (w .arena) _ q) (none-keeps (step-is e₁ (w .arena)) q)
+        works false q = busy-turn (busy e₁ q) (taskOf e₁) (stepped e₁ (w .arena)) (step-is e₁ (w .arena)) (steps-beside e₁ (step-is e₁ (w .arena)))
+
+        by : (t : Bool) → Stepped₁ (cond t (taskShown (taskOf e₁) e₁ (w .arena) (left t .engine)) nothing) (left t .engine)
+        by true = works (isNone (taskOf e₁)) refl
+        by false = nothing-turn e₁ (same-self (e₁ .follower))
+
+    lent-turn : (Q : List ℕ) {r : After} → Lends e₁ (w .arena) Q r → Stepped₁ (stepShown e₁ (w .arena)) (r .engine)
+    lent-turn Q (Ways.plain t) = step-turn
+    lent-turn Q (Ways.asks offset len failure bs a fair) =
+        let silent : Silent e₁ (w .arena) = fetch-silent e₁ (w .arena) a in
+        let after = deliver-left (Engines.step e₁ (w .arena) .engine) failure bs (w .arena) .follower in
+        quiet-turn _ _ (silent .shows) (same-then (silent .keeps) after)
+
+    step-alike : Alike Calls.step
+    unfolding directExec worked exec shown
+    step-alike = let t = step-turn in record { shown = t .shown _; linked = t .linked _ }
+
+    lent-alike : (Q : List ℕ) → Alike (Calls.stepFrom Q)
+    unfolding directExec worked exec shown
+    lent-alike Q = let t = lent-turn Q (lends-is e₁ (w .arena) Q) in record { shown = t .shown _; linked = t .linked _ }
+
+    -- ---- direct calls
+
+    update-shows : (m : Matcher) (h : Header) (p : Point) (heading : Heading) → Parsed P h
+        → let u : Updated = Matching.update m (e₁ .shared .cache) (w .arena) h p heading in
+        cond (isMatch (updateShown (u .answer) (u .matcher))) (updateWorked at (madeOf n horizon) P m h p heading) nothing ≡ updateShown (u .answer) (u .matcher)
+    unfolding Matching.update Gather.updated updateWorked
+    update-shows m h p heading parsed =
+        by (callOk m (e₁ .shared .cache) h (length (w .arena))) (isPoint (p .lat) (p .lon) && headingOk heading)
+      where
+        v : Gather.Matching
+        v = Gather.updateOver (look (e₁ .shared .cache) (w .arena) (h .tile)) m h p heading
+
+        same : MatchRelied.isFinished (v .answer) ≡ true → Gather.updateOver (at P) m h p heading ≡ v
+        same fin = update-agrees (look (e₁ .shared .cache) (w .arena) (h .tile)) (at P) (look-agrees P n (e₁ .shared .cache) (w .arena) h parsed (fit .cache) at answers) m h p heading fin
+
+        shows : (x : MatchOutcome.Outcome) → v .answer ≡ x
+            → cond (isMatch (updateShown x (v .matcher))) (updateWorked at (madeOf n horizon) P m h p heading) nothing ≡ updateShown x (v .matcher)
+        shows (Match.Found y) q = rw (same (rw q), q)
+        shows Match.Nothing q = rw (same (rw q), q)
+        shows (Match.Need key) q = refl
+        shows (Match.Refused k) q = refl
+
+        left : Bool → Bool → Updated
+        left s t = cond s (cond t (Gather.updated m (e₁ .shared .cache) (w .arena) h p heading) (Matchers.refused m (e₁ .shared .cache) 8)) (Matchers.refused m (e₁ .shared .cache) 12)
+
+        by : (s t : Bool) → cond (isMatch (updateShown (left s t .answer) (left s t .matcher))) (updateWorked at (madeOf n horizon) P m h p heading) nothing ≡ updateShown (left s t .answer) (left s t .matcher)
+        by true true = shows (v .answer) refl
+        by true false = refl
+        by false t = refl
+
+    predict-shows : (h : Header) (m : Matched) (reach : Float) (samples behind : List ℤ) → Parsed P h
+        → let x : Predict.After = Predict.predict (e₁ .shared .cache) (w .arena) h m reach samples behind in
+        let s : Shown = predictShown (x .predicted .answer) (x .samples) (x .behind) in
+        cond (isRoad s) (predictWorked at (madeOf n horizon) P h m reach samples behind) nothing ≡ s
+    unfolding Predict.predict Predict.predictedIn predictWorked
+    predict-shows h m reach samples behind parsed = by (cacheOk (e₁ .shared .cache) h (length (w .arena))) (inGrid h (m .tile .key))
+      where
+        v : Predict.Forecast (List TileKey)
+        v = Predict.predictOver (look (e₁ .shared .cache) (w .arena) (h .tile)) (e₁ .shared .cache .pages .count) h m reach samples behind
+
+        same : RoadRelied.isFinished (v .answer) ≡ true → Predict.predictOver (at P) n h m reach samples behind ≡ v
+        same fin =
+            ap (λ (k : ℕ). Predict.predictOver (at P) k h m reach samples behind) (sym (fit .cache .count))
+            ∙ predict-agrees (look (e₁ .shared .cache) (w .arena) (h .tile)) (at P)
+            (look-agrees P n (e₁ .shared .cache) (w .arena) h parsed (fit .cache) at answers) (e₁ .shared .cache .pages .count) h m reach samples behind fin
+
+        Shows₁ : RoadOutcome.Outcome → Type 0
+        Shows₁ x =
+            cond (isRoad (predictShown x (v .samples) (v .behind))) (predictWorked at (madeOf n horizon) P h m reach samples behind) nothing
+            ≡ predictShown x (v .samples) (v .behind)
+
+        refused-shows : (k : ℕ) (t : Bool) → eqb k 10 ≡ t → v .answer ≡ Roads.Refused k → Shows₁ (Roads.Refused k)
+        refused-shows k true q a = let ten : k ≡ 10 = eqb-true k 10 q in rw (q, same (rw (a, ten)), a, q)
+        refused-shows k false q a = rw q
+
+        shows : (x : RoadOutcome.Outcome) → v .answer ≡ x → Shows₁ x
+        shows (Roads.Road y) q = rw (same (rw q), q)
+        shows (Roads.Need key) q = refl
+        shows Roads.Rematch q = rw (same (rw q), q)
+        shows (Roads.Refused k) q = refused-shows k (eqb k 10) refl q
+
+        left : Bool → Bool → Predict.After
+        left s t =
+            cond s
+            (cond t (Predict.predictedIn (e₁ .shared .cache) (w .arena) h m reach samples behind) (Predict.untouched (Predict.refused (e₁ .shared .cache) 9) samples behind))
+            (Predict.untouched (Predict.refused (e₁ .shared .cache) 12) samples behind)
+
+        by : (s t : Bool)
+            → cond (isRoad (predictShown (left s t .predicted .answer) (left s t .samples) (left s t .behind))) (predictWorked at (madeOf n horizon) P h m reach samples behind) nothing
+            ≡ predictShown (left s t .predicted .answer) (left s t .samples) (left s t .behind)
+        by true true = shows (v .answer) refl
+        by true false = refl
+        by false t = refl
+
+    -- ---- a call
+
+    pub turn-alike : (c : Call) → Fair P w c → Alike c
+    unfolding directExec worked exec shown
+    turn-alike (Calls.fix f) fair = fix-alike f
+    turn-alike Calls.lost fair = lost-alike
+    turn-alike (Calls.reset Q) fair = reset-alike Q
+    turn-alike Calls.step fair = step-alike
+    turn-alike (Calls.deliver failure bs) fair =
+        record { shown = refl; linked = quiet _ (deliver-left e₁ failure bs (w .arena) .follower) }
+    turn-alike (Calls.stepFrom Q) fair = lent-alike Q
+    turn-alike (Calls.read r) fair = record { shown = refl; linked = quiet e₁ (same-self (e₁ .follower)) }
+    turn-alike (Calls.onCache c) fair = record { shown = refl; linked = quiet _ (same-self (e₁ .follower)) }
+    turn-alike (Calls.nearby h p) fair = record { shown = refl; linked = quiet e₁ (same-self (e₁ .follower)) }
+    turn-alike (Calls.current m) fair = record { shown = refl; linked = quiet e₁ (same-self (e₁ .follower)) }
+    turn-alike (Calls.update m h p heading) fair =
+        record { shown = update-shows m h p heading fair; linked = quiet _ (same-self (e₁ .follower)) }
+    turn-alike (Calls.predict h m reach samples behind) fair =
+        record { shown = predict-shows h m reach samples behind fair; linked = quiet _ (same-self (e₁ .follower)) }

@@ -1,0 +1,229 @@
+-- What a call finishes: document 01, "A match (or finding none) or a road is finished where working it out ends other than by 5, 12 or the
+-- empty Memory answer at the reload limit", and DESIGN 6: so is an empty road that a step publishes because nothing was found or because the fix
+-- is off the map. "Compared are how it ended and, as that call leaves them, all its fields but `loads`, generation and heights past its length":
+-- `Shown` has just those, read off what the call leaves. Assumes nothing.
+use Prim.Native.Nat.{ℕ}
+use mathlib.Core.Bool.{Bool, true, false, cond}
+use mathlib.Core.List.{List, [], _∷_}
+use lib.Dec.{eqb}
+use lib.Ieee.{Float}
+use lib.IntN.{ℤ, pos}
+use lib.ListN.{length, take, replicate}
+use Rattle.pack.specs.Grid.{keyOf}
+use Rattle.pack.specs.declared.Keyed.{Keyed}
+use Rattle.pack.specs.declared.Keyed.the-variants as Keyed
+use Rattle.pages.specs.declared.MaybeKey.{MaybeKey}
+use Rattle.pages.specs.declared.MaybeKey.the-variants as MaybeKey
+use Rattle.cache.specs.declared.Pending.{Pending}
+use Rattle.cache.specs.declared.Pending.the-variants as Pending
+use Rattle.candidates.specs.declared.Current.{Current}
+use Rattle.candidates.specs.declared.Current.the-variants as Current
+use Rattle.candidates.specs.declared.Matched.{Matched}
+use Rattle.matcher.specs.Calls as Matching
+use Rattle.matcher.specs.Gather as Gather
+use Rattle.matcher.specs.declared.Matcher.{Matcher}
+use Rattle.matcher.specs.declared.Outcome as MatchOutcome
+use Rattle.matcher.specs.declared.Outcome.the-variants as Match
+use Rattle.matcher.specs.declared.Updated.{Updated}
+use Rattle.junction.specs.declared.End.{End}
+use Rattle.predict.specs.Predict as Predict
+use Rattle.predict.specs.declared.Outcome as RoadOutcome
+use Rattle.predict.specs.declared.Outcome.the-variants as Roads
+use Rattle.follower.specs.Fixes.{placeOf}
+use Rattle.follower.specs.State.{isMatched}
+use Rattle.follower.specs.declared.Ahead.{Ahead}
+use Rattle.follower.specs.declared.Fix.{Fix}
+use Rattle.follower.specs.declared.Follower.{Follower}
+use Rattle.follower.specs.declared.MaybeFix.{MaybeFix}
+use Rattle.follower.specs.declared.MaybeFix.the-variants as MaybeFix
+use Rattle.engine.specs.State.{engineOk}
+use Rattle.engine.specs.Calls as Engines
+use Rattle.engine.specs.declared.Engine.{Engine}
+use Rattle.engine.specs.declared.Phase.{Phase}
+use Rattle.engine.specs.declared.Phase.the-variants as Phase
+use Rattle.direct.specs.Lists.{World, Call, fix, lost, reset, step, deliver, stepFrom, read, onCache, nearby, current, update, predict}
+
+-- ---- what is compared
+
+-- of a published road; heights below its lengths
+pub record Road : Type 0 where
+  pub «at_ms» : ℕ
+  pub matched : Current
+  pub «start_z_dm» : ℤ
+  pub len : ℕ
+  pub samples : List ℤ
+  pub «behind_len» : ℕ
+  pub behind : List ℤ
+  pub «behind_m» : Float
+  pub end : End
+  pub «end_m» : Float
+  pub confidence : ℕ
+
+abbrev pub roadOf : Ahead → Road
+roadOf a = record {
+  «at_ms» = a .«at_ms»;
+  matched = a .matched;
+  «start_z_dm» = a .«start_z_dm»;
+  len = a .len;
+  samples = take (a .len) (a .samples);
+  «behind_len» = a .«behind_len»;
+  behind = take (a .«behind_len») (a .behind);
+  «behind_m» = a .«behind_m»;
+  end = a .end;
+  «end_m» = a .«end_m»;
+  confidence = a .confidence;
+}
+
+pub data Shown : Type 0 where
+  nothing : Shown
+  -- a match, by a step: the matcher that it leaves, whose current match, or none, is how it ended
+  matched : Matcher → Shown
+  -- none was found, and the road that was published is emptied
+  unmatched : Matcher → Road → Shown
+  -- a road that a step publishes
+  published : Road → Shown
+  -- a road that ended by 6 or 10 inside a step, and the matcher that it leaves
+  again : ℕ → Matcher → Shown
+  -- off the map: the road that was published is emptied and the matcher cleared
+  emptied : Matcher → Road → Shown
+  -- by a direct call: how a match ended, and the matcher given back; how a road ended, with its heights ahead and behind
+  updated : MatchOutcome.Outcome → Matcher → Shown
+  predicted : RoadOutcome.Outcome → List ℤ → List ℤ → Shown
+  -- of the direct engine alone: a lookup without an answer
+  unanswered : Shown
+
+-- ---- a step
+
+-- what a step works at where it needs no read: `engine.rs`, `step`, in its order
+pub data Task : Type 0 where
+  none : Task
+  offMap : Fix → Task
+  match : Fix → Task
+  road : Fix → Matched → Task
+
+abbrev pub roadTask : Current → Fix → Task
+roadTask Current.Nothing f = none
+roadTask (Current.Is found) f = road f found
+
+abbrev pub dueTask : Follower → Fix → Task
+dueTask w f = cond (w .due .matching) (match f) (cond (w .due .road) (roadTask (w .matcher .current) f) none)
+
+abbrev pub gridTask : Keyed → Follower → Fix → Task
+gridTask (Keyed.In key) w f = dueTask w f
+gridTask Keyed.Outside w f = offMap f
+gridTask (Keyed.Refused number) w f = offMap f
+
+abbrev pub fixTask : MaybeFix → Engine → Task
+fixTask MaybeFix.Nothing e = none
+fixTask (MaybeFix.Is f) e = gridTask (keyOf (e .shared .header) (f .lat) (f .lon)) (e .follower) f
+
+abbrev pub needTask : MaybeKey → Engine → Task
+needTask MaybeKey.Nothing e = fixTask (e .follower .sight .fix) e
+needTask (MaybeKey.Key key) e = none
+
+abbrev pub phaseTask : Phase → Engine → Task
+phaseTask Phase.Unread e = none
+phaseTask Phase.Failed e = none
+phaseTask Phase.Ready e = needTask (e .follower .due .need) e
+
+abbrev pub openTask : Pending → Engine → Task
+openTask Pending.Nothing e = phaseTask (e .shared .phase) e
+openTask Pending.Header e = none
+openTask (Pending.Entry key) e = none
+openTask Pending.Chunk e = none
+
+unfoldable pub taskOf : Engine → Task
+taskOf e = openTask (e .shared .cache .pending) e
+
+-- the match that a step makes, and the road that it works out
+abbrev pub matchOf : Engine → List ℕ → Fix → Updated
+matchOf e arena f = Gather.updated (e .follower .matcher) (e .shared .cache) arena (e .shared .header) (placeOf f) (e .follower .sight .heading)
+
+abbrev pub roadAt : Engine → List ℕ → Matched → Predict.After
+roadAt e arena found =
+    Predict.predictedIn (e .shared .cache) arena (e .shared .header) found (e .follower .«horizon_m») (replicate 501 (pos 0)) (replicate 11 (pos 0))
+
+-- of the engine e, which the step leaves as n
+abbrev pub matchShown : MatchOutcome.Outcome → Engine → Engine → Shown
+matchShown (Match.Found m) e n = matched (n .follower .matcher)
+matchShown Match.Nothing e n =
+    cond (isMatched (e .follower .ahead .matched)) (unmatched (n .follower .matcher) (roadOf (n .follower .ahead))) (matched (n .follower .matcher))
+matchShown (Match.Need key) e n = nothing
+matchShown (Match.Refused number) e n = nothing
+
+-- Need is 5; past the reload limit it is the empty Memory answer
+abbrev pub roadShown : RoadOutcome.Outcome → Engine → Shown
+roadShown (Roads.Road p) n = published (roadOf (n .follower .ahead))
+roadShown (Roads.Need key) n = nothing
+roadShown Roads.Rematch n = again 6 (n .follower .matcher)
+roadShown (Roads.Refused number) n = cond (eqb number 10) (again 10 (n .follower .matcher)) nothing
+
+abbrev pub offMapShown : Engine → Engine → Shown
+offMapShown e n = cond (isMatched (e .follower .ahead .matched)) (emptied (n .follower .matcher) (roadOf (n .follower .ahead))) nothing
+
+abbrev pub taskShown : Task → Engine → List ℕ → Engine → Shown
+taskShown none e arena n = nothing
+taskShown (offMap f) e arena n = offMapShown e n
+taskShown (match f) e arena n = matchShown (matchOf e arena f .answer) e n
+taskShown (road f found) e arena n = roadShown (roadAt e arena found .predicted .answer) n
+
+-- a refused step finishes nothing
+unfoldable pub stepShown : Engine → List ℕ → Shown
+stepShown e arena = cond (engineOk e (length arena)) (taskShown (taskOf e) e arena (Engines.step e arena .engine)) nothing
+
+-- ---- a direct call
+
+abbrev pub updateShown : MatchOutcome.Outcome → Matcher → Shown
+updateShown (Match.Found m) next = updated (Match.Found m) next
+updateShown Match.Nothing next = updated Match.Nothing next
+updateShown (Match.Need key) next = nothing
+updateShown (Match.Refused number) next = nothing
+
+abbrev pub predictShown : RoadOutcome.Outcome → List ℤ → List ℤ → Shown
+predictShown (Roads.Road p) samples behind = predicted (Roads.Road p) (take (p .len) samples) (take (p .behind) behind)
+predictShown (Roads.Need key) samples behind = nothing
+predictShown Roads.Rematch samples behind = predicted Roads.Rematch [] []
+predictShown (Roads.Refused number) samples behind = cond (eqb number 10) (predicted (Roads.Refused 10) [] []) nothing
+
+-- ---- a call
+
+-- the delivery finishes nothing: the lent-pack form finishes what its step does
+unfoldable pub shown : World → Call → Shown
+shown w step = stepShown (w .engine) (w .arena)
+shown w (stepFrom Q) = stepShown (w .engine) (w .arena)
+shown w (update m h p heading) =
+    let u = Matching.update m (w .engine .shared .cache) (w .arena) h p heading in updateShown (u .answer) (u .matcher)
+shown w (predict h m horizon samples behind) =
+    let x = Predict.predict (w .engine .shared .cache) (w .arena) h m horizon samples behind in
+    predictShown (x .predicted .answer) (x .samples) (x .behind)
+shown w (fix f) = nothing
+shown w lost = nothing
+shown w (reset P) = nothing
+shown w (deliver failure bs) = nothing
+shown w (read r) = nothing
+shown w (onCache c) = nothing
+shown w (nearby h p) = nothing
+shown w (current m) = nothing
+
+-- whether it is a match, and whether it is a road, that was finished
+abbrev pub isMatch : Shown → Bool
+isMatch nothing = false
+isMatch (matched m) = true
+isMatch (unmatched m r) = true
+isMatch (published r) = false
+isMatch (again number m) = false
+isMatch (emptied m r) = false
+isMatch (updated a m) = true
+isMatch (predicted a samples behind) = false
+isMatch unanswered = false
+
+abbrev pub isRoad : Shown → Bool
+isRoad nothing = false
+isRoad (matched m) = false
+isRoad (unmatched m r) = true
+isRoad (published r) = true
+isRoad (again number m) = true
+isRoad (emptied m r) = true
+isRoad (updated a m) = false
+isRoad (predicted a samples behind) = true
+isRoad unanswered = false

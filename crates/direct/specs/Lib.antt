@@ -1,0 +1,5 @@
+-- Demand 3: the public calls as data; what a call finishes; the direct engine; what is claimed of every list of calls.
+pub mod Lists
+pub mod Finished
+pub mod Direct
+pub mod Claims
