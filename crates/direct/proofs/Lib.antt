@@ -8,4 +8,5 @@ pub mod Fit
 pub mod Agreed
 pub mod Seen
 pub mod Linked
+pub mod Stories
 pub mod Claim

@@ -111,10 +111,10 @@ fixed-of g last f = by (Fixes.isSamePlace (g .sight .fix) f) _ _ _ _ (record { s
     by true a b u v p q = p
     by false a b u v p q = q
 
-fixed-follows : (d : Held) (g : Follower) (f : Fix) → d .sight ≡ g .sight → d .matcher ≡ g .matcher → Follows (fixed d f) (Followers.fixed g f)
+pub fixed-follows : (d : Held) (g : Follower) (f : Fix) → d .sight ≡ g .sight → d .matcher ≡ g .matcher → Follows (fixed d f) (Followers.fixed g f)
 fixed-follows d g f s m = subst (λ (x : Held). Follows (fixed x f) (Followers.fixed g f)) (sym (held-is d g s m)) (fixed-of g (d .last) f)
 
-lost-follows : (d : Held) (g : Follower) → d .sight ≡ g .sight → Follows (lostHeld d) (Followers.lost g)
+pub lost-follows : (d : Held) (g : Follower) → d .sight ≡ g .sight → Follows (lostHeld d) (Followers.lost g)
 unfolding Followers.lost
 lost-follows d g s = record { sight = ap Fixes.lost s; matcher = refl }
 
@@ -288,20 +288,20 @@ module _ (at : Lookup) (n : ℕ) (horizon : Float) (P : List ℕ) (w : World) (d
   -- ---- a step
 
   -- a turn at a step that shows s and leaves the engine m
-  record Stepped₁ (s : Shown) (m : Engine) : Type 0 where
-    shown : (refused : Bool) → turned (toldBy refused (isFetching m) s) d (stepWorked at (madeOf n horizon) P (toldBy refused (isFetching m) s) (d .held)) .shown ≡ s
-    linked : (refused : Bool)
+  pub record StepTurn (s : Shown) (m : Engine) : Type 0 where
+    pub shown : (refused : Bool) → turned (toldBy refused (isFetching m) s) d (stepWorked at (madeOf n horizon) P (toldBy refused (isFetching m) s) (d .held)) .shown ≡ s
+    pub linked : (refused : Bool)
         → Linked (turned (toldBy refused (isFetching m) s) d (stepWorked at (madeOf n horizon) P (toldBy refused (isFetching m) s) (d .held)) .direct) m
 
-  nothing-turn : (m : Engine) → Same (e₁ .follower) (m .follower) → Stepped₁ nothing m
+  nothing-turn : (m : Engine) → Same (e₁ .follower) (m .follower) → StepTurn nothing m
   nothing-turn m s = record {
     shown = λ refused. ap (λ (x : Worked). x .shown) (idle-worked at n horizon P (toldBy refused (isFetching m) nothing) (d .held) refl refl);
     linked = λ refused. subst (λ (x : Worked). Linked (turned (toldBy refused (isFetching m) nothing) d x .direct) m)
         (sym (idle-worked at n horizon P (toldBy refused (isFetching m) nothing) (d .held) refl refl)) (quiet m s);
   }
 
-  quiet-turn : (s : Shown) (m : Engine) → s ≡ nothing → Same (e₁ .follower) (m .follower) → Stepped₁ s m
-  quiet-turn s m q f = subst (λ (x : Shown). Stepped₁ x m) (sym q) (nothing-turn m f)
+  quiet-turn : (s : Shown) (m : Engine) → s ≡ nothing → Same (e₁ .follower) (m .follower) → StepTurn s m
+  quiet-turn s m q f = subst (λ (x : Shown). StepTurn x m) (sym q) (nothing-turn m f)
 
   module _ (fit : Fit P n horizon w) (answers : Answers n at) where
     -- where it works at something, nothing waits
@@ -320,7 +320,7 @@ module _ (at : Lookup) (n : ℕ) (horizon : Float) (P : List ℕ) (w : World) (d
       parsed : Parsed P (e₁ .shared .header)
       parsed = rw (b .ready) at (fit .header)
 
-      busy-turn : (x : Task) (s : Stepped) → Steps e₁ (w .arena) x s → Beside e₁ (s .engine) → Stepped₁ (taskShown x e₁ (w .arena) (s .engine)) (s .engine)
+      busy-turn : (x : Task) (s : Stepped) → Steps e₁ (w .arena) x s → Beside e₁ (s .engine) → StepTurn (taskShown x e₁ (w .arena) (s .engine)) (s .engine)
       unfolding applied
       busy-turn x s goes beside = record {
         shown = λ refused. subst (λ (y : Held). stepWorked at (madeOf n horizon) P (told refused) y .shown ≡ taskShown x e₁ (w .arena) (s .engine)) here (agrees refused .shown);
@@ -353,23 +353,23 @@ module _ (at : Lookup) (n : ℕ) (horizon : Float) (P : List ℕ) (w : World) (d
               ap (λ (xs : List Waiting). applied xs (next refused (d .held)) .matcher) waits-none
               ∙ subst (λ (y : Held). next refused y .matcher ≡ s .engine .follower .matcher) here (agrees refused .matcher)
 
-    step-turn : Stepped₁ (stepShown e₁ (w .arena)) (Engines.step e₁ (w .arena) .engine)
+    pub step-turn : StepTurn (stepShown e₁ (w .arena)) (Engines.step e₁ (w .arena) .engine)
     unfolding stepShown Engines.step
     step-turn = by (engineOk e₁ (length (w .arena)))
       where
         left : Bool → Stepped
         left t = cond t (stepped e₁ (w .arena)) (refused e₁ 12)
 
-        works : (t : Bool) → isNone (taskOf e₁) ≡ t → Stepped₁ (taskShown (taskOf e₁) e₁ (w .arena) (stepped e₁ (w .arena) .engine)) (stepped e₁ (w .arena) .engine)
+        works : (t : Bool) → isNone (taskOf e₁) ≡ t → StepTurn (taskShown (taskOf e₁) e₁ (w .arena) (stepped e₁ (w .arena) .engine)) (stepped e₁ (w .arena) .engine)
         works true q =
             quiet-turn _ (stepped e₁ (w .arena) .engine) (none-shows (taskOf e₁) e₁ (w .arena) _ q) (none-keeps (step-is e₁ (w .arena)) q)
         works false q = busy-turn (busy e₁ q) (taskOf e₁) (stepped e₁ (w .arena)) (step-is e₁ (w .arena)) (steps-beside e₁ (step-is e₁ (w .arena)))
 
-        by : (t : Bool) → Stepped₁ (cond t (taskShown (taskOf e₁) e₁ (w .arena) (left t .engine)) nothing) (left t .engine)
+        by : (t : Bool) → StepTurn (cond t (taskShown (taskOf e₁) e₁ (w .arena) (left t .engine)) nothing) (left t .engine)
         by true = works (isNone (taskOf e₁)) refl
         by false = nothing-turn e₁ (same-self (e₁ .follower))
 
-    lent-turn : (Q : List ℕ) {r : After} → Lends e₁ (w .arena) Q r → Stepped₁ (stepShown e₁ (w .arena)) (r .engine)
+    pub lent-turn : (Q : List ℕ) {r : After} → Lends e₁ (w .arena) Q r → StepTurn (stepShown e₁ (w .arena)) (r .engine)
     lent-turn Q (Ways.plain t) = step-turn
     lent-turn Q (Ways.asks offset len failure bs a fair) =
         let silent : Silent e₁ (w .arena) = fetch-silent e₁ (w .arena) a in

@@ -1,5 +1,6 @@
--- Demand 3: the public calls as data; what a call finishes; the direct engine; what is claimed of every list of calls.
+-- Demand 3: the public calls as data; what a call finishes; the direct engine; what is claimed of every list of calls; the corollary of two lists.
 pub mod Lists
 pub mod Finished
 pub mod Direct
 pub mod Claims
+pub mod Story
