@@ -1,6 +1,8 @@
--- What a road over any reader answers: a tile that it needs lies in the grid (`road-need`), and it has at most as many samples as the arrays have
--- places (`road-lengths`). The idea: each edge that is walked lies in a tile of the grid, since a tile beside it is checked before it is looked
--- up and every choice is of a tile looked up; and a sample is counted only where it is written. Assumes nothing.
+-- What a road over any reader answers: a tile that it needs lies in the grid (`road-need`), it has at most as many samples as the arrays have
+-- places (`road-lengths`), and where no lookup is stale it is not refused with 12 (`road-not-stale`). The idea: each edge that is walked lies in
+-- a tile of the grid, since a tile beside it is checked before it is looked up and every choice is of a tile looked up; a sample is counted only
+-- where it is written; and only a stale lookup ends a walk with 12. One pass shows all three (`forecast-in`), of any property of keys in the
+-- grid's place. Assumes nothing.
 use Prim.Native.Nat.{ℕ, zero, suc, _+_, _-_, _<_, _≤_}
 use mathlib.Core.Path.{_≡_, refl, subst, _∙_}
 use mathlib.Core.Bool.{Bool, true, false, _&&_, cond}
@@ -162,26 +164,42 @@ module _ (n : ℕ) where
   ridden-fits trip leg bs lonUm m here hs long =
       last-fits _ _ (backs-fill trip leg bs lonUm _ _ _ _ (pushed-fills noMark hs (whole 0) (pos 0) (record { most = omega arith; long = long })))
 
+-- ---- how a road ends
+
+-- a road of at most a samples ahead and b behind; a needed key that has the property In; 12 only where Never holds
+abbrev Ends : (TileKey → Type 0) → Type 0 → ℕ → ℕ → Outcome → Type 0
+Ends In Never a b (Outcome.Road p) = (p .len ≤ a) × (p .behind ≤ b)
+Ends In Never a b (Outcome.Need key) = In key
+Ends In Never a b Outcome.Rematch = Unit
+Ends In Never a b (Outcome.Refused number) = number ≡ 12 → Never
+
 -- ---- the choices of a junction
 
-module _ (h : Header) where
-  -- a needed key lies in the grid
+-- In: a property of the start's key and of every key in the grid, and so of each that is looked up. Never: what holds where a lookup is stale
+module _ (In : TileKey → Type 0) (Never : Type 0) (origin-in : (key : TileKey) → In key → In (noChoice .way .tile)) where
   abbrev NeedIn : Ending → Type 0
   NeedIn Ending.Going = Unit
   NeedIn (Ending.Stops end) = Unit
-  NeedIn (Ending.Need key) = inGrid h key ≡ true
-  NeedIn Ending.Stale = Unit
+  NeedIn (Ending.Need key) = In key
+  NeedIn Ending.Stale = Never
+
+  -- a key in the grid has the property
+  abbrev Checked : Header → Type 0
+  Checked h = (row col : ℤ) (key : TileKey) → checkedOf h row col ≡ Keyed.In key → In key
+
+  abbrev NotStale : {S : Type 0} → Reader S → Type 0
+  NotStale {S} rd = (s : S) (key : TileKey) → rd .at s key ≡ stale → Never
 
   -- whether or not a place was taken
   abbrev ChoicesIn : Choices → Type 0
-  ChoicesIn c = (i : ℕ) → inGrid h (choiceIn c i .way .tile) ≡ true
+  ChoicesIn c = (i : ℕ) → In (choiceIn c i .way .tile)
 
   either-choices : (t : Bool) (a b : Choices) → ChoicesIn a → ChoicesIn b → ChoicesIn (cond t a b)
   either-choices true a b p q = p
   either-choices false a b p q = q
 
-  set-in : (v : List Choice) (at : ℕ) (new : Choice) → ((i : ℕ) → inGrid h (getD v i noChoice .way .tile) ≡ true) → inGrid h (new .way .tile) ≡ true
-      → (i : ℕ) → inGrid h (getD (set v at new) i noChoice .way .tile) ≡ true
+  set-in : (v : List Choice) (at : ℕ) (new : Choice) → ((i : ℕ) → In (getD v i noChoice .way .tile)) → In (new .way .tile)
+      → (i : ℕ) → In (getD (set v at new) i noChoice .way .tile)
   set-in v at new all in-grid i =
       ⊎-elim
       (λ (e : i ≡ at). rw e
@@ -192,11 +210,11 @@ module _ (h : Header) where
       (λ (e : i ≡ at → ⊥). rw (getD-set-other v at i new noChoice e) (all i))
       (same-or i at)
 
-  push-in : (c : Choices) (new : Choice) → ChoicesIn c → inGrid h (new .way .tile) ≡ true → ChoicesIn (push c new)
+  push-in : (c : Choices) (new : Choice) → ChoicesIn c → In (new .way .tile) → ChoicesIn (push c new)
   unfolding push
   push-in c new all in-grid = either-choices (leb 12 (c .len)) c _ all (set-in (c .v) (c .len) new all in-grid)
 
-  consider-in : (c : Choices) (a : Arrival) (v : Visited) (bs : List ℕ) (key : TileKey) (node : ℕ) → ChoicesIn c → inGrid h key ≡ true
+  consider-in : (c : Choices) (a : Arrival) (v : Visited) (bs : List ℕ) (key : TileKey) (node : ℕ) → ChoicesIn c → In key
       → ChoicesIn (consider c a v bs key node)
   unfolding consider considerTo considerStep choiceOf
   consider-in c a v bs key node all in-grid =
@@ -206,7 +224,7 @@ module _ (h : Header) where
       let entry = Layout.entryOf bs (Layout.adjacencyStart bs node + i) in
       either-choices (isWayOn a v bs key entry) _ d (push-in d (choiceOf a bs key entry) good in-grid) good)
 
-  at-in : (x : Found) (c : Choices) (a : Arrival) (v : Visited) (bs : List ℕ) (key : TileKey) → ChoicesIn c → inGrid h key ≡ true
+  at-in : (x : Found) (c : Choices) (a : Arrival) (v : Visited) (bs : List ℕ) (key : TileKey) → ChoicesIn c → In key
       → ChoicesIn (considerBy x c a v bs key)
   at-in (Found.At node) c a v bs key all in-grid = consider-in c a v bs key node all in-grid
   at-in Found.Nothing c a v bs key all in-grid = all
@@ -217,17 +235,18 @@ module _ (h : Header) where
     choices : ChoicesIn (x .choices)
     need : NeedIn (x .ending)
 
-  module _ {S : Type 0} (rd : Reader S) (a : Arrival) (same : a .header ≡ h) (v : Visited) where
-    twin-look-in : (l : Look) (x : Ways S) (key : TileKey) (twin : Twin) → inGrid h key ≡ true → WaysIn x → WaysIn (twinLook rd a v l x key twin)
-    twin-look-in (ready bs) x key twin in-grid good =
+  module _ {S : Type 0} (rd : Reader S) (fresh : NotStale rd) (a : Arrival) (checked : Checked (a .header)) (v : Visited) where
+    twin-look-in : (l : Look) (x : Ways S) (key : TileKey) (twin : Twin) → (l ≡ stale → Never) → In key → WaysIn x
+        → WaysIn (twinLook rd a v l x key twin)
+    twin-look-in (ready bs) x key twin never in-grid good =
         record { choices = at-in (nodeAt bs (twin .x) (twin .y)) (x .choices) a v bs key (good .choices) in-grid; need = good .need }
-    twin-look-in missing x key twin in-grid good = record { choices = good .choices; need = good .need }
-    twin-look-in absent x key twin in-grid good = record { choices = good .choices; need = in-grid }
-    twin-look-in stale x key twin in-grid good = record { choices = good .choices; need = tt }
+    twin-look-in missing x key twin never in-grid good = record { choices = good .choices; need = good .need }
+    twin-look-in absent x key twin never in-grid good = record { choices = good .choices; need = in-grid }
+    twin-look-in stale x key twin never in-grid good = record { choices = good .choices; need = never refl }
 
     twin-key-in : (k : Keyed) (row col : ℤ) (x : Ways S) (twin : Twin) → checkedOf (a .header) row col ≡ k → WaysIn x → WaysIn (twinKey rd a v k x twin)
     twin-key-in (Keyed.In key) row col x twin e good =
-        twin-look-in (rd .at (x .carried) key) x key twin (rw same at (checked-in-grid (a .header) row col e)) good
+        twin-look-in (rd .at (x .carried) key) x key twin (fresh (x .carried) key) (checked row col key e) good
     twin-key-in Keyed.Outside row col x twin e good = record { choices = good .choices; need = good .need }
     twin-key-in (Keyed.Refused number) row col x twin e good = good
 
@@ -255,13 +274,13 @@ module _ (h : Header) where
   -- ---- the way that is taken
 
   abbrev PickIn : Picked → Type 0
-  PickIn p = inGrid h (p .best .way .tile) ≡ true
+  PickIn p = In (p .best .way .tile)
 
   either-pick : (t : Bool) (a b : Picked) → PickIn a → PickIn b → PickIn (cond t a b)
   either-pick true a b p q = p
   either-pick false a b p q = q
 
-  pick-in : (c : Choices) → ChoicesIn c → inGrid h (noChoice .way .tile) ≡ true → PickIn (pick c)
+  pick-in : (c : Choices) → ChoicesIn c → In (noChoice .way .tile) → PickIn (pick c)
   unfolding pickTo pickStep
   pick-in c all origin =
       up-keeps (λ (p : Picked) (i : ℕ). pickStep p (c .len) i (choiceIn c i)) noPick PickIn 12 origin
@@ -270,19 +289,19 @@ module _ (h : Header) where
       (either-pick (p .any) _ _ (either-pick (le (p .best .cost) (choiceIn c i .cost)) _ _ good (all i)) (all i)) good)
 
   record DecisionIn (d : Decision) : Type 0 where
-    grid : inGrid h (d .way .tile) ≡ true
+    grid : In (d .way .tile)
     need : NeedIn (d .ending)
 
   either-decision : (t : Bool) (a b : Decision) → DecisionIn a → DecisionIn b → DecisionIn (cond t a b)
   either-decision true a b p q = p
   either-decision false a b p q = q
 
-  decide-in : (c : Choices) (blocked : Bool) (confidence : Float) → ChoicesIn c → inGrid h (noChoice .way .tile) ≡ true
+  decide-in : (c : Choices) (blocked : Bool) (confidence : Float) → ChoicesIn c → In (noChoice .way .tile)
       → DecisionIn (decide c blocked confidence)
   unfolding decide
   decide-in c blocked confidence all origin =
       let p : Picked = pick c in
-      let grid : inGrid h (p .best .way .tile) ≡ true = pick-in c all origin in
+      let grid : In (p .best .way .tile) = pick-in c all origin in
       let margin = sub binary32 (p .second) (p .best .cost) in
       either-decision (p .any) _ _
       (either-decision (isFinite (p .second)) _ _
@@ -295,14 +314,11 @@ module _ (h : Header) where
 
   -- a walk in the grid that stands where the track is
   record At (t : Track) (w : Walk) : Type 0 where
-    grid : inGrid h (w .way .tile) ≡ true
+    grid : In (w .way .tile)
     need : NeedIn (w .ending)
     track : w .track ≡ t
 
-  origin-in : (k : TileKey) → inGrid h k ≡ true → inGrid h (noChoice .way .tile) ≡ true
-  origin-in k e = rw (lt-ltb 0 (h .rows) (omega (arith, row-below h k e)), lt-ltb 0 (h .cols) (omega (arith, col-below h k e)))
-
-  none-in : inGrid h (noChoice .way .tile) ≡ true → (n i : ℕ) → inGrid h (getD (replicate n noChoice) i noChoice .way .tile) ≡ true
+  none-in : In (noChoice .way .tile) → (n i : ℕ) → In (getD (replicate n noChoice) i noChoice .way .tile)
   none-in origin zero i = origin
   none-in origin (suc n) zero = origin
   none-in origin (suc n) (suc i) = none-in origin n i
@@ -312,12 +328,12 @@ module _ (h : Header) where
     unfolding withEnding
     end-at w ending good need = record { grid = good .grid; need = need; track = good .track }
 
-    next-at : (l : Look) (w : Walk) → At t w → At t (nextLook l w)
+    next-at : (l : Look) (w : Walk) → (l ≡ stale → Never) → At t w → At t (nextLook l w)
     unfolding onRoad
-    next-at (ready bs) w good = record { grid = good .grid; need = good .need; track = good .track }
-    next-at missing w good = end-at w (Ending.Need (w .way .tile)) good (good .grid)
-    next-at absent w good = end-at w (Ending.Need (w .way .tile)) good (good .grid)
-    next-at stale w good = end-at w Ending.Stale good tt
+    next-at (ready bs) w never good = record { grid = good .grid; need = good .need; track = good .track }
+    next-at missing w never good = end-at w (Ending.Need (w .way .tile)) good (good .grid)
+    next-at absent w never good = end-at w (Ending.Need (w .way .tile)) good (good .grid)
+    next-at stale w never good = end-at w Ending.Stale good (never refl)
 
     either-at : (b : Bool) (v w : Walk) → At t v → At t w → At t (cond b v w)
     either-at true v w p q = p
@@ -329,9 +345,9 @@ module _ (h : Header) where
         either-at (isRound e) _ _ (record { grid = good .grid; need = good .need; track = good .track })
         (record { grid = good .grid; need = good .need; track = good .track })
 
-    module _ {S : Type 0} (rd : Reader S) where
+    module _ {S : Type 0} (rd : Reader S) (fresh : NotStale rd) where
       taken-by-at : (ending : Ending) (w : Walk) (s : S) → At t w → At t (takenBy rd ending w s .walk)
-      taken-by-at Ending.Going w s good = next-at (rd .at s (w .way .tile)) w good
+      taken-by-at Ending.Going w s good = next-at (rd .at s (w .way .tile)) w (fresh s (w .way .tile)) good
       taken-by-at (Ending.Stops end) w s good = good
       taken-by-at (Ending.Need key) w s good = good
       taken-by-at Ending.Stale w s good = good
@@ -345,145 +361,171 @@ module _ (h : Header) where
           decided-at w (x .carried) _ good (decide-in (x .choices) (x .blocked) (w .confidence) (ways .choices) (origin-in (w .way .tile) (good .grid)))
       onward-at (Ending.Stops end) w x good ways need = end-at w (Ending.Stops end) good tt
       onward-at (Ending.Need key) w x good ways need = end-at w (Ending.Need key) good need
-      onward-at Ending.Stale w x good ways need = end-at w Ending.Stale good tt
+      onward-at Ending.Stale w x good ways need = end-at w Ending.Stale good need
 
       onward-of : (w : Walk) (x : Ways S) → At t w → WaysIn x → At t (onwardOver rd w x .walk)
       onward-of w x good ways = onward-at (x .ending) w x good ways (ways .need)
 
-      ways-in : (w : Walk) (s : S) (bs : List ℕ) (leg : Leg) (incoming : Float) → At t w → WaysIn (waysOver rd h w s bs leg incoming)
-      ways-in w s bs leg incoming good =
-          cross-in rd (arrivalOf h w incoming) refl (w .visited) s _ _
+      ways-in : (h : Header) → Checked h → (w : Walk) (s : S) (bs : List ℕ) (leg : Leg) (incoming : Float) → At t w
+          → WaysIn (waysOver rd h w s bs leg incoming)
+      ways-in h checked w s bs leg incoming good =
+          cross-in rd fresh (arrivalOf h w incoming) checked (w .visited) s _ _
           (consider-in noChoices (arrivalOf h w incoming) (w .visited) bs (w .way .tile) (nodeOf leg)
           (none-in (origin-in (w .way .tile) (good .grid)) 12) (good .grid))
 
-      crossed-at : (w : Walk) (s : S) (bs : List ℕ) (leg : Leg) → At t w → At t (crossedOver rd h w s bs leg .walk)
+      crossed-at : (h : Header) → Checked h → (w : Walk) (s : S) (bs : List ℕ) (leg : Leg) → At t w → At t (crossedOver rd h w s bs leg .walk)
       unfolding crossedOver
-      crossed-at w s bs leg good =
+      crossed-at h checked w s bs leg good =
           let incoming = incomingOf w (Layout.headOf bs .«lon_um») in
           let next : At t (turned w (leg .edge) incoming) = turned-at w (leg .edge) incoming good in
-          onward-of (turned w (leg .edge) incoming) _ next (ways-in (turned w (leg .edge) incoming) s bs leg incoming next)
+          onward-of (turned w (leg .edge) incoming) _ next (ways-in h checked (turned w (leg .edge) incoming) s bs leg incoming next)
 
--- ---- the walk
+  -- ---- the walk
 
-module _ {S : Type 0} (rd : Reader S) (trip : Trip) (budget n : ℕ) where
-  record RunIn (r : Run S) : Type 0 where
-    grid : inGrid (trip .header) (r .walk .way .tile) ≡ true
-    need : NeedIn (trip .header) (r .walk .ending)
-    filled : Filled n (r .walk .track .mark) (r .heights)
+  module _ {S : Type 0} (rd : Reader S) (fresh : NotStale rd) (trip : Trip) (checked : Checked (trip .header)) (budget n : ℕ) where
+    record RunIn (r : Run S) : Type 0 where
+      grid : In (r .walk .way .tile)
+      need : NeedIn (r .walk .ending)
+      filled : Filled n (r .walk .track .mark) (r .heights)
 
-  at-run : (t : Track) (w : Walk) (s : S) (hs : List ℤ) → At (trip .header) t w → Filled n (t .mark) hs
-      → RunIn (record { walk = w; carried = s; heights = hs })
-  at-run t w s hs good filled = record { grid = good .grid; need = good .need; filled = rw (good .track) filled }
+    at-run : (t : Track) (w : Walk) (s : S) (hs : List ℤ) → At t w → Filled n (t .mark) hs
+        → RunIn (record { walk = w; carried = s; heights = hs })
+    at-run t w s hs good filled = record { grid = good .grid; need = good .need; filled = rw (good .track) filled }
 
-  either-run : (b : Bool) (x y : Run S) → RunIn x → RunIn y → RunIn (cond b x y)
-  either-run true x y p q = p
-  either-run false x y p q = q
+    either-run : (b : Bool) (x y : Run S) → RunIn x → RunIn y → RunIn (cond b x y)
+    either-run true x y p q = p
+    either-run false x y p q = q
 
-  driven-in : (w : Walk) (s : S) (bs : List ℕ) (hs : List ℤ) → At (trip .header) (w .track) w → Filled n (w .track .mark) hs
-      → RunIn (driven rd trip budget w s bs hs)
-  unfolding along reached moved withEnding
-  driven-in w s bs hs good filled =
-      let a : Along = along trip w bs hs in
-      let fills : Filled n (a .track .mark) (a .heights)
-      = to-end-fills n trip (legOf (trip .header) (w .way) bs) bs (Layout.headOf bs .«lon_um») (w .from) (record { track = w .track; heights = hs }) filled in
-      either-run (a .track .over) _ _ (record { grid = good .grid; need = tt; filled = fills })
-      (at-run (a .track) _ _ (a .heights)
-      (crossed-at (trip .header) (a .track) rd (moved w (a .track)) s bs _ (record { grid = good .grid; need = good .need; track = refl })) fills)
+    driven-in : (w : Walk) (s : S) (bs : List ℕ) (hs : List ℤ) → At (w .track) w → Filled n (w .track .mark) hs
+        → RunIn (driven rd trip budget w s bs hs)
+    unfolding along reached moved withEnding
+    driven-in w s bs hs good filled =
+        let a : Along = along trip w bs hs in
+        let fills : Filled n (a .track .mark) (a .heights)
+        = to-end-fills n trip (legOf (trip .header) (w .way) bs) bs (Layout.headOf bs .«lon_um») (w .from) (record { track = w .track; heights = hs }) filled in
+        either-run (a .track .over) _ _ (record { grid = good .grid; need = tt; filled = fills })
+        (at-run (a .track) _ _ (a .heights)
+        (crossed-at (a .track) rd fresh (trip .header) checked (moved w (a .track)) s bs _ (record { grid = good .grid; need = good .need; track = refl })) fills)
 
-  entered-at : (w : Walk) (pages : ℕ) → At (trip .header) (w .track) w → At (trip .header) (w .track) (entered w budget pages)
-  unfolding throughEdge
-  entered-at w pages good =
-      either-at (trip .header) (w .track) (meet (w .met) budget (w .way .tile) pages .fits) _ _
-      (record { grid = good .grid; need = good .need; track = good .track })
-      (end-at (trip .header) (w .track) w (Ending.Stops End.Memory) good tt)
+    entered-at : (w : Walk) (pages : ℕ) → At (w .track) w → At (w .track) (entered w budget pages)
+    unfolding throughEdge
+    entered-at w pages good =
+        either-at (w .track) (meet (w .met) budget (w .way .tile) pages .fits) _ _
+        (record { grid = good .grid; need = good .need; track = good .track })
+        (end-at (w .track) w (Ending.Stops End.Memory) good tt)
 
-  -- a run whose walk stands in the grid, on its own track
-  run-at : (r : Run S) → RunIn r → At (trip .header) (r .walk .track) (r .walk)
-  run-at r good = record { grid = good .grid; need = good .need; track = refl }
+    -- a run whose walk stands in the grid, on its own track
+    run-at : (r : Run S) → RunIn r → At (r .walk .track) (r .walk)
+    run-at r good = record { grid = good .grid; need = good .need; track = refl }
 
-  look-in : (l : Look) (r : Run S) → RunIn r → RunIn (edgeLook rd trip budget l r)
-  look-in (ready bs) r good =
-      let w : Walk = r .walk in
-      let next : Walk = entered w budget (span (length bs)) in
-      let s = rd .found (r .carried) (w .way .tile) in
-      let in-tile : At (trip .header) (w .track) next = entered-at w (span (length bs)) (run-at r good) in
-      let filled : Filled n (next .track .mark) (r .heights) = rw (in-tile .track) (good .filled) in
-      either-run (goesOn (next .ending)) _ _
-      (driven-in next s bs (r .heights) (record { grid = in-tile .grid; need = in-tile .need; track = refl }) filled)
-      (record { grid = in-tile .grid; need = in-tile .need; filled = filled })
-  look-in missing r good =
-      at-run (r .walk .track) _ _ (r .heights) (end-at (trip .header) _ (r .walk) (Ending.Need (r .walk .way .tile)) (run-at r good) (good .grid)) (good .filled)
-  look-in absent r good =
-      at-run (r .walk .track) _ _ (r .heights) (end-at (trip .header) _ (r .walk) (Ending.Need (r .walk .way .tile)) (run-at r good) (good .grid)) (good .filled)
-  look-in stale r good =
-      at-run (r .walk .track) _ _ (r .heights) (end-at (trip .header) _ (r .walk) Ending.Stale (run-at r good) tt) (good .filled)
+    look-in : (l : Look) (r : Run S) → (l ≡ stale → Never) → RunIn r → RunIn (edgeLook rd trip budget l r)
+    look-in (ready bs) r never good =
+        let w : Walk = r .walk in
+        let next : Walk = entered w budget (span (length bs)) in
+        let s = rd .found (r .carried) (w .way .tile) in
+        let in-tile : At (w .track) next = entered-at w (span (length bs)) (run-at r good) in
+        let filled : Filled n (next .track .mark) (r .heights) = rw (in-tile .track) (good .filled) in
+        either-run (goesOn (next .ending)) _ _
+        (driven-in next s bs (r .heights) (record { grid = in-tile .grid; need = in-tile .need; track = refl }) filled)
+        (record { grid = in-tile .grid; need = in-tile .need; filled = filled })
+    look-in missing r never good =
+        at-run (r .walk .track) _ _ (r .heights) (end-at _ (r .walk) (Ending.Need (r .walk .way .tile)) (run-at r good) (good .grid)) (good .filled)
+    look-in absent r never good =
+        at-run (r .walk .track) _ _ (r .heights) (end-at _ (r .walk) (Ending.Need (r .walk .way .tile)) (run-at r good) (good .grid)) (good .filled)
+    look-in stale r never good =
+        at-run (r .walk .track) _ _ (r .heights) (end-at _ (r .walk) Ending.Stale (run-at r good) (never refl)) (good .filled)
 
-  walk-in : (r : Run S) → RunIn r → (edges : ℕ) → RunIn (walkTo rd trip budget r edges)
-  unfolding walkTo
-  walk-in r good edges =
-      up-keeps (λ (x : Run S) (i : ℕ). edgeStep rd trip budget x) r RunIn edges good
-      (λ (i : ℕ) (below : i < edges) (x : Run S) (was : RunIn x).
-      either-run (goesOn (x .walk .ending)) _ x (look-in (rd .at (x .carried) (x .walk .way .tile)) x was) was)
+    walk-in : (r : Run S) → RunIn r → (edges : ℕ) → RunIn (walkTo rd trip budget r edges)
+    unfolding walkTo
+    walk-in r good edges =
+        up-keeps (λ (x : Run S) (i : ℕ). edgeStep rd trip budget x) r RunIn edges good
+        (λ (i : ℕ) (below : i < edges) (x : Run S) (was : RunIn x).
+        either-run (goesOn (x .walk .ending)) _ x (look-in (rd .at (x .carried) (x .walk .way .tile)) x (fresh (x .carried) (x .walk .way .tile)) was) was)
 
--- ---- the road
+  -- ---- the road
+
+  outcome-in : (a b : ℕ) (ending : Ending) (w : Walk) (behind : Behind) → NeedIn ending → w .track .mark .len ≤ a → behind .len ≤ b
+      → Ends In Never a b (outcomeBy ending w behind)
+  unfolding prediction
+  outcome-in a b Ending.Going w behind need p q = (p, q)
+  outcome-in a b (Ending.Stops end) w behind need p q = (p, q)
+  outcome-in a b (Ending.Need key) w behind need p q = need
+  outcome-in a b Ending.Stale w behind need p q = λ e. need
+
+  module _ {S : Type 0} (rd : Reader S) (fresh : NotStale rd) (n a b : ℕ) (samples behind : List ℤ)
+      (ahead-long : length samples ≡ a) (behind-long : length behind ≡ b) where
+    either-road : (t : Bool) (x y : Forecast S) → Ends In Never a b (x .answer) → Ends In Never a b (y .answer) → Ends In Never a b (cond t x y .answer)
+    either-road true x y p q = p
+    either-road false x y p q = q
+
+    run-road : (trip : Trip) (checked : Checked (trip .header)) (r : Run S) (x : Behind) → RunIn rd fresh trip checked (budget n) a r → x .len ≤ b
+        → Ends In Never a b (outcome (r .walk) x)
+    run-road trip checked r x good few = outcome-in a b (r .walk .ending) (r .walk) x (good .need) (good .filled .most) few
+
+    road-in : (trip : Trip) → Checked (trip .header) → (m : Matched) (forward : Bool) (s : S) (bs : List ℕ) → In (m .tile .key)
+        → Ends In Never a b (roadOver rd n trip m forward s bs samples behind .answer)
+    unfolding roadOver walkFrom
+    road-in trip checked m forward s bs in-grid =
+        let first = pushed-fills a noMark samples (whole 0) (pos 0) (record { most = omega arith; long = ahead-long }) in
+        run-road trip checked _ _ (walk-in rd fresh trip checked (budget n) a _ (record { grid = in-grid; need = tt; filled = first }) 2000)
+        (ridden-fits b trip _ bs _ m _ behind behind-long)
+
+    look-road : (l : Look) → (l ≡ stale → Never) → (h : Header) → Checked h → (m : Matched) (forward : Bool) (horizon : Float) (s : S) → In (m .tile .key)
+        → Ends In Never a b (startLook rd n l h m forward horizon s samples behind .answer)
+    look-road (ready bs) never h checked m forward horizon s in-grid =
+        either-road (sameId (Layout.idOf bs) (m .tile)) _ _
+        (either-road (startOk bs m) _ _ (road-in (tripOf h m horizon) checked m forward _ bs in-grid) (λ e. absurd (omega (arith, e)))) tt
+    look-road missing never h checked m forward horizon s in-grid = tt
+    look-road absent never h checked m forward horizon s in-grid = in-grid
+    look-road stale never h checked m forward horizon s in-grid = λ e. never refl
+
+    directed-road : (forward : Forward) (h : Header) → Checked h → (m : Matched) (horizon : Float) (s : S) → In (m .tile .key)
+        → Ends In Never a b (directedOver rd n forward h m horizon s samples behind .answer)
+    directed-road Forward.Unknown h checked m horizon s in-grid = (omega arith, omega arith)
+    directed-road (Forward.Is forward) h checked m horizon s in-grid =
+        look-road (rd .at s (m .tile .key)) (fresh s (m .tile .key)) h checked m forward horizon s in-grid
+
+    forecast-in : (h : Header) → Checked h → (m : Matched) (horizon : Float) (s : S) → In (m .tile .key)
+        → Ends In Never a b (forecastOver rd n h m horizon s samples behind .answer)
+    unfolding forecastOver
+    forecast-in h checked m horizon s in-grid = directed-road (m .forward) h checked m horizon s in-grid
+
+-- ---- in the grid
+
+abbrev InGrid : Header → TileKey → Type 0
+InGrid h key = inGrid h key ≡ true
+
+grid-origin : (h : Header) (k : TileKey) → InGrid h k → InGrid h (noChoice .way .tile)
+grid-origin h k e = rw (lt-ltb 0 (h .rows) (omega (arith, row-below h k e)), lt-ltb 0 (h .cols) (omega (arith, col-below h k e)))
 
 -- a needed key of the grid, or lengths of at most a ahead and b behind
 abbrev pub RoadIn : Header → ℕ → ℕ → Outcome → Type 0
-RoadIn h a b (Outcome.Road p) = (p .len ≤ a) × (p .behind ≤ b)
-RoadIn h a b (Outcome.Need key) = inGrid h key ≡ true
-RoadIn h a b Outcome.Rematch = Unit
-RoadIn h a b (Outcome.Refused number) = Unit
-
-outcome-in : (h : Header) (a b : ℕ) (ending : Ending) (w : Walk) (behind : Behind) → NeedIn h ending → w .track .mark .len ≤ a → behind .len ≤ b
-    → RoadIn h a b (outcomeBy ending w behind)
-unfolding prediction
-outcome-in h a b Ending.Going w behind need p q = (p, q)
-outcome-in h a b (Ending.Stops end) w behind need p q = (p, q)
-outcome-in h a b (Ending.Need key) w behind need p q = need
-outcome-in h a b Ending.Stale w behind need p q = tt
-
-module _ {S : Type 0} (rd : Reader S) (n a b : ℕ) (samples behind : List ℤ) (ahead-long : length samples ≡ a) (behind-long : length behind ≡ b) where
-  either-road : (h : Header) (t : Bool) (x y : Forecast S) → RoadIn h a b (x .answer) → RoadIn h a b (y .answer) → RoadIn h a b (cond t x y .answer)
-  either-road h true x y p q = p
-  either-road h false x y p q = q
-
-  run-road : (trip : Trip) (r : Run S) (x : Behind) → RunIn rd trip (budget n) a r → x .len ≤ b → RoadIn (trip .header) a b (outcome (r .walk) x)
-  run-road trip r x good few = outcome-in (trip .header) a b (r .walk .ending) (r .walk) x (good .need) (good .filled .most) few
-
-  road-in : (trip : Trip) (m : Matched) (forward : Bool) (s : S) (bs : List ℕ) → inGrid (trip .header) (m .tile .key) ≡ true
-      → RoadIn (trip .header) a b (roadOver rd n trip m forward s bs samples behind .answer)
-  unfolding roadOver walkFrom
-  road-in trip m forward s bs in-grid =
-      let first = pushed-fills a noMark samples (whole 0) (pos 0) (record { most = omega arith; long = ahead-long }) in
-      run-road trip _ _ (walk-in rd trip (budget n) a _ (record { grid = in-grid; need = tt; filled = first }) 2000)
-      (ridden-fits b trip _ bs _ m _ behind behind-long)
-
-  look-road : (l : Look) (h : Header) (m : Matched) (forward : Bool) (horizon : Float) (s : S) → inGrid h (m .tile .key) ≡ true
-      → RoadIn h a b (startLook rd n l h m forward horizon s samples behind .answer)
-  look-road (ready bs) h m forward horizon s in-grid =
-      either-road h (sameId (Layout.idOf bs) (m .tile)) _ _
-      (either-road h (startOk bs m) _ _ (road-in (tripOf h m horizon) m forward _ bs in-grid) tt) tt
-  look-road missing h m forward horizon s in-grid = tt
-  look-road absent h m forward horizon s in-grid = in-grid
-  look-road stale h m forward horizon s in-grid = tt
-
-  directed-road : (forward : Forward) (h : Header) (m : Matched) (horizon : Float) (s : S) → inGrid h (m .tile .key) ≡ true
-      → RoadIn h a b (directedOver rd n forward h m horizon s samples behind .answer)
-  directed-road Forward.Unknown h m horizon s in-grid = (omega arith, omega arith)
-  directed-road (Forward.Is forward) h m horizon s in-grid = look-road (rd .at s (m .tile .key)) h m forward horizon s in-grid
-
-  pub forecast-in : (h : Header) (m : Matched) (horizon : Float) (s : S) → inGrid h (m .tile .key) ≡ true
-      → RoadIn h a b (forecastOver rd n h m horizon s samples behind .answer)
-  unfolding forecastOver
-  forecast-in h m horizon s in-grid = directed-road (m .forward) h m horizon s in-grid
+RoadIn h a b x = Ends (InGrid h) Unit a b x
 
 module _ (at : TileKey → Look) (n : ℕ) (h : Header) (m : Matched) (horizon : Float) (samples behind : List ℤ)
     (in-grid : inGrid h (m .tile .key) ≡ true) (ahead-long : length samples ≡ 501) (behind-long : length behind ≡ 11) where
   pub predict-in : RoadIn h 501 11 (predictOver at n h m horizon samples behind .answer)
-  predict-in = forecast-in (plain at) n 501 11 samples behind ahead-long behind-long h m horizon [] in-grid
+  predict-in =
+      forecast-in (InGrid h) Unit (grid-origin h) (plain at) (λ keys key e. tt) n 501 11 samples behind ahead-long behind-long
+      h (λ row col key e. checked-in-grid h row col e) m horizon [] in-grid
 
   pub road-need : (key : TileKey) → predictOver at n h m horizon samples behind .answer ≡ Outcome.Need key → inGrid h key ≡ true
   road-need key e = subst (RoadIn h 501 11) e predict-in
 
   pub road-lengths : (p : Prediction) → predictOver at n h m horizon samples behind .answer ≡ Outcome.Road p → (p .len ≤ 501) × (p .behind ≤ 11)
   road-lengths p e = subst (RoadIn h 501 11) e predict-in
+
+-- ---- with no stale lookup
+
+-- wherever the start and the lookups are, and however long the arrays are
+abbrev Anywhere : TileKey → Type 0
+Anywhere key = Unit
+
+pub road-not-stale : (at : TileKey → Look) → ((key : TileKey) → at key ≡ stale → ⊥)
+    → (n : ℕ) (h : Header) (m : Matched) (horizon : Float) (samples behind : List ℤ)
+    → predictOver at n h m horizon samples behind .answer ≡ Outcome.Refused 12 → ⊥
+road-not-stale at never n h m horizon samples behind e =
+    let ends : Ends Anywhere ⊥ (length samples) (length behind) (predictOver at n h m horizon samples behind .answer)
+    = forecast-in Anywhere ⊥ (λ key x. tt) (plain at) (λ keys key. never key) n (length samples) (length behind) samples behind refl refl
+    h (λ row col key x. tt) m horizon [] tt in
+    subst (Ends Anywhere ⊥ (length samples) (length behind)) e ends refl
