@@ -2,6 +2,7 @@
 pub mod Ways
 pub mod Changes
 pub mod Found
+pub mod Started
 pub mod Safe
 pub mod Beside
 pub mod Fit
