@@ -139,12 +139,12 @@ module _ (P : List ℕ) (h : Header) (n : ℕ) (key : TileKey) where
       open-got unknown z = omega arith
       open-got (handed i e p) z = omega arith
 
-      open-fetch : (x : Request) → FetchIs c arena h key x → ofRequest x ≡ 12 → ⊥
+      pub open-fetch : (x : Request) → FetchIs c arena h key x → ofRequest x ≡ 12 → ⊥
       open-fetch Request.Settled f z = omega arith
       open-fetch (Request.Read offset len) f z = omega arith
       open-fetch (Request.Refused number) f z = not-12 f z
 
-      open-step : {failure : ℕ} {bs : List ℕ} {r : After} → Step c arena h key failure bs r → ofProgress (r .answer) ≡ 12 → ⊥
+      pub open-step : {failure : ℕ} {bs : List ℕ} {r : After} → Step c arena h key failure bs r → ofProgress (r .answer) ≡ 12 → ⊥
       open-step (refuses number s) z = not-12 s z
       open-step (knows e) z = omega arith
       open-step (uses i e) z = omega arith

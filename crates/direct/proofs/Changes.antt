@@ -59,85 +59,86 @@ use Rattle.direct.specs.Finished.{Task, matchOf, roadAt}
 use Rattle.direct.proofs.Ways as Ways
 use Rattle.direct.proofs.Ways.{Steps, Delivers, Brings, brought, Lends, step-is, deliver-is, lends-is}
 
+module _ (Q : Cache → List ℕ → Type 0) (touches : (c : Cache) (arena : List ℕ) (i : ℕ) → Q c arena → Q (touched c i) arena) where
+  -- ---- lookups
+
+  either : (t : Bool) (c d : Cache) (arena : List ℕ) → Q c arena → Q d arena → Q (cond t c d) arena
+  either true c d arena p q = p
+  either false c d arena p q = q
+
+  module _ (arena : List ℕ) (size : ℕ) where
+    got-at : (c : Cache) (key : TileKey) (x : Landing) → Q c arena → Q (gotAt x c arena size key .cache) arena
+    got-at c key Landing.Missing q = q
+    got-at c key Landing.Nothing q = q
+    got-at c key (Landing.At i) q = by (passes arena i (lenAt c i) key size)
+      where
+        by : (t : Bool) → Q (gotReady t c i .cache) arena
+        by true = touches c arena i q
+        by false = q
+
+    pub looked-keeps : (keys : List TileKey) (c : Cache) → Q c arena → Q (looked c arena size keys) arena
+    unfolding looked got
+    looked-keeps [] c q = q
+    looked-keeps (key ∷ keys) c q = looked-keeps keys (got c arena size key .cache) (got-at c key (landsOn c key) q)
+
+  -- ---- a match and a road
+
+  match-after : (x : Ending) (c d : Cache) (arena : List ℕ) → Q c arena → Q d arena → Q (Gather.cacheAfter x c d) arena
+  match-after Ending.All c d arena p q = q
+  match-after (Ending.Need key) c d arena p q = q
+  match-after Ending.Stale c d arena p q = p
+
+  pub updated-keeps : (m : Matcher) (c : Cache) (arena : List ℕ) (h : Header) (fix : Point) (heading : Heading) → Q c arena
+      → Q (Gather.updated m c arena h fix heading .cache) arena
+  unfolding Gather.updated
+  updated-keeps m c arena h fix heading q = let r = Gather.runOver (look c arena (h .tile)) m h fix heading in
+      match-after (r .end) c _ arena q (looked-keeps arena (h .tile) (r .found) c q)
+
+  road-after : (x : RoadOutcome.Outcome) (c d : Cache) (arena : List ℕ) → Q c arena → Q d arena → Q (Predict.cacheAfter x c d) arena
+  road-after (Roads.Road p) c d arena s q = q
+  road-after (Roads.Need key) c d arena s q = q
+  road-after Roads.Rematch c d arena s q = q
+  road-after (Roads.Refused number) c d arena s q = either (eqb number 12) c d arena s q
+
+  pub predicted-keeps : (c : Cache) (arena : List ℕ) (h : Header) (m : Matched) (horizon : Float) (samples behind : List ℤ) → Q c arena
+      → Q (Predict.predictedIn c arena h m horizon samples behind .predicted .cache) arena
+  unfolding Predict.predictedIn
+  predicted-keeps c arena h m horizon samples behind q = let f = Predict.predictOver (look c arena (h .tile)) (c .pages .count) h m horizon samples behind in
+      road-after (f .answer) c _ arena q (looked-keeps arena (h .tile) (f .carried) c q)
+
+  pub update-keeps : (m : Matcher) (c : Cache) (arena : List ℕ) (h : Header) (fix : Point) (heading : Heading) → Q c arena
+      → Q (Matching.update m c arena h fix heading .cache) arena
+  unfolding Matching.update
+  update-keeps m c arena h fix heading q = by (callOk m c h (length arena)) (isPoint (fix .lat) (fix .lon) && headingOk heading)
+    where
+      by : (s t : Bool)
+          → Q (cond s (cond t (Gather.updated m c arena h fix heading) (refused m c 8)) (refused m c 12) .cache) arena
+      by true true = updated-keeps m c arena h fix heading q
+      by true false = q
+      by false t = q
+
+  pub predict-keeps : (c : Cache) (arena : List ℕ) (h : Header) (m : Matched) (horizon : Float) (samples behind : List ℤ) → Q c arena
+      → Q (Predict.predict c arena h m horizon samples behind .predicted .cache) arena
+  unfolding Predict.predict
+  predict-keeps c arena h m horizon samples behind q = by (cacheOk c h (length arena)) (inGrid h (m .tile .key))
+    where
+      by : (s t : Bool)
+          → Q (cond s
+          (cond t (Predict.predictedIn c arena h m horizon samples behind) (Predict.untouched (Predict.refused c 9) samples behind))
+          (Predict.untouched (Predict.refused c 12) samples behind) .predicted .cache) arena
+      by true true = predicted-keeps c arena h m horizon samples behind q
+      by true false = q
+      by false t = q
+
 module _ (Q : Cache → List ℕ → Type 0)
     (touches : (c : Cache) (arena : List ℕ) (i : ℕ) → Q c arena → Q (touched c i) arena)
     (forgets : (c : Cache) (arena : List ℕ) (key : TileKey) → c .pages .count ≡ 0 → Q c arena → Q (forgot c key) arena)
     (pends : (c : Cache) (arena : List ℕ) (p : Pending) → pendingFits p c ≡ true → Q c arena → Q (withPending c p) arena)
   where
-    -- ---- lookups
-
-    either : (t : Bool) (c d : Cache) (arena : List ℕ) → Q c arena → Q d arena → Q (cond t c d) arena
-    either true c d arena p q = p
-    either false c d arena p q = q
-
     either-stepped : (t : Bool) (x y : Stepped) (arena : List ℕ) → Q (x .engine .shared .cache) arena → Q (y .engine .shared .cache) arena
         → Q (cond t x y .engine .shared .cache) arena
     either-stepped true x y arena p q = p
     either-stepped false x y arena p q = q
-
-    module _ (arena : List ℕ) (size : ℕ) where
-      got-at : (c : Cache) (key : TileKey) (x : Landing) → Q c arena → Q (gotAt x c arena size key .cache) arena
-      got-at c key Landing.Missing q = q
-      got-at c key Landing.Nothing q = q
-      got-at c key (Landing.At i) q = by (passes arena i (lenAt c i) key size)
-        where
-          by : (t : Bool) → Q (gotReady t c i .cache) arena
-          by true = touches c arena i q
-          by false = q
-
-      pub looked-keeps : (keys : List TileKey) (c : Cache) → Q c arena → Q (looked c arena size keys) arena
-      unfolding looked got
-      looked-keeps [] c q = q
-      looked-keeps (key ∷ keys) c q = looked-keeps keys (got c arena size key .cache) (got-at c key (landsOn c key) q)
-
-    -- ---- a match and a road
-
-    match-after : (x : Ending) (c d : Cache) (arena : List ℕ) → Q c arena → Q d arena → Q (Gather.cacheAfter x c d) arena
-    match-after Ending.All c d arena p q = q
-    match-after (Ending.Need key) c d arena p q = q
-    match-after Ending.Stale c d arena p q = p
-
-    pub updated-keeps : (m : Matcher) (c : Cache) (arena : List ℕ) (h : Header) (fix : Point) (heading : Heading) → Q c arena
-        → Q (Gather.updated m c arena h fix heading .cache) arena
-    unfolding Gather.updated
-    updated-keeps m c arena h fix heading q = let r = Gather.runOver (look c arena (h .tile)) m h fix heading in
-        match-after (r .end) c _ arena q (looked-keeps arena (h .tile) (r .found) c q)
-
-    road-after : (x : RoadOutcome.Outcome) (c d : Cache) (arena : List ℕ) → Q c arena → Q d arena → Q (Predict.cacheAfter x c d) arena
-    road-after (Roads.Road p) c d arena s q = q
-    road-after (Roads.Need key) c d arena s q = q
-    road-after Roads.Rematch c d arena s q = q
-    road-after (Roads.Refused number) c d arena s q = either (eqb number 12) c d arena s q
-
-    pub predicted-keeps : (c : Cache) (arena : List ℕ) (h : Header) (m : Matched) (horizon : Float) (samples behind : List ℤ) → Q c arena
-        → Q (Predict.predictedIn c arena h m horizon samples behind .predicted .cache) arena
-    unfolding Predict.predictedIn
-    predicted-keeps c arena h m horizon samples behind q = let f = Predict.predictOver (look c arena (h .tile)) (c .pages .count) h m horizon samples behind in
-        road-after (f .answer) c _ arena q (looked-keeps arena (h .tile) (f .carried) c q)
-
-    pub update-keeps : (m : Matcher) (c : Cache) (arena : List ℕ) (h : Header) (fix : Point) (heading : Heading) → Q c arena
-        → Q (Matching.update m c arena h fix heading .cache) arena
-    unfolding Matching.update
-    update-keeps m c arena h fix heading q = by (callOk m c h (length arena)) (isPoint (fix .lat) (fix .lon) && headingOk heading)
-      where
-        by : (s t : Bool)
-            → Q (cond s (cond t (Gather.updated m c arena h fix heading) (refused m c 8)) (refused m c 12) .cache) arena
-        by true true = updated-keeps m c arena h fix heading q
-        by true false = q
-        by false t = q
-
-    pub predict-keeps : (c : Cache) (arena : List ℕ) (h : Header) (m : Matched) (horizon : Float) (samples behind : List ℤ) → Q c arena
-        → Q (Predict.predict c arena h m horizon samples behind .predicted .cache) arena
-    unfolding Predict.predict
-    predict-keeps c arena h m horizon samples behind q = by (cacheOk c h (length arena)) (inGrid h (m .tile .key))
-      where
-        by : (s t : Bool)
-            → Q (cond s
-            (cond t (Predict.predictedIn c arena h m horizon samples behind) (Predict.untouched (Predict.refused c 9) samples behind))
-            (Predict.untouched (Predict.refused c 12) samples behind) .predicted .cache) arena
-        by true true = predicted-keeps c arena h m horizon samples behind q
-        by true false = q
-        by false t = q
 
     -- ---- a step
 
@@ -165,16 +166,16 @@ module _ (Q : Cache → List ℕ → Type 0)
 
       steps-keep : {x : Task} {s : Stepped} → Steps e arena x s → Q (s .engine .shared .cache) arena
       unfolding arrived
-      steps-keep Ways.repeats = q
+      steps-keep (Ways.repeats o) = q
       steps-keep Ways.fails = q
       steps-keep (Ways.opens p offset len o f r) = pends (e .shared .cache) arena p f q
       steps-keep (Ways.spoils key i r s p) = q
       steps-keep (Ways.arrives key n r s f) = settled-keeps n key s
-      steps-keep (Ways.rests f a s) = q
+      steps-keep (Ways.rests f s) = q
       steps-keep (Ways.leaves f w o) = q
-      steps-keep (Ways.matches f w) = match-ended (counted (e .follower)) f (matchOf e arena f) (matchOf e arena f .answer) (updated-keeps _ (e .shared .cache) arena _ _ _ q)
+      steps-keep (Ways.matches f w) = match-ended (counted (e .follower)) f (matchOf e arena f) (matchOf e arena f .answer) (updated-keeps Q touches _ (e .shared .cache) arena _ _ _ q)
       steps-keep (Ways.follows f key found w k c) =
-          road-ended (counted (e .follower)) f found (roadAt e arena found) (roadAt e arena found .predicted .answer) (predicted-keeps (e .shared .cache) arena _ found _ _ _ q)
+          road-ended (counted (e .follower)) f found (roadAt e arena found) (roadAt e arena found .predicted .answer) (predicted-keeps Q touches (e .shared .cache) arena _ found _ _ _ q)
 
       pub step-keeps : Q (Engines.step e arena .engine .shared .cache) arena
       unfolding Engines.step

@@ -301,10 +301,10 @@ fit-after P n horizon w (nearby h p) f fair = f
 fit-after P n horizon w (current m) f fair = f
 fit-after P n horizon w (update m h p heading) f fair =
     fit-cache P n horizon w _ (w .arena)
-    (update-keeps (KeptOver P n) (touches P n) (forgets P n) (pends P n) m (w .engine .shared .cache) (w .arena) h p heading (f .cache)) f
+    (update-keeps (KeptOver P n) (touches P n) m (w .engine .shared .cache) (w .arena) h p heading (f .cache)) f
 fit-after P n horizon w (predict h m reach samples behind) f fair =
     fit-cache P n horizon w _ (w .arena)
-    (predict-keeps (KeptOver P n) (touches P n) (forgets P n) (pends P n) (w .engine .shared .cache) (w .arena) h m reach samples behind (f .cache)) f
+    (predict-keeps (KeptOver P n) (touches P n) (w .engine .shared .cache) (w .arena) h m reach samples behind (f .cache)) f
 
 pub fit-start : (P : List ℕ) (n : ℕ) (horizon : Float) (arena : List ℕ) → n ≤ 96 → Fit P n horizon (start n horizon arena)
 unfolding Followers.fresh

@@ -112,9 +112,9 @@ inv-after w (onCache c) f = inv-call (cacheOf w) c f
 inv-after w (nearby h p) f = f
 inv-after w (current m) f = f
 inv-after w (update m h p heading) f =
-    update-keeps InvOver touches forgets inv-pending m (w .engine .shared .cache) (w .arena) h p heading f
+    update-keeps InvOver touches m (w .engine .shared .cache) (w .arena) h p heading f
 inv-after w (predict h m horizon samples behind) f =
-    predict-keeps InvOver touches forgets inv-pending (w .engine .shared .cache) (w .arena) h m horizon samples behind f
+    predict-keeps InvOver touches (w .engine .shared .cache) (w .arena) h m horizon samples behind f
 
 -- ---- what is handed out
 

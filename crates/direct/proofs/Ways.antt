@@ -88,7 +88,7 @@ pub record Same (f g : Follower) : Type 0 where
 -- with the task that it works at, in a state that 12 does not name
 pub data Steps (e : Engine) (arena : List ℕ) : Task → Stepped → Type 0 where
   -- an open fetch repeated; the pack has failed; a fetch opened
-  repeats : Steps e arena none (record { answer = openRead e; engine = e })
+  repeats : isOpen (e .shared .cache .pending) ≡ true → Steps e arena none (record { answer = openRead e; engine = e })
   fails : Steps e arena none (record { answer = Status.NoPack; engine = e })
   opens : (p : Pending) (offset len : ℕ) → isOpen p ≡ true → pendingFits p (e .shared .cache) ≡ true
       → requestOf (withOpen e p .shared) p ≡ Status.Fetch offset len → Steps e arena none (opened e p offset len)
@@ -98,7 +98,7 @@ pub data Steps (e : Engine) (arena : List ℕ) : Task → Stepped → Type 0 whe
   arrives : (key : TileKey) (n : Next) → e .shared .phase ≡ Phase.Ready → nextStep (e .shared .cache) key ≡ n
       → fetched (e .shared .cache) n arena (e .shared .header) key ≡ Request.Settled → Steps e arena none (arrived e (settled (e .shared .cache) n key))
   -- nothing to do
-  rests : (f : Follower) (a : Status) → Same (e .follower) f → Steps e arena none (ended e (e .shared .cache) f a)
+  rests : (f : Follower) → Same (e .follower) f → Steps e arena none (ended e (e .shared .cache) f Status.Idle)
   -- off the map; a match; a road
   leaves : (f : Fix) → Works e f → OffGrid (keyOf (e .shared .header) (f .lat) (f .lon))
       → Steps e arena (offMap f) (ended e (e .shared .cache) (Work.offMap (counted (e .follower)) f) Status.OffMap)
@@ -130,7 +130,7 @@ module _ (e : Engine) (arena : List ℕ) where
     road-is : (key : TileKey) (x : Current) → keyOf (e .shared .header) (f .lat) (f .lon) ≡ Keyed.In key → e .follower .matcher .current ≡ x
         → Goes (roadTask x f) (roadDueBy x e arena f₁ f)
     unfolding roadStep
-    road-is key Current.Nothing k q = rests (withDue f₁ (roadOff (f₁ .due))) Status.Idle (record { sight = refl; matcher = refl; horizon = refl })
+    road-is key Current.Nothing k q = rests (withDue f₁ (roadOff (f₁ .due))) (record { sight = refl; matcher = refl; horizon = refl })
     road-is key (Current.Is found) k q = follows f key found w k q
 
     due-is : (key : TileKey) (s t : Bool) → keyOf (e .shared .header) (f .lat) (f .lon) ≡ Keyed.In key
@@ -139,7 +139,7 @@ module _ (e : Engine) (arena : List ℕ) where
     unfolding matchStep
     due-is key true t k = matches f w
     due-is key false true k = road-is key (e .follower .matcher .current) k refl
-    due-is key false false k = rests f₁ Status.Idle counted-same
+    due-is key false false k = rests f₁ counted-same
 
     grid-is : (x : Keyed) → keyOf (e .shared .header) (f .lat) (f .lon) ≡ x → Goes (gridTask x (e .follower) f) (atFixBy x e arena f₁ f)
     grid-is (Keyed.In key) k = due-is key (e .follower .due .matching) (e .follower .due .road) k
@@ -149,7 +149,7 @@ module _ (e : Engine) (arena : List ℕ) where
   module _ (idle : e .shared .cache .pending ≡ Pending.Nothing) (ready : e .shared .phase ≡ Phase.Ready) where
     work-is : (x : MaybeFix) → e .follower .sight .fix ≡ x → Goes (fixTask x e) (workedBy x e arena f₁)
     unfolding atFix
-    work-is MaybeFix.Nothing q = rests f₁ Status.Idle counted-same
+    work-is MaybeFix.Nothing q = rests f₁ counted-same
     work-is (MaybeFix.Is f) q =
         grid-is f (record { idle = idle; ready = ready; fix = q }) (keyOf (e .shared .header) (f .lat) (f .lon)) refl
 
@@ -185,9 +185,9 @@ module _ (e : Engine) (arena : List ℕ) where
   open-is : (x : Pending) → e .shared .cache .pending ≡ x → Goes (openTask x e) (steppedBy x e arena)
   unfolding started
   open-is Pending.Nothing q = phase-is (e .shared .phase) q refl
-  open-is Pending.Header q = rw (ap (requestOf (e .shared)) (sym q)) repeats
-  open-is (Pending.Entry key) q = rw (ap (requestOf (e .shared)) (sym q)) repeats
-  open-is Pending.Chunk q = rw (ap (requestOf (e .shared)) (sym q)) repeats
+  open-is Pending.Header q = rw (ap (requestOf (e .shared)) (sym q)) (repeats (rw q))
+  open-is (Pending.Entry key) q = rw (ap (requestOf (e .shared)) (sym q)) (repeats (rw q))
+  open-is Pending.Chunk q = rw (ap (requestOf (e .shared)) (sym q)) (repeats (rw q))
 
   pub step-is : Steps e arena (taskOf e) (stepped e arena)
   unfolding taskOf stepped
