@@ -11,10 +11,13 @@ use Rattle.cache_lists.proofs.Inv.{inv-fresh}
 use Rattle.follower.specs.State as Followers
 use Rattle.direct.specs.Lists.{World, Call, exec, start}
 use Rattle.direct.specs.Direct.{Lookup, directly, Direct, newDirect, applied, packAfter, directExec, directShows}
-use Rattle.direct.specs.Claims.{toldOf, tolds, shows, AllFair, madeOf, Answers, AllSame, AllDirect, AllSafe}
+use Rattle.direct.specs.Claims.{toldOf, tolds, shows, AllFair, madeOf, Answers, AllSame, AllDirect, AllSafe, AllOpen}
 use Rattle.direct.proofs.Safe.{safe-along}
 use Rattle.direct.proofs.Fit.{Fit, fit-after, fit-start}
 use Rattle.direct.proofs.Linked.{Linked, Alike, turn-alike}
+use Rattle.direct.proofs.Sound.{start-sound}
+use Rattle.direct.proofs.Opened.{reset-fits}
+use Rattle.direct.proofs.Always.{open-along}
 
 pub all-safe : AllSafe
 all-safe n few horizon arena cs = safe-along cs (start n horizon arena) (inv-fresh n few)
@@ -42,3 +45,11 @@ all-same n few horizon arena P cs fair at answers =
 
 pub all-direct : AllDirect
 all-direct n few horizon arena P cs fair = all-same n few horizon arena P cs fair (directly n) (λ P key s. refl)
+
+-- ---- number 12
+
+pub all-open : AllOpen
+unfolding Followers.fresh
+all-open n few horizon arena long P cs fair =
+    open-along n horizon cs P (start n horizon arena)
+    (record { fit = fit-start P n horizon arena few; ok = start-sound n horizon arena few long; long = long; found = reset-fits P n }) fair

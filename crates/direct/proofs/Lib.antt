@@ -9,5 +9,8 @@ pub mod Fit
 pub mod Agreed
 pub mod Seen
 pub mod Linked
+pub mod Sound
+pub mod Opened
+pub mod Always
 pub mod Stories
 pub mod Claim

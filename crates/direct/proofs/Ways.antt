@@ -250,7 +250,7 @@ module _ (e : Engine) (arena : List ℕ) (ok : engineOk e (length arena) ≡ tru
   unfolding sharedOk
   state-ok = and-left (stateOk c₁) _ (parts .shared)
 
-  open-fits : (x : Pending) → c₁ .pending ≡ x → pendingFits x c₁ ≡ true
+  pub open-fits : (x : Pending) → c₁ .pending ≡ x → pendingFits x c₁ ≡ true
   open-fits x q = sym (ap (λ (y : Pending). pendingFits y c₁) q) ∙ ok-parts c₁ state-ok .pending
 
   module _ (ready : e .shared .phase ≡ Phase.Ready) where
