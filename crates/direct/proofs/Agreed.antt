@@ -5,7 +5,7 @@ use mathlib.Core.Bool.{Bool, true, false, cond, true≢false}
 use mathlib.Core.List.{List}
 use Rattle.pack.specs.declared.Header.{Header}
 use Rattle.pack.specs.declared.TileKey.{TileKey}
-use Rattle.cache.specs.Direct.{Look, ready, stale, settled, Agree, lookAt, look, direct}
+use Rattle.cache.specs.Direct.{ready, stale, settled, Agree, lookAt, look, direct}
 use Rattle.cache.specs.Lookups.{landsOn, runBytes, passes, lenAt}
 use Rattle.cache.specs.declared.Cache.{Cache}
 use Rattle.cache.specs.declared.look.Landing.{Landing}

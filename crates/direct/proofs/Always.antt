@@ -10,14 +10,12 @@ use lib.Ieee.{Float}
 use lib.IntN.{ℤ}
 use lib.ListN.{length}
 use Rattle.pack.specs.Grid.{isPoint, inGrid}
-use Rattle.pack.specs.Sector.{rules}
 use Rattle.pack.specs.declared.Header.{Header}
 use Rattle.pack.specs.declared.TileKey.{TileKey}
 use Rattle.geo.specs.declared.Point.{Point}
 use Rattle.cache.specs.Direct.{stale, look}
 use Rattle.cache.specs.State.{cacheOk}
 use Rattle.cache.specs.declared.Cache.{Cache}
-use Rattle.load.specs.Loads as Loads
 use Rattle.load.specs.declared.Progress.{Progress}
 use Rattle.load.specs.declared.Progress.the-variants as Progress
 use Rattle.cache_lists.specs.Claims as Cached
@@ -52,7 +50,7 @@ use Rattle.follower.specs.declared.Follower.{Follower}
 use Rattle.engine.specs.State as States
 use Rattle.engine.specs.State.{unchanged, followed, isReady, engineOk}
 use Rattle.engine.specs.Deliver as Delivered
-use Rattle.engine.specs.Deliver.{After, over, arrived, headerFailed, loadFailed, loadedBy}
+use Rattle.engine.specs.Deliver.{After, arrived, headerFailed, loadFailed, loadedBy}
 use Rattle.engine.specs.Steps.{stepped}
 use Rattle.engine.specs.Calls as Engines
 use Rattle.engine.specs.declared.Changed.{Changed}
@@ -64,15 +62,14 @@ use Rattle.engine_states.proofs.EngineKept.{fix-kept, lost-kept}
 use Rattle.engine_states.proofs.EngineClosed.{reset-ok, step-ok, deliver-ok, step-from-ok}
 use Rattle.engine_states.proofs.RoadBounds.{road-not-stale}
 use Rattle.direct.specs.Lists as Calls
-use Rattle.direct.specs.Lists.{World, Call, withCache, cacheOf, ofTaken, ofStatus, ofCount, ofKnown, ofHeading, ofMatch, ofRoad, number, exec, Along}
-use Rattle.direct.specs.Finished as Shows
+use Rattle.direct.specs.Lists.{World, Call, withCache, cacheOf, ofTaken, ofStatus, ofKnown, ofHeading, ofMatch, ofRoad, number, exec, Along}
 use Rattle.direct.specs.Finished.{Shown, taskShown, taskOf, stepShown, updateShown, predictShown, shown}
 use Rattle.direct.specs.Direct.{packAfter}
 use Rattle.direct.specs.Claims.{toldOf, Fair, AllFair, Blamed, Open}
 use Rattle.direct.proofs.Ways as Ways
 use Rattle.direct.proofs.Ways.{Delivers, brought, Lends, step-is, deliver-is, lends-is}
 use Rattle.direct.proofs.Changes.{update-keeps, predict-keeps}
-use Rattle.direct.proofs.Safe.{inv-after, written-after}
+use Rattle.direct.proofs.Safe.{written-after}
 use Rattle.direct.proofs.Beside.{deliver-left}
 use Rattle.direct.proofs.Fit.{Fit, fit-after, fit-stepped}
 use Rattle.direct.proofs.Sound.{Leaves, stands, touched-leaves, cache-sound, call-sound}
@@ -394,6 +391,7 @@ module _ (P : List ℕ) (n : ℕ) (horizon : Float) (w : World) (s : Stays P n h
 pub open-along : (n : ℕ) (horizon : Float) (cs : List Call) (P : List ℕ) (w : World) → Stays P n horizon w → AllFair P cs w → Along Open cs w
 unfolding Along AllFair
 open-along n horizon [] P w s fair = tt
-open-along n horizon (c ∷ cs) P w s fair =
-    (open-after P n horizon w s c (fair .0),
-    open-along n horizon cs (packAfter P c (toldOf w c)) (exec c w .world) (stays-after P n horizon w s c (fair .0)) (fair .1))
+open-along n horizon (c ∷ cs) P w s fair = (
+  open-after P n horizon w s c (fair .0),
+  open-along n horizon cs (packAfter P c (toldOf w c)) (exec c w .world) (stays-after P n horizon w s c (fair .0)) (fair .1),
+)

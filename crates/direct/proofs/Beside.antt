@@ -1,40 +1,18 @@
 -- What a step and a delivery leave beside the cache: phase, header, and of the follower what it sees, what it matches and what it was made with. By the
 -- ways that a call goes. Assumes nothing.
-use Prim.Native.Nat.{ℕ, zero, suc, _+_, _*_, _<_, _≤_}
-use mathlib.Core.Path.{_≡_, refl, sym, ap, _∙_}
-use mathlib.Core.Bool.{Bool, true, false, _&&_, not, cond, true≢false}
-use mathlib.Core.List.{List, [], _∷_}
-use mathlib.Core.Logic.{⊎-elim}
-use native.Mathlib.Omega.{arith}
+use Prim.Native.Nat.{ℕ}
+use mathlib.Core.Path.{_≡_, refl, _∙_}
+use mathlib.Core.Bool.{Bool, true, false, _&&_, cond}
+use mathlib.Core.List.{List}
 use lib.Dec.{eqb, ltb}
-use lib.Ieee.{Float}
-use lib.ListN.{length, take, drop, getD, set, replicate, length-set, length-replicate}
-use lib.Seq.{ext-getD, getD-set-same, getD-set-other}
-use Rattle.num.specs.Fold.{upTo}
-use Rattle.num.specs.Order.{min}
-use Rattle.pack.specs.Bytes.{byteAt}
-use Rattle.pack.specs.Grid.{isPoint}
+use lib.ListN.{length}
 use Rattle.pack.specs.Sector.{parse}
 use Rattle.pack.specs.declared.Answer.the-variants as SectorIs
 use Rattle.pack.specs.declared.Header.{Header}
 use Rattle.pack.specs.declared.TileKey.{TileKey}
-use Rattle.pages.proofs.Below.{same-or}
-use Rattle.geo.specs.Flat.{whole}
-use Rattle.cache.specs.Lookups.{touched}
-use Rattle.cache.specs.State.{fresh, cleared, pendingFits}
 use Rattle.cache.specs.declared.Cache.{Cache}
-use Rattle.cache.specs.declared.Pending.{Pending}
-use Rattle.load.specs.Loads as Loads
-use Rattle.load.specs.Loads.{forgot, told}
-use Rattle.load.specs.Calls as Loaded
 use Rattle.load.specs.declared.Progress.{Progress}
 use Rattle.load.specs.declared.Progress.the-variants as Progress
-use Rattle.cache_lists.specs.Claims as Cached
-use Rattle.cache_lists.specs.Claims.{Parsed}
-use Rattle.cache_lists.proofs.Steps.{Step, refuses, knows, uses, noPages, fails, lacks, begins, goesOn, readies, spoils, load-is}
-use Rattle.cache_lists.proofs.Direct.{direct-none}
-use Rattle.cache_lists.proofs.Kept.{Kept, kept-fresh, kept-cleared, kept-touched, kept-forgot}
-use Rattle.cache_lists.proofs.Same.{kept-step, given, kept-call}
 use Rattle.matcher.specs.declared.Outcome as MatchOutcome
 use Rattle.matcher.specs.declared.Outcome.the-variants as Match
 use Rattle.matcher.specs.declared.Updated.{Updated}
@@ -45,14 +23,12 @@ use Rattle.candidates.specs.declared.Current.{Current}
 use Rattle.candidates.specs.declared.Current.the-variants as Current
 use Rattle.candidates.specs.declared.Matched.{Matched}
 use Rattle.matcher.specs.declared.Matcher.{Matcher}
-use Rattle.follower.specs.State as Followers
-use Rattle.follower.specs.Fixes.{isSamePlace}
 use Rattle.follower.specs.declared.Fix.{Fix}
 use Rattle.follower.specs.declared.Follower.{Follower}
-use Rattle.engine.specs.State.{refused, engineOk, forgotten}
+use Rattle.engine.specs.State.{refused, engineOk}
 use Rattle.engine.specs.Work.{counted, ended, offMap, mayAsk, matchedBy, matched, matchAsks, matchEndedBy, rematch, roadAsks, roadEndedBy, published}
 use Rattle.engine.specs.Deliver as Delivered
-use Rattle.engine.specs.Deliver.{After, over, withPending, sectorOf, arrived, headerFailed, loadFailed, loadedBy, loaded}
+use Rattle.engine.specs.Deliver.{After, over, sectorOf, arrived, headerFailed, loadFailed, loadedBy}
 use Rattle.engine.specs.Calls as Engines
 use Rattle.engine.specs.declared.Engine.{Engine}
 use Rattle.engine.specs.declared.Phase.{Phase}
@@ -61,10 +37,9 @@ use Rattle.engine.specs.declared.Status.{Status}
 use Rattle.engine.specs.declared.Status.the-variants as Status
 use Rattle.engine.specs.declared.Stepped.{Stepped}
 use Rattle.direct.specs.Finished.{Task, matchOf, roadAt}
-use Rattle.direct.specs.Direct.{headerOf, packAfter}
-use Rattle.direct.specs.Claims.{toldOf, openRead, FairBytes, FairLent, Fair}
+use Rattle.direct.specs.Claims.{openRead}
 use Rattle.direct.proofs.Ways as Ways
-use Rattle.direct.proofs.Ways.{Same, Steps, Brings, brought, Delivers, Lends, step-is, deliver-is, lends-is}
+use Rattle.direct.proofs.Ways.{Same, Steps, brought, Delivers, step-is, deliver-is}
 
 -- ---- followers
 

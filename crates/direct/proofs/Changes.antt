@@ -1,21 +1,20 @@
 -- What the calls leave of cache and arena: whatever holds of them and is kept by the few changes of the cache's state is kept by every step,
 -- delivery and lookup. By the ways that a call goes. Assumes nothing.
 use Prim.Native.Nat.{ℕ}
-use mathlib.Core.Path.{_≡_, refl, _∙_}
+use mathlib.Core.Path.{_≡_, refl}
 use mathlib.Core.Bool.{Bool, true, false, _&&_, cond}
 use mathlib.Core.List.{List, [], _∷_}
 use lib.Dec.{eqb, ltb}
 use lib.Ieee.{Float}
-use lib.IntN.{ℤ, pos}
-use lib.ListN.{length, replicate}
+use lib.IntN.{ℤ}
+use lib.ListN.{length}
 use Rattle.pack.specs.Grid.{inGrid, isPoint}
-use Rattle.pack.specs.Sector.{parse}
 use Rattle.pack.specs.declared.Header.{Header}
 use Rattle.pack.specs.declared.TileKey.{TileKey}
 use Rattle.geo.specs.declared.Point.{Point}
 use Rattle.cache.specs.Direct.{look, looked}
 use Rattle.cache.specs.Lookups.{landsOn, passes, lenAt, touched, gotAt, gotReady, got, nextStep}
-use Rattle.cache.specs.State.{pendingFits, cleared, cacheOk}
+use Rattle.cache.specs.State.{pendingFits, cacheOk}
 use Rattle.cache.specs.declared.Cache.{Cache}
 use Rattle.cache.specs.declared.Pending.{Pending}
 use Rattle.cache.specs.declared.Pending.the-variants as Pending
@@ -25,10 +24,8 @@ use Rattle.cache.specs.declared.next.Next.{Next}
 use Rattle.cache.specs.declared.next.Next.the-variants as Next
 use Rattle.load.specs.Loads as Loads
 use Rattle.load.specs.Loads.{forgot, told}
-use Rattle.load.specs.declared.Request.the-variants as Request
 use Rattle.cache_lists.proofs.Lookups.{next-is}
 use Rattle.cache_lists.proofs.Steps.{Step, refuses, knows, uses, noPages, fails, lacks, begins, goesOn, readies, spoils, load-is}
-use Rattle.candidates.specs.declared.Current.{Current}
 use Rattle.candidates.specs.declared.Heading.{Heading}
 use Rattle.candidates.specs.declared.Matched.{Matched}
 use Rattle.matcher.specs.Calls as Matching
@@ -57,7 +54,7 @@ use Rattle.engine.specs.declared.Stepped.{Stepped}
 use Rattle.direct.specs.Lists.{ofStatus}
 use Rattle.direct.specs.Finished.{Task, matchOf, roadAt}
 use Rattle.direct.proofs.Ways as Ways
-use Rattle.direct.proofs.Ways.{Steps, Delivers, Brings, brought, Lends, step-is, deliver-is, lends-is}
+use Rattle.direct.proofs.Ways.{Steps, Delivers, Brings, brought, step-is, deliver-is}
 
 module _ (Q : Cache → List ℕ → Type 0) (touches : (c : Cache) (arena : List ℕ) (i : ℕ) → Q c arena → Q (touched c i) arena) where
   -- ---- lookups

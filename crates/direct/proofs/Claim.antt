@@ -1,12 +1,9 @@
 -- THE THEOREM: the claims of demand 3, of every list of calls from a fresh engine of any page count and horizon over any arena. A fresh engine has the
 -- invariants, and they hold along the list. Assumes nothing.
-use Prim.Native.Nat.{ℕ, _≤_}
+use Prim.Native.Nat.{ℕ}
 use mathlib.Core.Path.{_≡_, refl}
-use mathlib.Core.Bool.{true}
 use mathlib.Core.List.{List, [], _∷_}
 use lib.Ieee.{Float}
-use Rattle.pack.specs.declared.TileKey.{TileKey}
-use Rattle.cache.specs.Direct.{settled}
 use Rattle.cache_lists.proofs.Inv.{inv-fresh}
 use Rattle.follower.specs.State as Followers
 use Rattle.direct.specs.Lists.{World, Call, exec, start}

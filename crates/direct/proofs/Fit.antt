@@ -1,9 +1,9 @@
 -- Under the premises: what the cache holds is the pack's, the header that was read is the pack's, and what the engine was made with stays. By the
 -- ways that a call goes. Assumes nothing.
-use Prim.Native.Nat.{ℕ, zero, suc, _+_, _*_, _<_, _≤_}
+use Prim.Native.Nat.{ℕ, zero, suc, _+_, _<_, _≤_}
 use mathlib.Core.Path.{_≡_, refl, sym, ap, _∙_}
-use mathlib.Core.Bool.{Bool, true, false, _&&_, not, cond, true≢false}
-use mathlib.Core.List.{List, [], _∷_}
+use mathlib.Core.Bool.{Bool, true, false, not, cond}
+use mathlib.Core.List.{List}
 use mathlib.Core.Logic.{⊎-elim}
 use native.Mathlib.Omega.{arith}
 use lib.Dec.{eqb, ltb}
@@ -14,14 +14,10 @@ use Rattle.num.specs.Fold.{upTo}
 use Rattle.num.specs.Order.{min}
 use Rattle.pack.specs.Bytes.{byteAt}
 use Rattle.pack.specs.Grid.{isPoint}
-use Rattle.pack.specs.Sector.{parse}
-use Rattle.pack.specs.declared.Answer.the-variants as SectorIs
 use Rattle.pack.specs.declared.Header.{Header}
 use Rattle.pack.specs.declared.TileKey.{TileKey}
 use Rattle.pages.proofs.Below.{same-or}
 use Rattle.geo.specs.Flat.{whole}
-use Rattle.pages.specs.Runs.{emptySlot, slotAt}
-use Rattle.cache.specs.Keys.{emptyPlace}
 use Rattle.cache.specs.Lookups.{touched}
 use Rattle.cache.specs.State.{fresh, cleared, pendingFits}
 use Rattle.cache.specs.declared.Cache.{Cache}
@@ -29,32 +25,18 @@ use Rattle.cache.specs.declared.Pending.{Pending}
 use Rattle.cache.specs.declared.Pending.the-variants as Pending
 use Rattle.load.specs.Loads as Loads
 use Rattle.load.specs.Loads.{forgot, told}
-use Rattle.load.specs.Calls as Loaded
-use Rattle.cache_lists.specs.Claims as Cached
 use Rattle.cache_lists.specs.Claims.{Parsed}
 use Rattle.cache_lists.proofs.Steps.{Step, refuses, knows, uses, noPages, fails, lacks, begins, goesOn, readies, spoils, load-is}
 use Rattle.cache_lists.proofs.Direct.{direct-none}
 use Rattle.cache_lists.proofs.Inv.{inv-cleared}
-use Rattle.cache_lists.proofs.Kept.{SlotHolds, RingHolds, Kept, kept-fresh, kept-cleared, kept-touched, kept-forgot}
+use Rattle.cache_lists.proofs.Kept.{Kept, kept-fresh, kept-touched, kept-forgot}
 use Rattle.cache_lists.proofs.Same.{kept-step, given, kept-call}
-use Rattle.matcher.specs.declared.Outcome as MatchOutcome
-use Rattle.matcher.specs.declared.Outcome.the-variants as Match
-use Rattle.matcher.specs.declared.Updated.{Updated}
-use Rattle.predict.specs.Predict as Predict
-use Rattle.predict.specs.declared.Outcome as RoadOutcome
-use Rattle.predict.specs.declared.Outcome.the-variants as Roads
-use Rattle.candidates.specs.declared.Current.{Current}
-use Rattle.candidates.specs.declared.Current.the-variants as Current
-use Rattle.candidates.specs.declared.Matched.{Matched}
-use Rattle.matcher.specs.declared.Matcher.{Matcher}
 use Rattle.follower.specs.State as Followers
 use Rattle.follower.specs.Fixes.{isSamePlace}
 use Rattle.follower.specs.declared.Fix.{Fix}
 use Rattle.follower.specs.declared.Follower.{Follower}
 use Rattle.engine.specs.State.{refused, unchanged, engineOk, forgotten}
-use Rattle.engine.specs.Work.{counted, ended, offMap, mayAsk, matchedBy, matched, matchAsks, matchEndedBy, rematch, roadAsks, roadEndedBy, published}
-use Rattle.engine.specs.Deliver as Delivered
-use Rattle.engine.specs.Deliver.{After, over, withPending, sectorOf, arrived, headerFailed, loadFailed, loadedBy, loaded}
+use Rattle.engine.specs.Deliver.{After, withPending, sectorOf, arrived, loadFailed, loaded}
 use Rattle.engine.specs.Steps.{steppedBy, stepped}
 use Rattle.engine.specs.Calls as Engines
 use Rattle.engine.specs.declared.Changed.{Changed}
@@ -66,11 +48,10 @@ use Rattle.engine.specs.declared.Status.the-variants as Status
 use Rattle.engine.specs.declared.Stepped.{Stepped}
 use Rattle.engine.proofs.FetchLaws.{isOpen, open-repeats, Opening, opening-is-pending}
 use Rattle.direct.specs.Lists.{withCache, World, Call, fix, lost, reset, step, deliver, stepFrom, read, onCache, nearby, current, update, predict, cacheOf, ofTaken, ofStatus, exec, start}
-use Rattle.direct.specs.Finished.{Task, matchOf, roadAt}
 use Rattle.direct.specs.Direct.{headerOf, packAfter}
 use Rattle.direct.specs.Claims.{toldOf, openRead, FairBytes, FairLent, Fair}
 use Rattle.direct.proofs.Ways as Ways
-use Rattle.direct.proofs.Ways.{Same, Steps, Brings, brought, Delivers, Lends, step-is, deliver-is, lends-is}
+use Rattle.direct.proofs.Ways.{Brings, brought, Lends, lends-is}
 use Rattle.direct.proofs.Changes.{step-keeps, deliver-keeps, update-keeps, predict-keeps}
 use Rattle.direct.proofs.Safe.{inv-pending}
 use Rattle.direct.proofs.Beside as Sides

@@ -4,17 +4,16 @@ use Prim.Native.Nat.{ℕ}
 use mathlib.Core.Path.{_≡_, refl, sym, ap, subst, _∙_}
 use mathlib.Core.Bool.{Bool, true, false, _&&_, not, cond, true≢false}
 use mathlib.Core.List.{List, [], _∷_, _++_}
-use native.Mathlib.Omega.{arith}
 use borrow.Author.Tests.{eqb-true}
 use lib.Dec.{eqb}
 use lib.Ieee.{Float}
 use lib.IntN.{ℤ}
-use lib.ListN.{length, take}
+use lib.ListN.{length}
 use Rattle.pack.specs.Grid.{isPoint, inGrid}
 use Rattle.pack.specs.declared.Header.{Header}
 use Rattle.pack.specs.declared.TileKey.{TileKey}
 use Rattle.geo.specs.declared.Point.{Point}
-use Rattle.cache.specs.Direct.{Agree, look}
+use Rattle.cache.specs.Direct.{look}
 use Rattle.cache.specs.State.{cacheOk}
 use Rattle.cache.specs.declared.Pending.{Pending}
 use Rattle.cache.specs.declared.Pending.the-variants as Pending
@@ -41,9 +40,8 @@ use Rattle.follower.specs.Fixes as Fixes
 use Rattle.follower.specs.State as Followers
 use Rattle.follower.specs.declared.Fix.{Fix}
 use Rattle.follower.specs.declared.Follower.{Follower}
-use Rattle.follower.specs.declared.Sight.{Sight}
 use Rattle.engine.specs.State.{refused, unchanged, followed, forgotten, engineOk}
-use Rattle.engine.specs.Work.{matchEndedBy, mayAsk, roadEndedBy, counted, ended}
+use Rattle.engine.specs.Work.{matchEndedBy, mayAsk, roadEndedBy, counted}
 use Rattle.engine.specs.Deliver.{After, arrived}
 use Rattle.engine.specs.Steps.{stepped}
 use Rattle.engine.specs.Calls as Engines
@@ -55,15 +53,14 @@ use Rattle.engine.specs.declared.Status.{Status}
 use Rattle.engine.specs.declared.Status.the-variants as Status
 use Rattle.engine.specs.declared.Stepped.{Stepped}
 use Rattle.direct.specs.Lists as Calls
-use Rattle.direct.specs.Lists.{World, Call, ofTaken, ofStatus, number, exec}
-use Rattle.direct.specs.Finished as Shows
-use Rattle.direct.specs.Finished.{Shown, nothing, isMatch, isRoad, Task, none, offMap, match, road, openTask, phaseTask, taskOf, matchOf, roadAt, taskShown, stepShown, updateShown, predictShown, shown}
-use Rattle.direct.specs.Direct.{Made, Told, Lookup, headerOf, Held, fixed, lostHeld, Worked, idle, stepWorked, updateWorked, predictWorked, worked, Waiting, aFix, aLoss, Direct, acted, applied, queued, flushed, settled, Turn, received, cleared, turned, directExec}
-use Rattle.direct.specs.Claims.{isOpen, isFetching, toldOf, madeOf, Answers, Fair}
+use Rattle.direct.specs.Lists.{World, Call, ofTaken, number, exec}
+use Rattle.direct.specs.Finished.{Shown, nothing, isMatch, isRoad, Task, none, offMap, match, road, openTask, taskOf, matchOf, roadAt, taskShown, stepShown, updateShown, predictShown, shown}
+use Rattle.direct.specs.Direct.{Told, Lookup, Held, fixed, lostHeld, Worked, idle, stepWorked, updateWorked, predictWorked, worked, Waiting, aFix, aLoss, Direct, acted, applied, queued, settled, cleared, turned, directExec}
+use Rattle.direct.specs.Claims.{isFetching, toldOf, madeOf, Answers, Fair}
 use Rattle.direct.proofs.Ways as Ways
 use Rattle.direct.proofs.Ways.{Same, Steps, step-is, isFetch, Lends, lends-is}
-use Rattle.direct.proofs.Beside.{same-self, same-then, Beside, steps-beside, step-beside, Left, deliver-left}
-use Rattle.direct.proofs.Fit.{Fit, HeaderFits}
+use Rattle.direct.proofs.Beside.{same-self, same-then, Beside, steps-beside, deliver-left}
+use Rattle.direct.proofs.Fit.{Fit}
 use Rattle.direct.proofs.Agreed.{look-agrees}
 use Rattle.direct.proofs.Seen.{toldBy, Agrees, idle-worked, steps-agree}
 

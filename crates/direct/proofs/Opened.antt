@@ -2,25 +2,24 @@
 -- by 6 nor by 10. The idea: what is ready holds what the pack has, so it passes; and the current match was found in a tile of the pack. Assumes nothing.
 use Prim.Native.Nat.{ℕ, _*_, _<_, _≤_}
 use mathlib.Core.Path.{_≡_, refl, sym, ap, subst, _∙_}
-use mathlib.Core.Bool.{Bool, true, false, _&&_, not, cond, true≢false}
-use mathlib.Core.List.{List, [], _∷_}
-use mathlib.Core.Logic.{_⊎_, inl, inr, ⊎-elim}
+use mathlib.Core.Bool.{Bool, true, false, cond, true≢false}
+use mathlib.Core.List.{List}
+use mathlib.Core.Logic.{_⊎_, inr, ⊎-elim}
 use native.Mathlib.Omega.{arith}
 use borrow.Author.Tests.{eqb-true}
-use lib.Dec.{eqb, ltb}
+use lib.Dec.{eqb}
 use lib.Ieee.{Float}
-use lib.IntN.{ℤ, pos}
+use lib.IntN.{pos}
 use lib.ListN.{length, replicate}
 use Rattle.num.proofs.FoldLaws.{up-keeps}
-use Rattle.pack.specs.Grid.{isPoint, inGrid}
 use Rattle.pack.specs.Sector.{rules}
 use Rattle.pack.specs.declared.Header.{Header}
 use Rattle.pack.specs.declared.TileKey.{TileKey}
 use Rattle.pages.specs.declared.MaybeKey.{MaybeKey}
 use Rattle.pages.specs.declared.MaybeKey.the-variants as MaybeKey
 use Rattle.geo.specs.declared.Point.{Point}
-use Rattle.cache.specs.Direct.{Look, ready, missing, absent, stale, Agree, lookAt, look, direct}
-use Rattle.cache.specs.Lookups.{landsOn, runBytes, passes, lenAt, nextStep}
+use Rattle.cache.specs.Direct.{Look, ready, missing, absent, stale, Agree, lookAt, look}
+use Rattle.cache.specs.Lookups.{landsOn, runBytes, passes, lenAt}
 use Rattle.pages.specs.declared.victim.Found.the-variants as Found
 use Rattle.cache.specs.Keys.{readyAt}
 use Rattle.cache.specs.State.{wantsChunkOf}
@@ -59,7 +58,6 @@ use Rattle.predict.specs.declared.Outcome as RoadOutcome
 use Rattle.predict.specs.declared.Outcome.the-variants as Roads
 use Rattle.follower.specs.State.{isMatched}
 use Rattle.follower.specs.declared.Fix.{Fix}
-use Rattle.follower.specs.declared.Follower.{Follower}
 use Rattle.engine.specs.State.{refused, engineOk}
 use Rattle.engine.specs.Work.{counted, ended, offMap, mayAsk, matchEndedBy, rematch, roadEndedBy, published}
 use Rattle.engine.specs.Deliver.{arrived}
@@ -71,8 +69,7 @@ use Rattle.engine.specs.declared.Status.the-variants as Status
 use Rattle.engine.specs.declared.Stepped.{Stepped}
 use Rattle.engine_states.proofs.MatcherKept.{look-accepted}
 use Rattle.engine_states.proofs.RoadBounds.{road-not-stale}
-use Rattle.direct.specs.Lists as Calls
-use Rattle.direct.specs.Lists.{World, Call, ofStatus}
+use Rattle.direct.specs.Lists.{World, ofStatus}
 use Rattle.direct.specs.Finished as Shows
 use Rattle.direct.specs.Finished.{Shown, Task, matchOf, roadAt, matchShown, roadShown, taskShown}
 use Rattle.direct.specs.Direct.{headerOf, directly}

@@ -1,33 +1,27 @@
 -- With no premise: the cache's own invariant holds along every list of calls, and each call is safe. By the ways that a call goes. Assumes nothing.
 use Prim.Native.Nat.{ℕ, _≤_}
-use mathlib.Core.Path.{_≡_, refl, sym, ap, _∙_}
+use mathlib.Core.Path.{_≡_, refl, sym, _∙_}
 use mathlib.Core.Bool.{Bool, true, false, _&&_, cond, true≢false}
 use mathlib.Core.List.{List, [], _∷_}
 use native.Mathlib.Omega.{arith}
-use borrow.Author.Tests.{eqb-true}
 use lib.Dec.{eqb, ltb}
-use lib.Ieee.{Float}
-use lib.IntN.{pos}
-use lib.ListN.{length, replicate}
-use Rattle.pack.specs.Grid.{isPoint, inGrid}
+use lib.ListN.{length}
+use Rattle.pack.specs.Grid.{isPoint}
 use Rattle.pack.specs.declared.TileKey.{TileKey}
-use Rattle.cache.specs.Lookups.{touched, nextStep}
-use Rattle.cache.specs.State.{pendingFits, pendingOk, cleared}
+use Rattle.cache.specs.Lookups.{touched}
+use Rattle.cache.specs.State.{pendingFits, cleared}
 use Rattle.cache.specs.declared.Cache.{Cache}
-use Rattle.cache.specs.declared.MaybeLoading.{MaybeLoading}
 use Rattle.cache.specs.declared.Pending.{Pending}
 use Rattle.load.specs.Loads.{forgot}
 use Rattle.load.specs.declared.Progress.{Progress}
 use Rattle.load.specs.declared.Progress.the-variants as Progress
 use Rattle.cache_lists.specs.Claims.{Written}
 use Rattle.cache_lists.proofs.Steps.{load-is}
-use Rattle.cache_lists.proofs.Inv.{Inv, inv-ok, inv-apart, inv-fresh, inv-cleared, inv-touched, inv-forgot}
+use Rattle.cache_lists.proofs.Inv.{Inv, inv-ok, inv-apart, inv-cleared, inv-touched, inv-forgot}
 use Rattle.cache_lists.proofs.Safe.{inv-step, inv-call, handed-call, one-read, takes-call, written-call, written-step}
 use Rattle.cache_lists.proofs.Chunk.{not-written}
-use Rattle.follower.specs.declared.Follower.{Follower}
 use Rattle.follower.specs.declared.Fix.{Fix}
-use Rattle.engine.specs.State as States
-use Rattle.engine.specs.State.{refused, engineOk, forgotten, unchanged}
+use Rattle.engine.specs.State.{refused, engineOk, forgotten}
 use Rattle.engine.specs.Deliver as Delivered
 use Rattle.engine.specs.Deliver.{After, withPending, over, arrived, headerFailed, loadFailed, loadedBy}
 use Rattle.engine.specs.Calls as Engines
@@ -37,11 +31,11 @@ use Rattle.engine.specs.declared.Status.{Status}
 use Rattle.engine.specs.declared.Status.the-variants as Status
 use Rattle.engine.specs.declared.Stepped.{Stepped}
 use Rattle.engine_states.proofs.CacheKept.{ok-parts, pending-ok}
-use Rattle.direct.specs.Lists.{World, Call, fix, lost, reset, step, deliver, stepFrom, read, onCache, nearby, current, update, predict, cacheOf, ofStatus, number, exec, start, Along}
+use Rattle.direct.specs.Lists.{World, Call, fix, lost, reset, step, deliver, stepFrom, read, onCache, nearby, current, update, predict, cacheOf, ofStatus, number, exec, Along}
 use Rattle.direct.specs.Finished.{Task, none, offMap, match, road, taskOf}
 use Rattle.direct.specs.Claims.{openRead, taskHands, HandedOut, readsOf, lentReads, reads, HasLen, TakesOnly, Safe}
 use Rattle.direct.proofs.Ways as Ways
-use Rattle.direct.proofs.Ways.{Delivers, Brings, brought, isFetch, Lends, deliver-is, lends-is}
+use Rattle.direct.proofs.Ways.{Delivers, brought, isFetch, Lends, deliver-is, lends-is}
 use Rattle.direct.proofs.Changes.{step-keeps, deliver-keeps, update-keeps, predict-keeps}
 use Rattle.direct.proofs.Found.{match-hands, road-hands}
 

@@ -2,13 +2,13 @@
 -- finishes at the cache's look gives the same at every look that agrees with it. Assumes nothing.
 use Prim.Native.Nat.{ℕ}
 use mathlib.Core.Path.{_≡_, refl, sym, ap, _∙_}
-use mathlib.Core.Bool.{Bool, true, false, cond, true≢false}
-use mathlib.Core.List.{List, []}
+use mathlib.Core.Bool.{Bool, true, false, cond}
+use mathlib.Core.List.{List}
 use native.Mathlib.Omega.{arith}
 use borrow.Author.Tests.{eqb-true}
 use lib.Dec.{eqb}
 use lib.Ieee.{Float}
-use lib.IntN.{ℤ, pos}
+use lib.IntN.{pos}
 use lib.ListN.{replicate}
 use Rattle.num.specs.Order.{min}
 use Rattle.pack.specs.Grid.{keyOf}
@@ -39,11 +39,10 @@ use Rattle.predict.specs.declared.Outcome.the-variants as Roads
 use Rattle.predict.proofs.RoadLaws.{predict-agrees}
 use Rattle.junction.specs.declared.End.the-variants as End
 use Rattle.follower.specs.Fixes.{placeOf}
-use Rattle.follower.specs.Publish.{nothingAhead, withMatch, withoutMatch}
+use Rattle.follower.specs.Publish.{withMatch, withoutMatch}
 use Rattle.follower.specs.State.{isMatched}
 use Rattle.follower.specs.declared.Ahead.{Ahead}
 use Rattle.follower.specs.declared.Fix.{Fix}
-use Rattle.follower.specs.declared.Follower.{Follower}
 use Rattle.follower.specs.declared.MaybeFix.{MaybeFix}
 use Rattle.follower.specs.declared.MaybeFix.the-variants as MaybeFix
 use Rattle.engine.specs.State as States
@@ -58,7 +57,7 @@ use Rattle.direct.specs.Finished as Shows
 use Rattle.direct.specs.Direct.{Made, Told, Lookup, headerOf, Held, withMatcher, Worked, idle, matchWorked, roadWorked, emptyWorked, currentWorked, keyWorked, fixWorked, stepWorkedBy, stepWorked, matchHeld, roadHeld}
 use Rattle.direct.specs.Claims.{madeOf}
 use Rattle.direct.proofs.Ways as Ways
-use Rattle.direct.proofs.Ways.{OffGrid, Works, Same, Steps}
+use Rattle.direct.proofs.Ways.{OffGrid, Works, Steps}
 use Rattle.direct.proofs.Beside.{match-asks, road-asks, match-holds}
 
 -- what is told of a call that shows s

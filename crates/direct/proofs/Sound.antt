@@ -1,26 +1,23 @@
 -- No call of a list leaves an engine in a state that 12 names: for the engine's own calls by crate engine_states, here for the direct calls on its cache,
 -- which change nothing else and withdraw an open fetch that they do the work of. Assumes nothing.
 use Prim.Native.Nat.{ℕ, _*_, _≤_}
-use mathlib.Core.Path.{_≡_, refl, sym, ap, subst, _∙_}
-use mathlib.Core.Bool.{Bool, true, false, _&&_, cond, true≢false}
+use mathlib.Core.Path.{_≡_, refl, sym, ap, _∙_}
+use mathlib.Core.Bool.{true, _&&_}
 use mathlib.Core.List.{List}
 use native.Mathlib.Omega.{arith}
 use borrow.Author.Tests.{le-leb}
 use lib.Dec.{leb}
 use lib.Ieee.{Float}
-use lib.IntN.{ℤ}
 use lib.ListN.{length}
 use Rattle.pack.specs.declared.Header.{Header}
 use Rattle.pack.specs.declared.TileKey.{TileKey}
 use Rattle.pages.specs.declared.MaybeKey.{MaybeKey}
-use Rattle.pages.proofs.Below.{and-left, and-right}
-use Rattle.geo.specs.declared.Point.{Point}
+use Rattle.pages.proofs.Below.{and-right}
 use Rattle.cache.specs.Lookups.{touched}
 use Rattle.cache.specs.State as Caches
-use Rattle.cache.specs.State.{stateOk, cleared}
+use Rattle.cache.specs.State.{cleared}
 use Rattle.cache.specs.declared.Cache.{Cache}
 use Rattle.cache.specs.declared.Got.{Got}
-use Rattle.cache.specs.declared.MaybeLoading.{MaybeLoading}
 use Rattle.cache.specs.declared.Pending.{Pending}
 use Rattle.cache.specs.declared.Pending.the-variants as Pending
 use Rattle.cache.specs.Search.{lowest}
@@ -28,11 +25,8 @@ use Rattle.load.specs.Loads as Loads
 use Rattle.load.specs.Loads.{withdrawn, forgot, dropped, moved, further, readied}
 use Rattle.cache_lists.specs.Lists as Cached
 use Rattle.cache_lists.proofs.Steps.{Gets, denied, ringed, unknown, handed, get-is, Step, refuses, knows, uses, noPages, fails, lacks, begins, goesOn, readies, spoils, load-is, from-is}
-use Rattle.cache_lists.proofs.Inv.{Inv, inv-ok, inv-fresh, without-count}
+use Rattle.cache_lists.proofs.Inv.{Inv, inv-ok, inv-fresh}
 use Rattle.cache_lists.proofs.Safe.{inv-call, clear-is}
-use Rattle.candidates.specs.declared.Heading.{Heading}
-use Rattle.candidates.specs.declared.Matched.{Matched}
-use Rattle.matcher.specs.declared.Matcher.{Matcher}
 use Rattle.follower.specs.Publish.{nothingAhead}
 use Rattle.follower.specs.State as Followers
 use Rattle.engine.specs.State.{needOk, pendingBy, pendingOk, reloadLimit, placesOk, sharedOk, engineOk}

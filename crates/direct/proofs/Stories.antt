@@ -2,7 +2,7 @@
 -- a step finishes is worked out of that alone. Assumes nothing.
 use Prim.Native.Nat.{ℕ, _≤_}
 use mathlib.Core.Path.{_≡_, refl, sym, ap, subst, _∙_}
-use mathlib.Core.Bool.{Bool, true, false, _&&_, not, cond, true≢false}
+use mathlib.Core.Bool.{Bool, true, false, not, cond, true≢false}
 use mathlib.Core.List.{List, [], _∷_, _++_}
 use lib.Dec.{eqb}
 use lib.Ieee.{Float}
@@ -20,7 +20,6 @@ use Rattle.matcher.specs.declared.Outcome as MatchOutcome
 use Rattle.matcher.specs.declared.Outcome.the-variants as Match
 use Rattle.predict.specs.declared.Outcome as RoadOutcome
 use Rattle.predict.specs.declared.Outcome.the-variants as Roads
-use Rattle.follower.specs.Fixes as Fixes
 use Rattle.follower.specs.State as Followers
 use Rattle.follower.specs.declared.Fix.{Fix}
 use Rattle.follower.specs.declared.Follower.{Follower}
@@ -34,9 +33,9 @@ use Rattle.engine.specs.declared.Engine.{Engine}
 use Rattle.direct.specs.Lists as Calls
 use Rattle.direct.specs.Lists.{World, Call, ofTaken, exec, start}
 use Rattle.direct.specs.Finished as Shows
-use Rattle.direct.specs.Finished.{Shown, nothing, isMatch, isRoad, stepShown, shown}
+use Rattle.direct.specs.Finished.{Shown, isMatch, isRoad, stepShown, shown}
 use Rattle.direct.specs.Direct.{Made, Told, Lookup, headerOf, directly, Held, newHeld, withMatcher, fixed, lostHeld, forgotten, Worked, idle, stuck, emptyWorked, matchWorked, roadWorked, currentWorked, keyWorked, fixWorked, stepWorkedBy, stepWorked, matchHeld, roadHeld, Direct, applied, settled, packAfter}
-use Rattle.direct.specs.Claims.{isFetching, toldOf, Fair, AllFair, madeOf, Answers}
+use Rattle.direct.specs.Claims.{isFetching, toldOf, AllFair, madeOf, Answers}
 use Rattle.direct.specs.Story as Story
 use Rattle.direct.specs.Story.{Event, taken, eventsOf, events, story, after, matcherOf, SameFinish, AllStories}
 use Rattle.direct.proofs.Ways.{Same, lends-is}

@@ -7,7 +7,6 @@ use mathlib.Core.List.{List, []}
 use native.Mathlib.Omega.{arith}
 use borrow.Author.Tests.{eqb-true, eqb-false}
 use lib.Dec.{eqb, leb}
-use lib.Ieee.{Float}
 use lib.ListN.{length}
 use Rattle.pack.specs.Grid.{keyOf, entryOf, inGrid, read}
 use Rattle.pack.specs.Sector.{parse, rules}
@@ -62,7 +61,7 @@ use Rattle.engine.specs.declared.Stepped.{Stepped}
 use Rattle.engine.proofs.FetchLaws.{withOpen}
 use Rattle.engine_states.proofs.CacheKept.{ok-parts}
 use Rattle.engine_states.proofs.KeptParts.{Ok, apart}
-use Rattle.direct.specs.Finished.{Task, none, offMap, match, road, roadTask, dueTask, gridTask, fixTask, needTask, phaseTask, openTask, taskOf, matchOf, roadAt}
+use Rattle.direct.specs.Finished.{Task, none, offMap, match, road, roadTask, gridTask, fixTask, needTask, phaseTask, openTask, taskOf, matchOf, roadAt}
 use Rattle.direct.specs.Claims.{isOpen, openRead, FairBytes, FairLent}
 
 -- ---- a step

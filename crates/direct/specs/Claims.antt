@@ -32,7 +32,7 @@ use Rattle.engine.specs.declared.Engine.{Engine}
 use Rattle.engine.specs.declared.Status.{Status}
 use Rattle.engine.specs.declared.Status.the-variants as Status
 use Rattle.direct.specs.Lists.{World, Call, fix, lost, reset, step, deliver, stepFrom, read, onCache, nearby, current, update, predict, cacheOf, number, exec, start, Along}
-use Rattle.direct.specs.Finished.{Shown, again, unanswered, isMatch, isRoad, shown, Task, none, offMap, match, road, taskOf}
+use Rattle.direct.specs.Finished.{Shown, again, isMatch, isRoad, shown, Task, none, offMap, match, road, taskOf}
 use Rattle.direct.specs.Direct.{Made, Told, Lookup, directly, newDirect, packAfter, directShows}
 
 -- ---- what the direct engine is told

@@ -3,7 +3,7 @@
 -- fetch open, or finished a match or road." It is written over `at`, which says how a tile of a pack is looked up; `directly` is document 01's
 -- direct lookup. Assumes nothing.
 use Prim.Native.Nat.{ℕ}
-use mathlib.Core.Bool.{Bool, true, false, not, cond}
+use mathlib.Core.Bool.{Bool, cond}
 use mathlib.Core.List.{List, [], _∷_, _++_}
 use lib.Dec.{eqb}
 use lib.Ieee.{Float}
