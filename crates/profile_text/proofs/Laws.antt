@@ -1,6 +1,6 @@
 -- Laws of the text and of its writers. Texts that are put one behind the other are put as one: none, one byte, two texts, the next byte of a text
 -- (`append-none`, `append-one`, `append-more`, `append-next`), and what is put from 0 on is how the buffer begins (`whole`).
--- Numbers in decimal by their last digit (`decimal-one`, `decimal-more`), and how long they are (`decimal-some`, `length-decimal`). Whole metres of 16 bits and how long
+-- Numbers in decimal by their last digit (`decimal-one`, `decimal-more`), and how long they are (`decimal-some`, `length-decimal`, `number-ends`). Whole metres of 16 bits and how long
 -- they are (`whole-metres-mag`, `length-metres`), a line (`length-line`), the lines of one sample more (`lines-more`), and samples by index (`length-samples`, `sample-at`). Assumes nothing.
 use Prim.Native.Nat.{ℕ, zero, suc, _+_, _*_, _/_, _%_, _^_, _<_, _≤_}
 use mathlib.Core.Path.{_≡_, refl, sym, ap, _∙_}
@@ -96,6 +96,10 @@ length-decimal k n h = length-digits 20 k n h
 pub decimal-some : (n : ℕ) → 1 ≤ length (decimal n)
 unfolding decimal
 decimal-some n = digits-some 19 n
+
+-- five bytes are enough for a number below 100,000
+pub number-ends : {b a : List ℕ} {at r : ℕ} (n : ℕ) → Appended b at (decimal n) a r → n < 100000 → r ≤ at + 5
+number-ends n h l = omega (arith, h .ends, length-decimal 4 n (omega arith))
 
 -- ---- whole metres, and a line
 

@@ -1,4 +1,6 @@
 // The text that the program `profile` prints: a heading and a line for each sample, metres ahead and rise in whole metres.
+pub mod drive;
+
 ghost use mathlib.Core.Path.{_≡_};
 ghost use mathlib.Core.List.{[], _∷_, _++_};
 ghost use Prim.Native.Nat.{_+_, _*_, _<_, _≤_};

@@ -1,7 +1,6 @@
 -- `put_line` meets its contract: the four parts of a line, one behind the other. Assumes nothing.
-use Prim.Native.Nat.{ℕ, _+_, _<_, _≤_}
+use Prim.Native.Nat.{_<_}
 use mathlib.Core.Path.{_≡_, ap, _∙_}
-use mathlib.Core.List.{List}
 use native.Mathlib.Nat.{mul-comm}
 use native.Mathlib.Omega.{arith}
 use lib.IntN.{ℤ}
@@ -10,17 +9,13 @@ use mir.Facts.{toZ-ofZ}
 use mir.Syntax.{w16}
 use mir.Val.{SFits, toZ, ofZ}
 use borrow.Author.Needs.{needs}
-use Rattle.profile_text.specs.Appended.{Appended}
-use Rattle.profile_text.specs.Text.{decimal, wholeMetres, line}
-use Rattle.profile_text.proofs.Laws.{append-more, length-decimal, length-metres}
+use Rattle.profile_text.specs.Text.{wholeMetres, line}
+use Rattle.profile_text.proofs.Laws.{append-more, number-ends, length-metres}
 use Rattle.profile_text.proofs.put_line.Statement.{statement}
 use Rattle.profile_text.proofs.put_line.Tie as tie
 
 rise : {dm r : ℤ} → SFits w16 dm → mag r < 32768 → r ≡ wholeMetres (toZ w16 (ofZ w16 dm)) → toZ w16 (ofZ w16 r) ≡ wholeMetres dm
 rise f ok is = toZ-ofZ {w = w16} (record { sfits = ok }) ∙ is ∙ ap wholeMetres (toZ-ofZ f)
-
-distance-ends : {b a : List ℕ} {at r : ℕ} (n : ℕ) → Appended b at (decimal n) a r → n < 100000 → r ≤ at + 5
-distance-ends n h l = omega (arith, h .ends, length-decimal 4 n (omega arith))
 
 mul-put-number : tie.Need-mul-put-number
 mul-put-number c = search needs
@@ -32,7 +27,7 @@ put-number-requires : tie.Need-put-number-requires
 put-number-requires c κs = search needs
 
 put-requires : tie.Need-put-requires
-put-requires c κs = omega (arith, distance-ends _ (c .before .put-number .ensures) (omega arith))
+put-requires c κs = omega (arith, number-ends _ (c .before .put-number .ensures) (omega arith))
 
 whole-metres-requires : tie.Need-whole-metres-requires
 whole-metres-requires c κs = search needs
@@ -41,7 +36,7 @@ put-signed-requires : tie.Need-put-signed-requires
 put-signed-requires c κs =
     omega (
       arith,
-      distance-ends _ (c .before .before .before .before .put-number .ensures) (omega arith),
+      number-ends _ (c .before .before .before .before .put-number .ensures) (omega arith),
       c .before .before .put .ensures .ends,
     )
 
@@ -51,7 +46,7 @@ put-requires-2 c κs =
     let w = c .before .before .whole-metres in
     omega (
       arith,
-      distance-ends _ (c .before .before .before .before .before .before .put-number .ensures) (omega arith),
+      number-ends _ (c .before .before .before .before .before .before .put-number .ensures) (omega arith),
       c .before .before .before .before .put .ensures .ends,
       rw (rise (s .fits .dm) (w .ok) (w .ensures)) at (c .before .put-signed .ensures .ends),
       length-metres (s .args .dm) (s .fits .dm .sfits),
