@@ -15,6 +15,7 @@ mod angles;
 mod bench;
 mod cache;
 mod crc;
+mod drive;
 mod engine;
 mod expected;
 mod ffi;
@@ -82,7 +83,7 @@ const FULL: Scale = Scale {
 fn compare(scale: &Scale) -> Vec<Tally> {
     let leaves = [numbers::compare(scale), crc::compare(scale), angles::compare(scale)];
     let rest = [format_and_geometry(scale), cache::compare(scale), matching::compare(scale)];
-    let last = [road::compare(scale), engine::compare(scale)];
+    let last = [road::compare(scale), engine::compare(scale), drive::compare()];
     leaves.into_iter().chain(rest).chain(last).flatten().collect()
 }
 
@@ -116,9 +117,13 @@ fn main() -> ExitCode {
         ["bench", "road"] => road::bench::run(),
         ["bench", "engine"] => engine::bench::run(),
         ["panics"] => panics::print(),
+        ["gate", "drive"] => drive::compare(),
+        ["drive", pack, list] => drive::print(pack, list),
+        ["sample", pack, list] => drive::write(pack, list),
+        ["sample", pack, list, seed] => drive::write_any(pack, list, seed),
         _ => {
             eprintln!(
-                "usage: run [gate [cache | matching | road | engine] | full [format | cache | matching | road | engine] | bench [road | engine] | panics | list FILE | list_format FILE | list_cache FILE | list_matches FILE | list_roads FILE | list_engine FILE]"
+                "usage: run [gate [cache | matching | road | engine | drive] | full [format | cache | matching | road | engine] | bench [road | engine] | panics | list FILE | list_format FILE | list_cache FILE | list_matches FILE | list_roads FILE | list_engine FILE | drive PACK DRIVE | sample PACK DRIVE [SEED]"
             );
             return ExitCode::from(2);
         }
