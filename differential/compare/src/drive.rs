@@ -9,6 +9,7 @@ use crate::tally::Tally;
 use oracle_angles::cache::PAGE_BYTES;
 use oracle_angles::engine::{Ahead, Fix, Lookahead, Status};
 use oracle_angles::matcher::Matched;
+use oracle_angles::pack::{Error, Source};
 use oracle_angles::predict::End;
 use std::fs;
 
@@ -70,13 +71,30 @@ fn fix(line: &str) -> Option<Fix> {
     Some(Fix::from_e7(lat.parse().ok()?, lon.parse().ok()?, at.parse().ok()?))
 }
 
-fn text(pack: &[u8], drive: &str) -> String {
+/// A pack of which every so manieth read is missed, none with 0.
+struct Card<'p> {
+    pack: &'p [u8],
+    every: u64,
+    reads: u64,
+}
+
+impl Source for Card<'_> {
+    fn read(&mut self, offset: u64, buf: &mut [u8]) -> Result<(), Error> {
+        self.reads += 1;
+        if self.every > 0 && self.reads % self.every == 0 {
+            return Err(Error::Media);
+        }
+        self.pack.read(offset, buf)
+    }
+}
+
+fn text(pack: &[u8], drive: &str, every: u64) -> String {
     if drive.is_empty() {
         return "drive: the drive has no fixes\n".into();
     }
     let mut arena = vec![0; PAGES * PAGE_BYTES];
     let mut engine = Lookahead::new(&mut arena, HORIZON);
-    let (mut card, mut out) = (pack, String::from(HEADING));
+    let (mut card, mut out) = (Card { pack, every, reads: 0 }, String::from(HEADING));
     for (n, words) in drive.lines().enumerate() {
         let Some(fix) = fix(words) else {
             return out + &format!("drive: line {} is not latitude, longitude and time\n", n + 1);
@@ -93,9 +111,10 @@ fn text(pack: &[u8], drive: &str) -> String {
 }
 
 /// Prints what the program prints for these files.
-pub fn print(pack: &str, drive: &str) -> Vec<Tally> {
+pub fn print(pack: &str, drive: &str, every: &str) -> Vec<Tally> {
     let pack = fs::read(pack).expect("the pack can be read");
-    print!("{}", text(&pack, &fs::read_to_string(drive).expect("the drive can be read")));
+    let drive = fs::read_to_string(drive).expect("the drive can be read");
+    print!("{}", text(&pack, &drive, every.parse().expect("a number")));
     Vec::new()
 }
 
@@ -244,7 +263,7 @@ pub fn compare() -> Vec<Tally> {
     let stored = |name: &str| fs::read(format!("{STORED}/{name}")).expect("a stored file");
     let (pack, drive) = (sample_pack(), sample_drive());
     let mut tally = Tally::new("drive, stored sample");
-    let printed = text(&pack, &drive).into_bytes();
+    let printed = text(&pack, &drive, 0).into_bytes();
     for (name, made) in
         [("data/pack", pack), ("data/drive", drive.into_bytes()), ("stdout", printed)]
     {

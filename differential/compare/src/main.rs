@@ -118,12 +118,13 @@ fn main() -> ExitCode {
         ["bench", "engine"] => engine::bench::run(),
         ["panics"] => panics::print(),
         ["gate", "drive"] => drive::compare(),
-        ["drive", pack, list] => drive::print(pack, list),
+        ["drive", pack, list] => drive::print(pack, list, "0"),
+        ["drive", pack, list, every] => drive::print(pack, list, every),
         ["sample", pack, list] => drive::write(pack, list),
         ["sample", pack, list, seed] => drive::write_any(pack, list, seed),
         _ => {
             eprintln!(
-                "usage: run [gate [cache | matching | road | engine | drive] | full [format | cache | matching | road | engine] | bench [road | engine] | panics | list FILE | list_format FILE | list_cache FILE | list_matches FILE | list_roads FILE | list_engine FILE | drive PACK DRIVE | sample PACK DRIVE [SEED]"
+                "usage: run [gate [cache | matching | road | engine | drive] | full [format | cache | matching | road | engine] | bench [road | engine] | panics | list FILE | list_format FILE | list_cache FILE | list_matches FILE | list_roads FILE | list_engine FILE | drive PACK DRIVE [K] | sample PACK DRIVE [SEED]"
             );
             return ExitCode::from(2);
         }
