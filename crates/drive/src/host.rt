@@ -61,7 +61,7 @@ fn read_and_deliver(fd: i32, e: Engine, arena: &mut [u8], offset: u64, buf: &mut
     e.deliver(arena, 0, &buf[..])
 }
 
-// A fetch answered from the file.
+// A fetch answered from the file. None is longer than the buffer; one that were would count as missed.
 fn delivered(fd: i32, e: Engine, arena: &mut [u8], offset: u64, len: usize) -> Stepped {
     if LONGEST < len {
         return e.deliver(arena, 1, b"");

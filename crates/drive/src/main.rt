@@ -32,6 +32,15 @@ fn say(why: &[u8]) {
     io::write_all(libc::STDOUT_FILENO, b"\n");
 }
 
+fn say_line(number: u16) {
+    io::write_all(libc::STDOUT_FILENO, b"drive: line ");
+    io::print_decimal(libc::STDOUT_FILENO, number as u64);
+    io::write_all(
+        libc::STDOUT_FILENO,
+        b" is not latitude, longitude and time\n",
+    );
+}
+
 fn is_no_pack(status: Status) -> bool {
     match status {
         Status::NoPack => true,
@@ -41,15 +50,6 @@ fn is_no_pack(status: Status) -> bool {
         | Status::Fetch(_, _)
         | Status::Refused(_) => false,
     }
-}
-
-fn say_line(number: u16) {
-    io::write_all(libc::STDOUT_FILENO, b"drive: line ");
-    io::print_decimal(libc::STDOUT_FILENO, number as u64);
-    io::write_all(
-        libc::STDOUT_FILENO,
-        b" is not latitude, longitude and time\n",
-    );
 }
 
 // One fix, and steps until there is no more to do.
@@ -136,7 +136,7 @@ fn missed() -> fixes::Number {
     fixes::read_number(&word[..n], 0, 0)
 }
 
-// A file that an argument names, opened; -1 where it can't be, and the reason told.
+// A file that an argument names, opened; -1 where it can't be, and that is told.
 fn opened(i: usize) -> i32 {
     let mut path = io::buffer();
     let n = os::arg(i, &mut path);

@@ -1,4 +1,5 @@
 // The text that the program `profile` prints: a heading and a line for each sample, metres ahead and rise in whole metres.
+// `drive` has the line that the program `drive` prints for a fix.
 pub mod drive;
 
 ghost use mathlib.Core.Path.{_≡_};

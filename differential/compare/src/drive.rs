@@ -71,7 +71,7 @@ fn fix(line: &str) -> Option<Fix> {
     Some(Fix::from_e7(lat.parse().ok()?, lon.parse().ok()?, at.parse().ok()?))
 }
 
-/// A pack of which every so manieth read is missed, none with 0.
+/// A pack whose reads are missed by number: each multiple of `every`, none with 0.
 struct Card<'p> {
     pack: &'p [u8],
     every: u64,
