@@ -12,13 +12,18 @@ type Change = (&'static str, &'static str);
 type Changes = (&'static str, &'static [Change]);
 
 const FILES: [Changes; 7] = [
-    ("cache.rs", &[SLOT, LOADING, CACHE, NO_PAGES, DROPPED, NO_TILE, NO_ROOM, CORRUPT, WRAPS]),
+    ("cache.rs", CACHE_COUNTED),
     ("engine.rs", engine::COUNTED),
     ("geo.rs", &[(BEARING, BEARING_OF_PORT)]),
     ("matcher.rs", &[MATCHER, LOST, JOINED, HELD, SWITCHED, PAST, INHERITED, REVERSED, NINTH]),
     ("pack.rs", &[]),
     ("predict.rs", predict::COUNTED),
     ("tile.rs", &[]),
+];
+
+const CACHE_COUNTED: &[Change] = &[
+    SLOT, LOADING, CACHE, NO_PAGES, DROPPED, NO_TILE, NO_ROOM, CORRUPT, WRAPS, FOUND, LOADED,
+    ACROSS,
 ];
 
 const BEARING: &str = "    let degrees = libm::atan2f(east, north).to_degrees();
@@ -132,6 +137,35 @@ const WRAPS: Change = (
 ",
     "        self.next_missing = (self.next_missing + 1) % MISSING;
         crate::took(crate::Path::RingWraps, self.next_missing == 0);
+",
+);
+// The clock and the count of loads at their end.
+const FOUND: Change = (
+    "                self.used[index].set(now);
+",
+    "                self.used[index].set(now);
+                crate::took(crate::Path::ClockWraps, now == 0);
+",
+);
+const LOADED: Change = (
+    "            self.loads = self.loads.wrapping_add(1);
+",
+    "            self.loads = self.loads.wrapping_add(1);
+            crate::took(crate::Path::ClockWraps, now == 0);
+            crate::took(crate::Path::LoadsWrap, self.loads == 0);
+",
+);
+const ACROSS: Change = (
+    "        let now = self.clock.get();
+        let age = |page: usize| {
+",
+    "        let now = self.clock.get();
+        let has = |before| {
+            let mut heads = self.slots.iter().zip(&self.used).filter(|(slot, _)| slot.key.is_some());
+            heads.any(|(_, used)| (used.get() > now) == before)
+        };
+        crate::took(crate::Path::VictimAcross, has(true) && has(false));
+        let age = |page: usize| {
 ",
 );
 

@@ -7,6 +7,14 @@ pub const COUNTED: &[Change] = &[
     // The state.
     ("enum Pack {", "pub enum Pack {"),
     (
+        "    horizon_m: f32,
+    ahead: Ahead,
+",
+        "    horizon_m: f32,
+    pub ahead: Ahead,
+",
+    ),
+    (
         "    cache: Cache<'a>,
     pack: Pack,
     failures: u8,
@@ -159,6 +167,13 @@ pub const COUNTED: &[Change] = &[
                         return Status::NoPack;
 ",
     ),
+    (
+        "        self.steps = self.steps.wrapping_add(1);
+",
+        "        self.steps = self.steps.wrapping_add(1);
+        crate::took(crate::Path::StepsWrap, self.steps == 0);
+",
+    ),
     // Where the fix lies.
     (
         "            return Status::Idle;
@@ -259,6 +274,13 @@ pub const COUNTED: &[Change] = &[
     /// Ask for `key`,",
     ),
     // What is published.
+    (
+        "        self.ahead.generation = self.ahead.generation.wrapping_add(1);
+",
+        "        self.ahead.generation = self.ahead.generation.wrapping_add(1);
+        crate::took(crate::Path::GenerationWraps, self.ahead.generation == 0);
+",
+    ),
     (
         "        self.ahead.end = end;
 ",

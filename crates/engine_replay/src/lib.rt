@@ -2,6 +2,7 @@
 pub mod call;
 pub mod heights;
 pub mod packs;
+pub mod set;
 pub mod tell;
 pub mod tiles;
 

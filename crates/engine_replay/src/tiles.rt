@@ -42,7 +42,7 @@ fn of_clearing(answer: Clearing) -> Told {
 }
 
 // The state with another cache in its engine.
-fn with_cache(s: State, c: Cache) -> State {
+pub fn with_cache(s: State, c: Cache) -> State {
     let mut e = s.engine;
     let mut shared = e.shared;
     shared.cache = c;

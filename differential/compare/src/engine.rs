@@ -140,6 +140,19 @@ impl Writer<'_> {
         [WORKING, 0, 0, 0]
     }
 
+    /// The clock set, and each run's age as far behind it as it was.
+    pub fn wind(&mut self, clock: u32) {
+        let cache = &self.oracle.engine.cache;
+        let moved = clock.wrapping_sub(cache.clock.get());
+        let heads = cache.slots.iter().zip(&cache.used).enumerate();
+        let heads = heads.filter(|(_, (slot, _))| slot.key.is_some());
+        let ages: Vec<_> = heads.map(|(n, (_, used))| [used.get(), n as u32]).collect();
+        self.put(SET, &[CLOCK, clock]);
+        for [used, page] in ages {
+            self.put(SET, &[USED, used.wrapping_add(moved), page]);
+        }
+    }
+
     /// The last answer's word `n`.
     pub fn last(&self, n: usize) -> u32 {
         self.answers[self.answers.len() - 1].head[n]

@@ -77,6 +77,15 @@ unsafe extern "C" {
         out: *mut u8,
         out_len: usize,
     ) -> usize;
+    fn terrain_repeat(
+        script: *const u8,
+        script_len: usize,
+        packs: *const u8,
+        packs_len: usize,
+        arena: *mut u8,
+        arena_len: usize,
+        times: u32,
+    ) -> u32;
     fn terrain_road_repeat(
         script: *const u8,
         script_len: usize,
@@ -157,6 +166,10 @@ pub fn repeat_matches(script: &[u8], pack: &[u8], arena: &mut [u8], times: u32) 
 
 pub fn repeat_roads(script: &[u8], pack: &[u8], arena: &mut [u8], times: u32) -> u32 {
     repeated(terrain_road_repeat, script, pack, arena, times)
+}
+
+pub fn repeat_engine(script: &[u8], packs: &[u8], arena: &mut [u8], times: u32) -> u32 {
+    repeated(terrain_repeat, script, packs, arena, times)
 }
 
 fn repeated(run: Repeat, script: &[u8], pack: &[u8], arena: &mut [u8], times: u32) -> u32 {

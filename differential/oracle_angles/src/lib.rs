@@ -152,6 +152,10 @@ counted! { Path, PATHS;
     NoRoom: "tile missing: too large",
     Corrupt: "tile missing: corrupt",
     RingWraps: "ring of missing tiles wraps",
+    ClockWraps: "clock passes 2^32",
+    VictimAcross: "victim of runs used before and after that",
+    LoadsWrap: "count of loads passes 2^32",
+    StepsWrap: "count of steps passes 2^32",
     NoFix: "no fix",
     OffMapPublished: "off the map with a published match",
     OffMapNothing: "off the map without",
@@ -168,6 +172,7 @@ counted! { Path, PATHS;
     RoadNeeds: "road needs a tile",
     RoadLimit: "reload limit in a road",
     Road: "road published",
+    GenerationWraps: "generation passes 2^32",
     NothingDue: "nothing due",
 }
 

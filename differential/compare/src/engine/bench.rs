@@ -1,25 +1,25 @@
 //! Nanoseconds a step, the port beside the unaltered Rust: idle, the header, a chunk, a tile's last
-//! chunk, a match, a road. Both run turns of calls that end with such steps, and the same turns
-//! without them; the port's script then has records of no kind in their place, so that answers and
-//! their sums cost the same in both. One record a step: `step_from`.
+//! chunk, a match, a road. Each step runs many times from one state: the port's by `terrain_repeat`,
+//! the Rust's on a copy of the engine. What repeating costs by itself, a record of no kind and the
+//! copy alone, is taken off. Passes of both take turns, and medians count. A step is `step_from`.
 use super::script::*;
 use super::{Case, joined};
-use crate::cache::script::{Record, record};
+use crate::cache::script::{Record, bytes, record};
 use crate::matching::roads::{Grid, Network, Road};
 use crate::road::networks::{highway, plain};
 use crate::{ffi_cache, random::Random, tally::Tally};
 use oracle::engine::{Fix, Lookahead};
 use oracle_angles::cache::PAGE_BYTES;
-use std::{hint::black_box, time::Instant};
+use std::{hint::black_box, mem::ManuallyDrop, ptr, time::Instant};
 
-const PASSES: usize = 15;
-const TURNS: u64 = 40;
+const PASSES: usize = 41;
+const TIMES: u32 = 1_000;
 const SOUTH: i32 = 47_000_000;
 const WEST: i32 = 8_000_000;
 /// No kind of record.
 const NO_KIND: u32 = 8;
 
-/// A call of a turn.
+/// A call before the step that is timed.
 #[derive(Clone, Copy)]
 enum Call {
     Reset,
@@ -28,22 +28,24 @@ enum Call {
     Fix(i32, u64),
 }
 
-fn best(mut run: impl FnMut()) -> f64 {
-    let mut pass = |_| {
-        let start = Instant::now();
-        run();
-        start.elapsed().as_nanos() as f64
-    };
-    (0..PASSES).map(&mut pass).fold(f64::INFINITY, f64::min)
+/// Nanoseconds of each of the runs in `run`.
+fn nanoseconds(run: impl FnOnce()) -> f64 {
+    let start = Instant::now();
+    run();
+    start.elapsed().as_nanos() as f64 / f64::from(TIMES)
+}
+
+fn median(mut times: Vec<f64>) -> f64 {
+    times.sort_by(f64::total_cmp);
+    times[times.len() / 2]
 }
 
 struct Bench<'n> {
     name: &'static str,
     network: &'n Network,
     pages: usize,
-    turn: fn(u64) -> Vec<Call>,
-    /// Steps at a turn's end, which are timed.
-    timed: usize,
+    /// The calls from the setup to the step.
+    calls: Vec<Call>,
 }
 
 /// Two fixes, and steps until a road is published.
@@ -67,39 +69,16 @@ impl Bench<'_> {
         }
     }
 
-    /// The setup, then all turns; the timed steps of each are there or are not.
-    fn case(&self, is_there: bool) -> Case {
+    /// The setup and the calls, then a record of this kind.
+    fn case(&self, last: u32) -> Case {
         let arena = vec![0; self.pages * PAGE_BYTES];
         Case::new(vec![self.network.pack.bytes.clone()], arena, |writer| {
-            let mut put = |record: Record| writer.put(record[0], &record[1..]);
-            setup().for_each(|call| {
-                put(self.record(call));
-            });
-            for n in 0..TURNS {
-                (self.turn)(n).into_iter().for_each(|call| {
-                    put(self.record(call));
-                });
-                (0..self.timed).for_each(|_| {
-                    put(record(if is_there { STEP_FROM } else { NO_KIND }, &[]));
-                });
+            for call in setup().chain(self.calls.iter().copied()) {
+                let record = self.record(call);
+                writer.put(record[0], &record[1..]);
             }
+            writer.put(last, &[]);
         })
-    }
-
-    fn of_port(&self, tally: &mut Tally) -> f64 {
-        let mut time = |is_there| {
-            let case = self.case(is_there);
-            case.count(tally, self.name);
-            let packs = joined(&case.packs);
-            best(|| {
-                black_box(ffi_cache::replay_engine(&case.script, &packs, &case.arena));
-            })
-        };
-        (time(true) - time(false)) / self.steps()
-    }
-
-    fn steps(&self) -> f64 {
-        TURNS as f64 * self.timed as f64
     }
 
     fn run(&self, engine: &mut Lookahead, call: Call) {
@@ -114,26 +93,40 @@ impl Bench<'_> {
         }
     }
 
-    fn of_rust(&self) -> f64 {
-        let mut arena = vec![0; self.pages * PAGE_BYTES];
-        let mut time = |is_there| {
-            best(|| {
-                let mut engine = Lookahead::new(&mut arena, 10_000.0);
-                setup().for_each(|call| self.run(&mut engine, call));
-                for n in 0..TURNS {
-                    (self.turn)(n).into_iter().for_each(|call| self.run(&mut engine, call));
-                    let timed = if is_there { self.timed } else { 0 };
-                    (0..timed).for_each(|_| self.run(&mut engine, Call::Step));
-                }
-            })
-        };
-        (time(true) - time(false)) / self.steps()
+    /// Copies of the engine, each with the step or without.
+    fn copies(&self, engine: &Lookahead, is_there: bool) {
+        for _ in 0..TIMES {
+            // SAFETY: of engine and copy, which lend the same arena, only the copy is used while it
+            // lives, and an engine owns nothing that is dropped.
+            let mut copy = ManuallyDrop::new(unsafe { ptr::read(black_box(engine)) });
+            if is_there {
+                self.run(&mut copy, Call::Step);
+            }
+            black_box(&mut copy);
+        }
     }
 
     fn beside(&self) -> Tally {
+        let (full, empty) = (self.case(STEP_FROM), self.case(NO_KIND));
         let mut tally = Tally::new(self.name);
-        let port = self.of_port(&mut tally);
-        let rust = self.of_rust();
+        full.count(&mut tally, self.name);
+        let (packs, mut lent) = (joined(&full.packs), full.arena.clone());
+        let scripts = [&full, &empty].map(|case| bytes(&case.script));
+        let mut arena = vec![0; self.pages * PAGE_BYTES];
+        let mut engine = Lookahead::new(&mut arena, 10_000.0);
+        let calls = setup().chain(self.calls.iter().copied());
+        calls.for_each(|call| self.run(&mut engine, call));
+        let mut port = |n: usize| {
+            nanoseconds(|| {
+                black_box(ffi_cache::repeat_engine(&scripts[n], &packs, &mut lent, TIMES));
+            })
+        };
+        let rust = |is_there| nanoseconds(|| self.copies(&engine, is_there));
+        let mut passes = vec![[0.0; 2]; PASSES];
+        for pass in &mut passes {
+            *pass = [port(0) - port(1), rust(true) - rust(false)];
+        }
+        let [port, rust] = [0, 1].map(|n| median(passes.iter().map(|pass| pass[n]).collect()));
         let ratio = port / rust;
         println!("{:<24} port {port:>10.0} ns  Rust {rust:>10.0} ns  ratio {ratio:.2}", self.name);
         tally
@@ -153,26 +146,20 @@ fn steps(count: usize) -> Vec<Call> {
     [Call::Reset].into_iter().chain((0..count).map(|_| Call::Step)).collect()
 }
 
-/// A fix back or forth on one edge.
-fn moved(n: u64, at: u64) -> Call {
-    Call::Fix(9_400 + (n % 2) as i32 * 100, at)
-}
-
 pub fn run() -> Vec<Tally> {
     let grid = Grid { size: 20_000, rows: 1, cols: 2, south: SOUTH, west: WEST, lon_um: 75_834 };
     let road = highway(grid, 200.0, 0, &mut Random(4));
     // A tile of three chunks and a short one in one page, and one of 24 chunks.
     let (small, large) = (vertices(1_300), vertices(8_000));
-    let bench =
-        |name, network, pages, turn, timed| Bench { name, network, pages, turn, timed }.beside();
+    let bench = |name, network, pages, calls| Bench { name, network, pages, calls }.beside();
     vec![
-        bench("step, idle", &road, 2, |_| vec![], 20),
-        bench("step, header", &road, 2, |_| vec![Call::Reset], 1),
-        bench("step, chunk", &small, 1, |_| steps(3), 3),
-        bench("step, last of 4 chunks", &small, 1, |_| steps(6), 1),
-        bench("step, last of 24 chunks", &large, 6, |_| steps(26), 1),
+        bench("step, idle", &road, 2, vec![]),
+        bench("step, header", &road, 2, vec![Call::Reset]),
+        bench("step, chunk", &small, 1, steps(3)),
+        bench("step, last of 4 chunks", &small, 1, steps(6)),
+        bench("step, last of 24 chunks", &large, 6, steps(26)),
         // The fix's time stands still, so that no road is due.
-        bench("step, match", &road, 2, |n| vec![moved(n, 1_000)], 1),
-        bench("step, road", &road, 2, |n| vec![moved(n, 4_000 + 2_000 * n), Call::Step], 1),
+        bench("step, match", &road, 2, vec![Call::Fix(9_400, 1_000)]),
+        bench("step, road", &road, 2, vec![Call::Fix(9_400, 4_000), Call::Step]),
     ]
 }

@@ -81,7 +81,7 @@ pub fn write(file: &str) -> Vec<Tally> {
     for number in [8, 9, 11, 12] {
         assert!(tally.ended(told([REFUSED, number, 0, 0])), "no refusal {number}");
     }
-    for how in [IDLE, WORKING, NO_PACK, OFF_MAP, FETCH] {
+    for how in [IDLE, WORKING, NO_PACK, OFF_MAP, FETCH, IS_SET] {
         assert!(other.ended(told([how, 0, 0, 0])), "no ending {how}");
     }
     assert!(blocks.bytes.len() <= LEFT, "{} bytes", blocks.bytes.len());

@@ -121,7 +121,25 @@ impl<'a> Oracle<'a> {
                 self.open = None;
                 ends(CLEARED)
             }
+            SET => {
+                self.set(record);
+                ends(IS_SET)
+            }
             _ => ends(OTHER),
+        }
+    }
+
+    /// A count as a record sets it.
+    fn set(&mut self, record: &Record) {
+        let [_, which, value, page, ..] = *record;
+        let (e, page) = (&mut self.engine, page as usize);
+        match which {
+            CLOCK => e.cache.clock.set(value),
+            USED => e.cache.used.iter().skip(page).take(1).for_each(|age| age.set(value)),
+            LOADS => e.cache.loads = value,
+            STEPS => e.steps = value,
+            GENERATION => e.ahead.generation = value,
+            _ => {}
         }
     }
 

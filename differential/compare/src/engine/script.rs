@@ -17,6 +17,14 @@ pub const STEP_FROM: u32 = 7;
 pub const GET: u32 = 16;
 pub const LOAD_FROM: u32 = 17;
 pub const CLEAR: u32 = 18;
+pub const SET: u32 = 32;
+
+/// The counts that a record sets.
+pub const CLOCK: u32 = 0;
+pub const USED: u32 = 1;
+pub const LOADS: u32 = 2;
+pub const STEPS: u32 = 3;
+pub const GENERATION: u32 = 4;
 
 /// How a delivery is made.
 pub const BYTES: u32 = 0;
@@ -39,10 +47,11 @@ pub const LOADED: u32 = 19;
 pub const MORE: u32 = 20;
 pub const FAILED: u32 = 21;
 pub const CLEARED: u32 = 22;
+pub const IS_SET: u32 = 23;
 pub const OTHER: u32 = 63;
 
 /// How an answer can end, and its number.
-pub const ENDINGS: [(u32, &str); 15] = [
+pub const ENDINGS: [(u32, &str); 16] = [
     (IDLE, "Idle"),
     (WORKING, "Working"),
     (NO_PACK, "NoPack"),
@@ -57,6 +66,7 @@ pub const ENDINGS: [(u32, &str); 15] = [
     (MORE, "More"),
     (FAILED, "Failed"),
     (CLEARED, "Cleared"),
+    (IS_SET, "set"),
     (OTHER, "another kind"),
 ];
 

@@ -1,8 +1,8 @@
 //! Scripts for what trips seldom meet: a wrapped ring of missing tiles, limits of reloads, eight
-//! failures, headings that age, roads over all pages, times at the ends of their range.
+//! failures, headings that age, roads over all pages, counts and times at the ends of their range.
 use super::script::*;
 use super::sled::Sled;
-use super::trips::Host;
+use super::trips::{Host, aged};
 use super::{Case, Writer, packs};
 use crate::matching::roads::{Fate, Grid, Network, Place, Road};
 use crate::random::{Random, pick};
@@ -162,6 +162,24 @@ fn all_pages(random: &mut Random) -> Case {
     })
 }
 
+/// There and back over more tiles than there are pages, while the clock passes 2^32: which run a new
+/// tile replaces goes by ages on both sides of it.
+fn long_run(random: &mut Random) -> Case {
+    let network = highway(grid(1_500, 1, 40), 70.0, pick(&[0, 6], random), random);
+    let sled = Sled::new(&network);
+    let pages = pick(&[1, 2, 3, 5, 8, 13, 14, 20], random);
+    Case::new(vec![network.pack.bytes.clone()], vec![3; pages * PAGE_BYTES], |writer| {
+        let (from, every) = (random.below(20_000) as i64, pick(&[600, 1_000, 2_500], random));
+        let place = |n: i64| (from + 1_400 * (8 - (n - 8).abs()), 750, 0);
+        for part in 0..2 {
+            // Before the first load, and once runs have ages.
+            aged(writer, random);
+            let places: Vec<Place> = (8 * part..8 * part + 9).map(place).collect();
+            ride(writer, random, &sled, &places, every);
+        }
+    })
+}
+
 /// A ride over small tiles with so many pages.
 fn of_pages(pages: u64, random: &mut Random) -> Case {
     let network = highway(grid(1_500, 1, 40), 70.0, pick(&[0, 6], random), random);
@@ -244,13 +262,14 @@ fn unreadable(random: &mut Random) -> Case {
 /// A kind of case, and its name.
 type Kind = (&'static str, fn(&mut Random) -> Case);
 
-const KINDS: [Kind; 8] = [
+const KINDS: [Kind; 9] = [
     ("ring", ring),
     ("match limit", match_limit),
     ("road limit", road_limit),
     ("failures", failures),
     ("ageing", ageing),
     ("all pages", all_pages),
+    ("long run", long_run),
     ("off and on", off_and_on),
     ("unreadable", unreadable),
 ];

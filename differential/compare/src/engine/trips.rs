@@ -151,8 +151,18 @@ impl Host {
             5 => self.renew(writer, random),
             6 => self.far_fix(writer, random),
             7 => writer.put(pick(&NO_KINDS, random), &[]),
+            8 => self.set(writer, random),
             _ => self.direct(writer, random),
         };
+    }
+
+    /// A count of any value, one of a page or of a kind that is not there too.
+    fn set(&self, writer: &mut Writer, random: &mut Random) -> Ending {
+        let now = writer.oracle.engine.cache.clock.get();
+        let some = pick(&[0, 1, now, now.wrapping_add(1), u32::MAX, random.bits()], random);
+        let page = pick(&[0, 1, 2, 3, 95, 96, u32::MAX], random);
+        let which = pick(&[CLOCK, USED, USED, USED, LOADS, STEPS, GENERATION, 5, u32::MAX], random);
+        writer.put(SET, &[which, some, page])
     }
 
     /// A fix that is refused.
@@ -216,11 +226,25 @@ fn tour(sled: &Sled, writer: &mut Writer, random: &mut Random, most: usize) {
     }
 }
 
+/// Counts as after a long time: the clock shortly before 2^32, and the others at times.
+pub fn aged(writer: &mut Writer, random: &mut Random) {
+    let within = pick(&[4, 40, 400], random);
+    writer.wind(u32::MAX - random.below(within) as u32);
+    for which in [LOADS, STEPS, GENERATION] {
+        if random.below(2) == 0 {
+            writer.put(SET, &[which, u32::MAX - random.below(6) as u32]);
+        }
+    }
+}
+
 /// A script of about so many records on one network.
 pub fn case(sled: &Sled, packs: Vec<Vec<u8>>, arena: Vec<u8>, most: usize, seed: u64) -> Case {
     let random = &mut Random(seed);
     Case::new(packs, arena, |writer| {
         while writer.script.len() < most {
+            if random.below(3) == 0 {
+                aged(writer, random);
+            }
             tour(sled, writer, random, most);
         }
     })
