@@ -2,10 +2,13 @@
 // with a mark for each run that was checked: so a call checks each run that it lands on once, and a late 12 gives back the state by itself.
 use cache::Cache;
 use cache::Lookup;
-use cache::look::Landing;
 use pack::TileKey;
 use pages::Pages;
 ghost use mathlib.Core.Path.{_≡_};
+ghost use mathlib.Core.Bool.{false, cond};
+ghost use Rattle.pages.specs.Runs.{slotAt};
+ghost use Rattle.pages.specs.declared.victim.Found.the-variants as Found;
+ghost use Rattle.cache.specs.Keys as Keys;
 ghost use Rattle.ages.specs.Ages as Ages;
 
 // The clock, the age of each page, and which runs were checked, by their first page.
@@ -83,34 +86,75 @@ fn mark(a: Carried, i: usize) -> Carried
     d
 }
 
+// The lowest ready run of a tile, with its length: one search copies the slots once. Past the last page, and of no length, where there is none.
+struct Run {
+    ready: bool,
+    at: usize,
+    len: usize,
+}
+
+fn no_run() -> Run
+    ensures { λ r. ⌜ r ≡ record { ready = false; at = 96; len = 0 } ⌝ }
+{
+    Run {
+        ready: false,
+        at: pages::MAX_PAGES,
+        len: 0,
+    }
+}
+
+fn ready_run(g: Pages, key: TileKey) -> Run
+    ensures { λ r. ⌜ Keys.readyAt g key ≡ cond (r .ready) (Found.At (r .at)) Found.Nothing ⌝ }
+    ensures { λ r. ⌜ r .len ≡ slotAt (g .slots) (r .at) .len ⌝ }
+{
+    let n = g.count;
+    let mut i = 0;
+    while i < n {
+        if pages::MAX_PAGES <= i {
+            return no_run();
+        }
+        let s = g.slots[i];
+        if cache::keys::is_ready(s, key) {
+            return Run {
+                ready: true,
+                at: i,
+                len: s.len,
+            };
+        }
+        i += 1;
+    }
+    no_run()
+}
+
 // A lookup: the ring first, then the lowest ready run.
 pub fn look_up(c: Cache, arena: &[u8], size: u32, a: Carried, key: TileKey) -> Hit
     ensures { λ r. ⌜ r ≡ Ages.lookUp c (now (arena .entry)) size a key ⌝ }
 {
-    match cache::look::lands_on(c, key) {
-        Landing::Missing => Hit {
+    let ring = c.missing;
+    if cache::keys::in_ring(ring, key) {
+        return Hit {
             answer: Lookup::Missing,
             carried: a,
-        },
-        Landing::Nothing => Hit {
+        };
+    }
+    let g = c.pages;
+    let run = ready_run(g, key);
+    if !run.ready {
+        return Hit {
             answer: Lookup::Absent,
             carried: a,
-        },
-        Landing::At(i) => {
-            let g = c.pages;
-            let s = pages::slot_at(g, i);
-            if known(arena, a, i, s.len, key, size) {
-                let d = mark(a, i);
-                return Hit {
-                    answer: Lookup::Ready(i, s.len),
-                    carried: d,
-                };
-            }
-            Hit {
-                answer: Lookup::Refused(12),
-                carried: a,
-            }
-        }
+        };
+    }
+    if known(arena, a, run.at, run.len, key, size) {
+        let d = mark(a, run.at);
+        return Hit {
+            answer: Lookup::Ready(run.at, run.len),
+            carried: d,
+        };
+    }
+    Hit {
+        answer: Lookup::Refused(12),
+        carried: a,
     }
 }
 

@@ -176,7 +176,12 @@ pub fn called(s: State, kind: u32, record: &[u8], packs: &[u8], arena: &mut [u8]
         16 => tiles::get(s, &arena[..], key),
         17 => tiles::load_from(s, arena, key, pack),
         18 => tiles::clear(s),
-        32 => set::count(s, first, words::word(record, 2), words::word(record, 3) as usize),
+        32 => set::count(
+            s,
+            first,
+            words::word(record, 2),
+            words::word(record, 3) as usize,
+        ),
         _ => other(s),
     }
 }

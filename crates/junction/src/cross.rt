@@ -170,6 +170,10 @@ pub fn cross(
     };
     let mut i = 0;
     while i < 8 {
+        // No tile is left, and the state is not copied for the rest.
+        if twins.len <= i {
+            return x;
+        }
         let twin = twins.v[i];
         x = cross_step(x, c, arena, a, v, twin, i, twins.len);
         i += 1;

@@ -110,8 +110,12 @@ fn gather(c: Cache, arena: &[u8], q: Query, near: NearKeys) -> Gathered
     while i < 4 {
         let place = near.keys[i];
         let key = place.key;
-        g = gather_step(g, arena, q, key);
         i += 1;
+        // Without a key there is nothing to gather, and the state is not copied.
+        let MaybeKey::Key(_) = key else {
+            continue;
+        };
+        g = gather_step(g, arena, q, key);
     }
     g
 }

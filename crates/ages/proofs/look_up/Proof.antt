@@ -1,24 +1,32 @@
--- `ages::look_up` meets its contract: each return by what the lookup landed on, and a ready run by its check. Assumes nothing.
+-- `ages::look_up` meets its contract: each return by the ring, by the search for a ready run, and by the run's check. Assumes nothing.
 use mathlib.Core.Path.{sym, _∙_}
 use borrow.Author.Needs.{needs}
+use borrow.Author.Tests.{not-true, not-false}
+use Rattle.cache.specs.Lookups.{landsOn}
 use Rattle.ages.specs.Ages.{lookUp}
 use Rattle.ages.proofs.look_up.Statement.{statement}
 use Rattle.ages.proofs.look_up.Tie as tie
 
-lands-on-requires : tie.Need-lands-on-requires
-lands-on-requires c κs = tt
+in-ring-requires : tie.Need-in-ring-requires
+in-ring-requires c κs = tt
 
-enum-told : tie.Need-enum-told
-enum-told c = search needs
+returns : tie.Need-returns
+unfolding lookUp landsOn
+returns c = rw (sym (c .before .in-ring .ensures) ∙ c .if1 .taken)
 
-enum-told-2 : tie.Need-enum-told-2
-enum-told-2 c = search needs
+ready-run-requires : tie.Need-ready-run-requires
+ready-run-requires c κs = tt
 
-enum-known-i : tie.Need-enum-known-i
-enum-known-i c = search needs
-
-slot-at-requires : tie.Need-slot-at-requires
-slot-at-requires c κs = tt
+returns-2 : tie.Need-returns-2
+unfolding lookUp landsOn
+returns-2 c =
+    let run = c .before .before in
+    let ring = run .before .before in
+    rw (
+      sym (ring .before .in-ring .ensures) ∙ ring .if1 .left,
+      run .ready-run .ensures .0,
+      not-true (run .ready-run .result .ready) (c .if2 .taken),
+    )
 
 known-requires : tie.Need-known-requires
 known-requires c κs = tt
@@ -26,50 +34,44 @@ known-requires c κs = tt
 mark-requires : tie.Need-mark-requires
 mark-requires c κs = tt
 
-returns : tie.Need-returns
-unfolding lookUp
-returns c =
+returns-3 : tie.Need-returns-3
+unfolding lookUp landsOn
+returns-3 c =
     let checked = c .before .before in
-    let run = checked .before in
-    let found = run .before .before .before in
+    let run = checked .before .before .before in
+    let ring = run .before .before in
     rw (
-      sym (found .before .before .lands-on .ensures) ∙ found .i .given .1,
-      ← run .slot-at .ensures,
-      sym (checked .known .ensures) ∙ c .before .if1 .taken,
+      sym (ring .before .in-ring .ensures) ∙ ring .if1 .left,
+      run .ready-run .ensures .0,
+      not-false (run .ready-run .result .ready) (checked .before .if2 .left),
+      ← run .ready-run .ensures .1,
+      sym (checked .known .ensures) ∙ c .before .if3 .taken,
       c .mark .ensures,
     )
 
-returns-2 : tie.Need-returns-2
-unfolding lookUp
-returns-2 c = rw (sym (c .before .before .lands-on .ensures) ∙ c .enum-told .given .1)
-
-returns-3 : tie.Need-returns-3
-unfolding lookUp
-returns-3 c = rw (sym (c .before .before .lands-on .ensures) ∙ c .enum-told2 .given .1)
-
 returns-4 : tie.Need-returns-4
-unfolding lookUp
+unfolding lookUp landsOn
 returns-4 c =
-    let run = c .before .before in
-    let found = run .before .before .before in
+    let checked = c .before in
+    let run = checked .before .before .before in
+    let ring = run .before .before in
     rw (
-      sym (found .before .before .lands-on .ensures) ∙ found .i .given .1,
-      ← run .slot-at .ensures,
-      sym (c .before .known .ensures) ∙ c .if1 .left,
+      sym (ring .before .in-ring .ensures) ∙ ring .if1 .left,
+      run .ready-run .ensures .0,
+      not-false (run .ready-run .result .ready) (checked .before .if2 .left),
+      ← run .ready-run .ensures .1,
+      sym (checked .known .ensures) ∙ c .if3 .left,
     )
 
 pub look-up-spec : {M : Type 1} → statement M
 look-up-spec =
     tie.close
     (tie.spec
-    lands-on-requires
-    enum-told
-    enum-told-2
-    enum-known-i
-    slot-at-requires
+    in-ring-requires
+    returns
+    ready-run-requires
+    returns-2
     known-requires
     mark-requires
-    returns
-    returns-2
     returns-3
     returns-4)

@@ -177,6 +177,17 @@ fn long_run(random: &mut Random) -> Case {
             let places: Vec<Place> = (8 * part..8 * part + 9).map(place).collect();
             ride(writer, random, &sled, &places, every);
         }
+        // By calls on the cache alone, since a road uses every tile that it meets.
+        for n in 0..60 {
+            if n % 20 == 0 {
+                aged(writer, random);
+            }
+            let key = random.below(40) as u32;
+            let (kind, times) = pick(&[(GET, 1), (LOAD_FROM, 3)], random);
+            (0..times).for_each(|_| {
+                writer.put(kind, &[key]);
+            });
+        }
     })
 }
 

@@ -1,14 +1,25 @@
--- `matcher::gather::gather` meets its contract. The loop's invariant: what was gathered is the definition's over as many tiles.
--- Assumes nothing.
-use Prim.Native.Nat.{_-_, _≤_}
-use mathlib.Core.Path.{_≡_, sym}
+-- `matcher::gather::gather` meets its contract. The loop's invariant: what was gathered is the definition's over as many tiles. A place without
+-- a key adds nothing. Assumes nothing.
+use Prim.Native.Nat.{ℕ, _-_, _≤_}
+use mathlib.Core.Path.{_≡_, refl, sym, _∙_}
+use mathlib.Core.List.{List}
 use native.Mathlib.Omega.{arith}
 use borrow.Author.Needs.{needs}
 use Rattle.cache.specs.Direct.{look}
-use Rattle.matcher.specs.Gather.{runTo, gatheredOf, gathered}
+use Rattle.pages.specs.declared.MaybeKey.the-variants as MaybeKey
+use Rattle.candidates.specs.declared.Query.{Query}
+use Rattle.matcher.specs.declared.gather.Ending.{Ending}
+use Rattle.matcher.specs.declared.gather.Ending.the-variants as Ending
+use Rattle.matcher.specs.declared.gather.Gathered.{Gathered}
+use Rattle.matcher.specs.Gather.{runTo, gatheredOf, gathered, gatherBy}
 use Rattle.matcher.proofs.GatherLaws.{run-start, run-turn}
 use Rattle.matcher.proofs.gather.gather.Statement.{statement}
 use Rattle.matcher.proofs.gather.gather.Tie as tie
+
+no-key : (end : Ending) (g : Gathered) (arena : List ℕ) (q : Query) → gatherBy end MaybeKey.Nothing g arena q ≡ g
+no-key Ending.All g arena q = refl
+no-key (Ending.Need key) g arena q = refl
+no-key Ending.Stale g arena q = refl
 
 abbrev Inv-loop : tie.InvT-loop
 Inv-loop arena q near g₀ i₀ g i =
@@ -32,20 +43,42 @@ mul-place c = search needs
 element-copy-out-place : tie.Need-element-copy-out-place Inv-loop μ-loop
 element-copy-out-place c = search needs
 
-gather-step-requires : tie.Need-gather-step-requires Inv-loop μ-loop
-gather-step-requires c κs = tt
-
 add-i : tie.Need-add-i Inv-loop μ-loop
 add-i c = search needs
+
+enum-told : tie.Need-enum-told Inv-loop μ-loop
+enum-told c = search needs
+
+enum-told-2 : tie.Need-enum-told-2 Inv-loop μ-loop
+enum-told-2 c = search needs
 
 loop-less : tie.Need-loop-less Inv-loop μ-loop
 loop-less c = search needs
 
 loop-again : tie.Need-loop-again Inv-loop μ-loop
 loop-again c =
-    let at-loop = c .before .before .before .loop in
-    let args = c .before .before .before .before .before .before .args in
-    (omega arith, rw (c .gather-step .ensures, at-loop .inv .1) (run-turn (args .c) (args .arena .now) (args .q) (args .t4) (at-loop .i)))
+    let at-loop = c .before .before .before .before .loop in
+    let args = c .before .before .before .before .before .before .before .args in
+    let size = args .q .header .tile in
+    let so-far = gatheredOf (args .c) (args .arena .now) size (runTo (look (args .c) (args .arena .now) size) (args .t4) (args .q) (at-loop .i)) in
+    let turn = run-turn (args .c) (args .arena .now) (args .q) (args .t4) (at-loop .i) in (
+      omega (arith, c .before .before .before .loop-test .taken),
+      at-loop .inv .1 ∙ (sym (no-key (so-far .end) so-far (args .arena .now) (args .q)) ∙ rw (c .enum-told2 .given .1) at turn),
+    )
+
+gather-step-requires : tie.Need-gather-step-requires Inv-loop μ-loop
+gather-step-requires c κs = tt
+
+loop-less-2 : tie.Need-loop-less-2 Inv-loop μ-loop
+loop-less-2 c = search needs
+
+loop-again-2 : tie.Need-loop-again-2 Inv-loop μ-loop
+loop-again-2 c =
+    let at-loop = c .before .before .before .before .before .loop in
+    let args = c .before .before .before .before .before .before .before .before .args in (
+      omega (arith, c .before .before .before .before .loop-test .taken),
+      rw (c .gather-step .ensures, at-loop .inv .1) (run-turn (args .c) (args .arena .now) (args .q) (args .t4) (at-loop .i)),
+    )
 
 returns : tie.Need-returns Inv-loop μ-loop
 unfolding gathered
@@ -64,8 +97,12 @@ gather-spec =
     loop-holds
     mul-place
     element-copy-out-place
-    gather-step-requires
     add-i
+    enum-told
+    enum-told-2
     loop-less
     loop-again
+    gather-step-requires
+    loop-less-2
+    loop-again-2
     returns)
