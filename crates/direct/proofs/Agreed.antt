@@ -23,7 +23,8 @@ module _ (P : List ℕ) (h : Header) (n : ℕ) (c : Cache) (arena : List ℕ) (k
   at-agrees key Landing.Nothing l s = absurd (true≢false (sym s))
   at-agrees key (Landing.At i) l s = by (passes arena i (lenAt c i) key (h .tile)) s
     where
-      by : (t : Bool) → settled (cond t (ready (runBytes arena i (lenAt c i))) stale) ≡ true → direct P h n key ≡ cond t (ready (runBytes arena i (lenAt c i))) stale
+      by : (t : Bool) → settled (cond t (ready (runBytes arena i (lenAt c i))) stale) ≡ true
+          → direct P h n key ≡ cond t (ready (runBytes arena i (lenAt c i))) stale
       by true s = let r : ReadyAt (c .pages) key i = ready-at (c .pages) key i l in k .slots i key (r .ready) (r .keyIs)
       by false s = absurd (true≢false (sym s))
 

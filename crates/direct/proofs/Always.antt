@@ -253,7 +253,8 @@ module _ (P : List ℕ) (n : ℕ) (horizon : Float) (w : World) (s : Stays P n h
   read-number Calls.itsAhead = rw (s .ok) (λ z. omega arith)
   read-number Calls.itsHeader = rw (s .ok) (by (isReady (e₂ .shared .phase)))
     where
-      by : (t : Bool) → ofKnown (cond {A = HeaderRead} t (record { answer = Known.Is; header = e₂ .shared .header }) (record { answer = Known.Nothing; header = States.noHeader }) .answer) ≡ 12 → ⊥
+      by : (t : Bool) → ofKnown (cond {A = HeaderRead} t (record { answer = Known.Is; header = e₂ .shared .header })
+          (record { answer = Known.Nothing; header = States.noHeader }) .answer) ≡ 12 → ⊥
       by true z = omega arith
       by false z = omega arith
   read-number Calls.itsHeading = rw (s .ok) (by (e₂ .follower .sight .heading))
@@ -268,7 +269,8 @@ module _ (P : List ℕ) (n : ℕ) (horizon : Float) (w : World) (s : Stays P n h
   unfolding Matching.nearby
   nearby-number h p parsed = rw (parsed-rules P n parsed) (by (isPoint (p .lat) (p .lon)))
     where
-      by : (t : Bool) → Calls.ofNear (cond {A = NearRead} t (record { answer = NearAnswer.Accepted; near = nearOf h p }) (record { answer = NearAnswer.Refused 8; near = noKeys }) .answer) ≡ 12 → ⊥
+      by : (t : Bool) → Calls.ofNear (cond {A = NearRead} t (record { answer = NearAnswer.Accepted; near = nearOf h p })
+          (record { answer = NearAnswer.Refused 8; near = noKeys }) .answer) ≡ 12 → ⊥
       by true z = omega arith
       by false z = omega arith
 
@@ -304,7 +306,8 @@ module _ (P : List ℕ) (n : ℕ) (horizon : Float) (w : World) (s : Stays P n h
         late (Match.Refused k) q z = match-accepted (look (e₂ .shared .cache) (w .arena) (h .tile)) fresh-at m h p heading k q
 
         left : Bool → Bool → Updated
-        left a b = cond a (cond b (Gather.updated m (e₂ .shared .cache) (w .arena) h p heading) (Matchers.refused m (e₂ .shared .cache) 8)) (Matchers.refused m (e₂ .shared .cache) 12)
+        left a b = cond a (cond b (Gather.updated m (e₂ .shared .cache) (w .arena) h p heading) (Matchers.refused m (e₂ .shared .cache) 8))
+            (Matchers.refused m (e₂ .shared .cache) 12)
 
         by : (a b : Bool) → ofMatch (left a b .answer) ≡ 12 → a ≡ false
         by true true z = absurd (late _ refl z)
@@ -317,15 +320,18 @@ module _ (P : List ℕ) (n : ℕ) (horizon : Float) (w : World) (s : Stays P n h
     predict-number m reach samples behind = rw (cache-is (m .tile .key)) (by (inGrid h (m .tile .key)))
       where
         late : (x : RoadOutcome.Outcome)
-            → Predict.predictOver (look (e₂ .shared .cache) (w .arena) (h .tile)) (e₂ .shared .cache .pages .count) h m reach samples behind .answer ≡ x → ofRoad x ≡ 12 → ⊥
+            → Predict.predictOver (look (e₂ .shared .cache) (w .arena) (h .tile)) (e₂ .shared .cache .pages .count) h m reach samples behind .answer ≡ x
+            → ofRoad x ≡ 12 → ⊥
         late (Roads.Road f) q z = omega arith
         late (Roads.Need key) q z = omega arith
         late Roads.Rematch q z = omega arith
         late (Roads.Refused k) q z =
-            road-not-stale (look (e₂ .shared .cache) (w .arena) (h .tile)) fresh-at (e₂ .shared .cache .pages .count) h m reach samples behind (q ∙ ap Roads.Refused z)
+            road-not-stale (look (e₂ .shared .cache) (w .arena) (h .tile)) fresh-at (e₂ .shared .cache .pages .count) h m reach samples behind
+            (q ∙ ap Roads.Refused z)
 
         left : Bool → Predict.After
-        left t = cond t (Predict.predictedIn (e₂ .shared .cache) (w .arena) h m reach samples behind) (Predict.untouched (Predict.refused (e₂ .shared .cache) 9) samples behind)
+        left t = cond t (Predict.predictedIn (e₂ .shared .cache) (w .arena) h m reach samples behind)
+            (Predict.untouched (Predict.refused (e₂ .shared .cache) 9) samples behind)
 
         by : (t : Bool) → ofRoad (left t .predicted .answer) ≡ 12 → ⊥
         by true z = late _ refl z

@@ -92,7 +92,8 @@ module _ (e : Engine) where
   beside-same : Beside e e
   beside-same = record { phase = refl; header = refl; sight = refl; horizon = refl }
 
-  ended-beside : (c : Cache) (f : Follower) (a : Status) → f .sight ≡ e .follower .sight → f .«horizon_m» ≡ e .follower .«horizon_m» → Beside e (ended e c f a .engine)
+  ended-beside : (c : Cache) (f : Follower) (a : Status) → f .sight ≡ e .follower .sight → f .«horizon_m» ≡ e .follower .«horizon_m»
+      → Beside e (ended e c f a .engine)
   ended-beside c f a p q = record { phase = refl; header = refl; sight = p; horizon = q }
 
   either-beside : (t : Bool) (x y : Stepped) → Beside e (x .engine) → Beside e (y .engine) → Beside e (cond t x y .engine)
@@ -153,7 +154,8 @@ module _ (e : Engine) (failure : ℕ) (bs : List ℕ) where
   either-left true x y p q = p
   either-left false x y p q = q
 
-  same-parts : {f : Follower} → f .sight ≡ e .follower .sight → f .matcher ≡ e .follower .matcher → f .«horizon_m» ≡ e .follower .«horizon_m» → Same (e .follower) f
+  same-parts : {f : Follower} → f .sight ≡ e .follower .sight → f .matcher ≡ e .follower .matcher → f .«horizon_m» ≡ e .follower .«horizon_m»
+      → Same (e .follower) f
   same-parts p q r = record { sight = p; matcher = q; horizon = r }
 
   loaded-left : (p : Progress) (c : Cache) → Left e failure bs (loadedBy p e c .answer) (loadedBy p e c .engine)

@@ -170,9 +170,11 @@ module _ (Q : Cache → List ℕ → Type 0)
       steps-keep (Ways.arrives key n r s f) = settled-keeps n key s
       steps-keep (Ways.rests f s) = q
       steps-keep (Ways.leaves f w o) = q
-      steps-keep (Ways.matches f w) = match-ended (counted (e .follower)) f (matchOf e arena f) (matchOf e arena f .answer) (updated-keeps Q touches _ (e .shared .cache) arena _ _ _ q)
+      steps-keep (Ways.matches f w) = match-ended (counted (e .follower)) f (matchOf e arena f) (matchOf e arena f .answer)
+          (updated-keeps Q touches _ (e .shared .cache) arena _ _ _ q)
       steps-keep (Ways.follows f key found w k c) =
-          road-ended (counted (e .follower)) f found (roadAt e arena found) (roadAt e arena found .predicted .answer) (predicted-keeps Q touches (e .shared .cache) arena _ found _ _ _ q)
+          road-ended (counted (e .follower)) f found (roadAt e arena found) (roadAt e arena found .predicted .answer)
+          (predicted-keeps Q touches (e .shared .cache) arena _ found _ _ _ q)
 
       pub step-keeps : Q (Engines.step e arena .engine .shared .cache) arena
       unfolding Engines.step

@@ -105,10 +105,12 @@ step-open : (e : Engine) (arena : List ℕ) {offset len : ℕ} → Engines.step 
 unfolding Engines.step stepped
 step-open e arena {offset} {len} = by (engineOk e (length arena)) (e .shared .cache .pending) refl
   where
-    again : isOpen (e .shared .cache .pending) ≡ true → stepped e arena .answer ≡ Status.Fetch offset len → openRead (stepped e arena .engine) ≡ Status.Fetch offset len
+    again : isOpen (e .shared .cache .pending) ≡ true → stepped e arena .answer ≡ Status.Fetch offset len
+        → openRead (stepped e arena .engine) ≡ Status.Fetch offset len
     again o a = let r = open-repeats e arena o in ap (λ (s : Stepped). openRead (s .engine)) r ∙ (sym (ap (λ (s : Stepped). s .answer) r) ∙ a)
 
-    by : (t : Bool) (p : Pending) → e .shared .cache .pending ≡ p → cond t (steppedBy (e .shared .cache .pending) e arena) (refused e 12) .answer ≡ Status.Fetch offset len
+    by : (t : Bool) (p : Pending) → e .shared .cache .pending ≡ p
+        → cond t (steppedBy (e .shared .cache .pending) e arena) (refused e 12) .answer ≡ Status.Fetch offset len
         → openRead (cond t (steppedBy (e .shared .cache .pending) e arena) (refused e 12) .engine) ≡ Status.Fetch offset len
     by true Pending.Nothing q a =
         let o : Opening e (stepped e arena) = opening-is-pending e arena q a in ap openRead (o .engine) ∙ sym (o .asks) ∙ a
@@ -223,7 +225,8 @@ module _ (P : List ℕ) (n : ℕ) where
   either-fit horizon arena false x y p q = q
 
   fit-follows : (horizon : Float) (e : Engine) (arena : List ℕ) (g : Follower) → g .«horizon_m» ≡ e .follower .«horizon_m»
-      → Fit P n horizon (record { engine = e; arena = arena }) → Fit P n horizon (record { engine = record { shared = e .shared; follower = g }; arena = arena })
+      → Fit P n horizon (record { engine = e; arena = arena })
+      → Fit P n horizon (record { engine = record { shared = e .shared; follower = g }; arena = arena })
   fit-follows horizon e arena g same f = record { cache = f .cache; header = f .header; reach = same ∙ f .reach }
 
   fit-fix : (horizon : Float) (e : Engine) (arena : List ℕ) (x : Fix) → Fit P n horizon (record { engine = e; arena = arena })

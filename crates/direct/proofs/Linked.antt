@@ -72,7 +72,8 @@ pub record Linked (d : Direct) (e : Engine) : Type 0 where
 -- ---- what waits
 
 -- once no fetch is open nothing waits
-settles : (d : Direct) (e : Engine) → applied (d .waiting) (d .held) .sight ≡ e .follower .sight → applied (d .waiting) (d .held) .matcher ≡ e .follower .matcher
+settles : (d : Direct) (e : Engine) → applied (d .waiting) (d .held) .sight ≡ e .follower .sight
+    → applied (d .waiting) (d .held) .matcher ≡ e .follower .matcher
     → Linked (settled (isFetching e) d) e
 unfolding applied
 settles d e s m = by (isFetching e) refl
@@ -182,7 +183,8 @@ match-answers (Match.Need key) e f p u = by (mayAsk (f .due) (u .cache .pages .c
     by false = refl
 match-answers (Match.Refused number) e f p u = refl
 
-road-answers : (x : RoadOutcome.Outcome) (e : Engine) (f : Follower) (p : Fix) (found : Matched) (r : Predict.After) → isFetch (roadEndedBy x e f p found r .answer) ≡ false
+road-answers : (x : RoadOutcome.Outcome) (e : Engine) (f : Follower) (p : Fix) (found : Matched) (r : Predict.After)
+    → isFetch (roadEndedBy x e f p found r .answer) ≡ false
 road-answers (Roads.Road y) e f p found r = refl
 road-answers (Roads.Need key) e f p found r = refl
 road-answers Roads.Rematch e f p found r = refl
@@ -286,7 +288,8 @@ module _ (at : Lookup) (n : ℕ) (horizon : Float) (P : List ℕ) (w : World) (d
 
   -- a turn at a step that shows s and leaves the engine m
   pub record StepTurn (s : Shown) (m : Engine) : Type 0 where
-    pub shown : (refused : Bool) → turned (toldBy refused (isFetching m) s) d (stepWorked at (madeOf n horizon) P (toldBy refused (isFetching m) s) (d .held)) .shown ≡ s
+    pub shown : (refused : Bool) → turned (toldBy refused (isFetching m) s) d
+        (stepWorked at (madeOf n horizon) P (toldBy refused (isFetching m) s) (d .held)) .shown ≡ s
     pub linked : (refused : Bool)
         → Linked (turned (toldBy refused (isFetching m) s) d (stepWorked at (madeOf n horizon) P (toldBy refused (isFetching m) s) (d .held)) .direct) m
 
@@ -320,7 +323,8 @@ module _ (at : Lookup) (n : ℕ) (horizon : Float) (P : List ℕ) (w : World) (d
       busy-turn : (x : Task) (s : Stepped) → Steps e₁ (w .arena) x s → Beside e₁ (s .engine) → StepTurn (taskShown x e₁ (w .arena) (s .engine)) (s .engine)
       unfolding applied
       busy-turn x s goes beside = record {
-        shown = λ refused. subst (λ (y : Held). stepWorked at (madeOf n horizon) P (told refused) y .shown ≡ taskShown x e₁ (w .arena) (s .engine)) here (agrees refused .shown);
+        shown = λ refused. subst (λ (y : Held). stepWorked at (madeOf n horizon) P (told refused) y .shown ≡ taskShown x e₁ (w .arena)
+            (s .engine)) here (agrees refused .shown);
         linked = λ refused. settles _ (s .engine) (after-sight refused) (after-matcher refused);
       }
         where
@@ -332,7 +336,8 @@ module _ (at : Lookup) (n : ℕ) (horizon : Float) (P : List ℕ) (w : World) (d
               (taskShown x e₁ (w .arena) (s .engine)) (s .engine .follower .matcher)
           agrees refused =
               steps-agree at n horizon P e₁ (w .arena) (sym (parsed .header)) (fit .reach) (fit .cache .count)
-              (look-agrees P n (e₁ .shared .cache) (w .arena) (e₁ .shared .header) parsed (fit .cache) at answers) (d .held .last) refused (isFetching (s .engine)) goes
+              (look-agrees P n (e₁ .shared .cache) (w .arena) (e₁ .shared .header) parsed (fit .cache) at answers) (d .held .last) refused
+              (isFetching (s .engine)) goes
 
           here : heldOf (e₁ .follower) (d .held .last) ≡ d .held
           here = sym (held-is (d .held) (e₁ .follower) sight-is matcher-is)
@@ -357,7 +362,8 @@ module _ (at : Lookup) (n : ℕ) (horizon : Float) (P : List ℕ) (w : World) (d
         left : Bool → Stepped
         left t = cond t (stepped e₁ (w .arena)) (refused e₁ 12)
 
-        works : (t : Bool) → isNone (taskOf e₁) ≡ t → StepTurn (taskShown (taskOf e₁) e₁ (w .arena) (stepped e₁ (w .arena) .engine)) (stepped e₁ (w .arena) .engine)
+        works : (t : Bool) → isNone (taskOf e₁) ≡ t
+            → StepTurn (taskShown (taskOf e₁) e₁ (w .arena) (stepped e₁ (w .arena) .engine)) (stepped e₁ (w .arena) .engine)
         works true q =
             quiet-turn _ (stepped e₁ (w .arena) .engine) (none-shows (taskOf e₁) e₁ (w .arena) _ q) (none-keeps (step-is e₁ (w .arena)) q)
         works false q = busy-turn (busy e₁ q) (taskOf e₁) (stepped e₁ (w .arena)) (step-is e₁ (w .arena)) (steps-beside e₁ (step-is e₁ (w .arena)))
@@ -394,7 +400,8 @@ module _ (at : Lookup) (n : ℕ) (horizon : Float) (P : List ℕ) (w : World) (d
         v = Gather.updateOver (look (e₁ .shared .cache) (w .arena) (h .tile)) m h p heading
 
         same : MatchRelied.isFinished (v .answer) ≡ true → Gather.updateOver (at P) m h p heading ≡ v
-        same fin = update-agrees (look (e₁ .shared .cache) (w .arena) (h .tile)) (at P) (look-agrees P n (e₁ .shared .cache) (w .arena) h parsed (fit .cache) at answers) m h p heading fin
+        same fin = update-agrees (look (e₁ .shared .cache) (w .arena) (h .tile)) (at P)
+            (look-agrees P n (e₁ .shared .cache) (w .arena) h parsed (fit .cache) at answers) m h p heading fin
 
         shows : (x : MatchOutcome.Outcome) → v .answer ≡ x
             → cond (isMatch (updateShown x (v .matcher))) (updateWorked at (madeOf n horizon) P m h p heading) nothing ≡ updateShown x (v .matcher)
@@ -404,9 +411,11 @@ module _ (at : Lookup) (n : ℕ) (horizon : Float) (P : List ℕ) (w : World) (d
         shows (Match.Refused k) q = refl
 
         left : Bool → Bool → Updated
-        left s t = cond s (cond t (Gather.updated m (e₁ .shared .cache) (w .arena) h p heading) (Matchers.refused m (e₁ .shared .cache) 8)) (Matchers.refused m (e₁ .shared .cache) 12)
+        left s t = cond s (cond t (Gather.updated m (e₁ .shared .cache) (w .arena) h p heading) (Matchers.refused m (e₁ .shared .cache) 8))
+            (Matchers.refused m (e₁ .shared .cache) 12)
 
-        by : (s t : Bool) → cond (isMatch (updateShown (left s t .answer) (left s t .matcher))) (updateWorked at (madeOf n horizon) P m h p heading) nothing ≡ updateShown (left s t .answer) (left s t .matcher)
+        by : (s t : Bool) → cond (isMatch (updateShown (left s t .answer) (left s t .matcher)))
+            (updateWorked at (madeOf n horizon) P m h p heading) nothing ≡ updateShown (left s t .answer) (left s t .matcher)
         by true true = shows (v .answer) refl
         by true false = refl
         by false t = refl
@@ -445,11 +454,13 @@ module _ (at : Lookup) (n : ℕ) (horizon : Float) (P : List ℕ) (w : World) (d
         left : Bool → Bool → Predict.After
         left s t =
             cond s
-            (cond t (Predict.predictedIn (e₁ .shared .cache) (w .arena) h m reach samples behind) (Predict.untouched (Predict.refused (e₁ .shared .cache) 9) samples behind))
+            (cond t (Predict.predictedIn (e₁ .shared .cache) (w .arena) h m reach samples behind)
+            (Predict.untouched (Predict.refused (e₁ .shared .cache) 9) samples behind))
             (Predict.untouched (Predict.refused (e₁ .shared .cache) 12) samples behind)
 
         by : (s t : Bool)
-            → cond (isRoad (predictShown (left s t .predicted .answer) (left s t .samples) (left s t .behind))) (predictWorked at (madeOf n horizon) P h m reach samples behind) nothing
+            → cond (isRoad (predictShown (left s t .predicted .answer) (left s t .samples) (left s t .behind)))
+            (predictWorked at (madeOf n horizon) P h m reach samples behind) nothing
             ≡ predictShown (left s t .predicted .answer) (left s t .samples) (left s t .behind)
         by true true = shows (v .answer) refl
         by true false = refl

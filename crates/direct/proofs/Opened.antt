@@ -248,7 +248,8 @@ module _ (P : List ℕ) (n : ℕ) (horizon : Float) (w : World) (s : Stays P n h
 
       not-12 : roadThere .answer ≡ Roads.Refused 12 → ⊥
       not-12 =
-          road-not-stale (look c₁ (w .arena) (h₁ .tile)) fresh-look (c₁ .pages .count) h₁ found (e₁ .follower .«horizon_m») (replicate 501 (pos 0)) (replicate 11 (pos 0))
+          road-not-stale (look c₁ (w .arena) (h₁ .tile)) fresh-look (c₁ .pages .count) h₁ found (e₁ .follower .«horizon_m») (replicate 501 (pos 0))
+          (replicate 11 (pos 0))
 
   -- ---- what a step answers, shows and leaves
 

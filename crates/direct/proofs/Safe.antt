@@ -64,7 +64,8 @@ forgets c arena key z f = inv-forgot c key f
 pub inv-stepped : (e : Engine) (arena : List ℕ) → Inv (e .shared .cache) → Inv (Engines.step e arena .engine .shared .cache)
 inv-stepped e arena f = step-keeps InvOver touches forgets inv-pending e arena f
 
-pub inv-delivered : (e : Engine) (arena : List ℕ) (failure : ℕ) (bs : List ℕ) → Inv (e .shared .cache) → Inv (Engines.deliver e arena failure bs .engine .shared .cache)
+pub inv-delivered : (e : Engine) (arena : List ℕ) (failure : ℕ) (bs : List ℕ) → Inv (e .shared .cache)
+    → Inv (Engines.deliver e arena failure bs .engine .shared .cache)
 inv-delivered e arena failure bs f =
     deliver-keeps InvOver touches forgets inv-pending e arena failure bs f
     (λ key b same. inv-step f (load-is (e .shared .cache) arena (e .shared .header) key failure bs))
@@ -247,7 +248,8 @@ delivers-write {e} {arena} (Ways.loses number o len) = not-written _ arena
 delivers-write {e} {arena} (Ways.parses o z len a) = not-written _ arena
 delivers-write {e} {arena} {failure} {bs} (Ways.brings key b) = written-step (load-is (e .shared .cache) arena (e .shared .header) key failure bs)
 
-pub deliver-writes : (e : Engine) (arena : List ℕ) (failure : ℕ) (bs : List ℕ) → Written (e .shared .cache .loading) arena (Engines.deliver e arena failure bs .arena)
+pub deliver-writes : (e : Engine) (arena : List ℕ) (failure : ℕ) (bs : List ℕ)
+    → Written (e .shared .cache .loading) arena (Engines.deliver e arena failure bs .arena)
 unfolding Engines.deliver
 deliver-writes e arena failure bs = by (engineOk e (length arena)) refl
   where

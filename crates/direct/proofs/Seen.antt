@@ -140,12 +140,14 @@ module _ (at : Lookup) (n : ℕ) (horizon : Float) (P : List ℕ) where
 
     abbrev matchAt : Fix → Gather.Matching
     matchAt f =
-        Gather.updateOver (look (e .shared .cache) arena (e .shared .header .tile)) (e .follower .matcher) (e .shared .header) (placeOf f) (e .follower .sight .heading)
+        Gather.updateOver (look (e .shared .cache) arena (e .shared .header .tile)) (e .follower .matcher) (e .shared .header) (placeOf f)
+        (e .follower .sight .heading)
 
     match-is : (f : Fix) → MatchRelied.isFinished (matchAt f .answer) ≡ true → matchHeld at made P held f ≡ matchAt f
     match-is f fin =
         ap (λ (h : Header). Gather.updateOver (at P) (e .follower .matcher) h (placeOf f) (e .follower .sight .heading)) (sym header)
-        ∙ update-agrees (look (e .shared .cache) arena (e .shared .header .tile)) (at P) agree (e .follower .matcher) (e .shared .header) (placeOf f) (e .follower .sight .heading) fin
+        ∙ update-agrees (look (e .shared .cache) arena (e .shared .header .tile)) (at P) agree (e .follower .matcher) (e .shared .header) (placeOf f)
+        (e .follower .sight .heading) fin
 
     match-worked : (f : Fix) (t : Told) (x : MatchOutcome.Outcome) → Works e f → matchAt f .answer ≡ x → MatchRelied.isFinished x ≡ true → t .match ≡ true
         → stepWorked at made P t held ≡ matchWorked x (t .road) held f (matchAt f .matcher)
@@ -158,7 +160,8 @@ module _ (at : Lookup) (n : ℕ) (horizon : Float) (P : List ℕ) where
     none-current : (f : Fix) → matchAt f .answer ≡ Match.Nothing → matchAt f .matcher .current ≡ Current.Nothing
     unfolding Gather.updateOver
     none-current f =
-        let r = Gather.runOver (look (e .shared .cache) arena (e .shared .header .tile)) (e .follower .matcher) (e .shared .header) (placeOf f) (e .follower .sight .heading) in
+        let r = Gather.runOver (look (e .shared .cache) arena (e .shared .header .tile)) (e .follower .matcher) (e .shared .header) (placeOf f)
+        (e .follower .sight .heading) in
         by (r .end) (r .kept) (e .follower .matcher) (e .follower .sight .heading)
       where
         current : (x : Current) → Gather.outcome x ≡ Match.Nothing → x ≡ Current.Nothing
@@ -196,7 +199,8 @@ module _ (at : Lookup) (n : ℕ) (horizon : Float) (P : List ℕ) where
         let h = match-holds (counted (e .follower)) (matchAt f .matcher) f in
         rw (h .matcher) (agrees-by _ (match-worked f _ (Match.Found m) w a refl refl) refl refl refl)
     matches-by f Match.Nothing w a =
-        rw (match-holds (counted (e .follower)) (matchAt f .matcher) f .matcher, none-ahead f (none-current f a)) (none-agrees f w a (isMatched (e .follower .ahead .matched)))
+        rw (match-holds (counted (e .follower)) (matchAt f .matcher) f .matcher, none-ahead f (none-current f a))
+        (none-agrees f w a (isMatched (e .follower .ahead .matched)))
     matches-by f (Match.Need key) w a = nothing-agrees (sym (match-asks (counted (e .follower)) _ key .matcher))
     matches-by f (Match.Refused number) w a = nothing-agrees refl
 
@@ -204,7 +208,8 @@ module _ (at : Lookup) (n : ℕ) (horizon : Float) (P : List ℕ) where
 
     abbrev roadOver : Matched → Predict.Forecast (List TileKey)
     roadOver found =
-        Predict.predictOver (look (e .shared .cache) arena (e .shared .header .tile)) (e .shared .cache .pages .count) (e .shared .header) found (e .follower .«horizon_m»)
+        Predict.predictOver (look (e .shared .cache) arena (e .shared .header .tile)) (e .shared .cache .pages .count) (e .shared .header) found
+        (e .follower .«horizon_m»)
         (replicate 501 (pos 0)) (replicate 11 (pos 0))
 
     road-is : (found : Matched) → RoadRelied.isFinished (roadOver found .answer) ≡ true → roadHeld at made P found ≡ roadOver found
@@ -213,7 +218,8 @@ module _ (at : Lookup) (n : ℕ) (horizon : Float) (P : List ℕ) where
         (predict-agrees (look (e .shared .cache) arena (e .shared .header .tile)) (at P) agree (e .shared .cache .pages .count) (e .shared .header) found
         (e .follower .«horizon_m») (replicate 501 (pos 0)) (replicate 11 (pos 0)) fin)
 
-    road-worked : (f : Fix) (key : TileKey) (found : Matched) (t : Told) (x : RoadOutcome.Outcome) → Works e f → keyOf (e .shared .header) (f .lat) (f .lon) ≡ Keyed.In key
+    road-worked : (f : Fix) (key : TileKey) (found : Matched) (t : Told) (x : RoadOutcome.Outcome) → Works e f
+        → keyOf (e .shared .header) (f .lat) (f .lon) ≡ Keyed.In key
         → e .follower .matcher .current ≡ Current.Is found → roadOver found .answer ≡ x → RoadRelied.isFinished x ≡ true → t .match ≡ false → t .road ≡ true
         → stepWorked at made P t held ≡ roadWorked x held f found (roadOver found .samples) (roadOver found .behind)
     road-worked f key found t x w k c a fin m r =
@@ -226,7 +232,8 @@ module _ (at : Lookup) (n : ℕ) (horizon : Float) (P : List ℕ) where
     -- 10 clears the matcher; any other number is the late 12
     refused-agrees : (f : Fix) (key : TileKey) (found : Matched) (number : ℕ) → Works e f → keyOf (e .shared .header) (f .lat) (f .lon) ≡ Keyed.In key
         → e .follower .matcher .current ≡ Current.Is found → roadOver found .answer ≡ Roads.Refused number → (t : Bool) → eqb number 10 ≡ t
-        → let s : Stepped = cond t (Work.ended e (roadAt e arena found .predicted .cache) (Work.rematch (counted (e .follower))) Status.Working) (States.refused e number) in
+        → let s : Stepped = cond t (Work.ended e (roadAt e arena found .predicted .cache) (Work.rematch (counted (e .follower))) Status.Working)
+        (States.refused e number) in
         Agrees (cond t (Shows.again 10 (s .engine .follower .matcher)) nothing) (s .engine .follower .matcher)
     refused-agrees f key found number w k c a true q =
         let ten : number ≡ 10 = eqb-true number 10 q in

@@ -67,7 +67,8 @@ got-leaves (ringed e) = stands refl refl
 got-leaves unknown = stands refl refl
 got-leaves (handed i e p) = stands refl refl
 
-step-leaves : {c : Cache} {arena : List ℕ} {h : Header} {key : TileKey} {failure : ℕ} {bs : List ℕ} {r : Loads.After} → Step c arena h key failure bs r → Leaves c (r .cache)
+step-leaves : {c : Cache} {arena : List ℕ} {h : Header} {key : TileKey} {failure : ℕ} {bs : List ℕ} {r : Loads.After} → Step c arena h key failure bs r
+    → Leaves c (r .cache)
 unfolding touched forgot dropped moved further readied
 step-leaves (refuses k s) = stands refl refl
 step-leaves (knows e) = stands refl refl
@@ -113,7 +114,8 @@ module _ (s : Shared) (need : MaybeKey) (d : Cache) (ok : pendingOk s need ≡ t
   pending-leaves (stands p q) = ap (λ (y : Pending). pendingBy y s₁ need) p ∙ stands-by (s .cache .pending) q ok
   pending-leaves (ends w) = ends-by (d .pending) w
 
-pub cache-sound : (e : Engine) (d : Cache) (size : ℕ) → engineOk e size ≡ true → Inv d → d .pages .count ≡ e .shared .cache .pages .count → Leaves (e .shared .cache) d
+pub cache-sound : (e : Engine) (d : Cache) (size : ℕ) → engineOk e size ≡ true → Inv d → d .pages .count ≡ e .shared .cache .pages .count
+    → Leaves (e .shared .cache) d
     → engineOk (withCache e d) size ≡ true
 cache-sound e d size ok inv count l =
     let parts : Ok (e .shared) (e .follower) size = apart e size ok in

@@ -221,7 +221,8 @@ module _ (at : Lookup) (n : ℕ) (horizon : Float) (answers : Answers n at) wher
         left s t = cond s (cond t (followed e₁ (Followers.fixed (e₁ .follower) f)) (unchanged e₁ 8)) (unchanged e₁ 12)
 
         by : (s t : Bool)
-            → Recalls (retold at (madeOf n horizon) (taken (ofTaken (left s t .answer)) (Story.fixed f)) p₁) P (record { engine = left s t .engine; arena = w .arena })
+            → Recalls (retold at (madeOf n horizon) (taken (ofTaken (left s t .answer)) (Story.fixed f)) p₁) P
+            (record { engine = left s t .engine; arena = w .arena })
         by true true = record { pack = refl; held = fixed-follows h (e₁ .follower) f (follows .sight) (follows .matcher) }
         by true false = record { pack = refl; held = follows }
         by false t = record { pack = refl; held = follows }
@@ -233,7 +234,8 @@ module _ (at : Lookup) (n : ℕ) (horizon : Float) (answers : Answers n at) wher
         left : Bool → Changed
         left t = cond t (followed e₁ (Followers.lost (e₁ .follower))) (unchanged e₁ 12)
 
-        by : (t : Bool) → Recalls (retold at (madeOf n horizon) (taken (ofTaken (left t .answer)) Story.lost) p₁) P (record { engine = left t .engine; arena = w .arena })
+        by : (t : Bool) → Recalls (retold at (madeOf n horizon) (taken (ofTaken (left t .answer)) Story.lost) p₁) P
+            (record { engine = left t .engine; arena = w .arena })
         by true = record { pack = refl; held = lost-follows h (e₁ .follower) (follows .sight) }
         by false = record { pack = refl; held = follows }
 
@@ -321,7 +323,8 @@ module _ (at : Lookup) (made : Made) (P : List ℕ) (d : Held) where
 
 module _ (at : Lookup) (n : ℕ) (horizon : Float) (answers : Answers n at) where
   -- two worlds of one pack that see and match the same
-  finish-same : (P : List ℕ) (h : Held) (v w : World) → Fit P n horizon v → Fit P n horizon w → Follows h (v .engine .follower) → Follows h (w .engine .follower)
+  finish-same : (P : List ℕ) (h : Held) (v w : World) → Fit P n horizon v → Fit P n horizon w → Follows h (v .engine .follower)
+      → Follows h (w .engine .follower)
       → SameFinish (stepShown (v .engine) (v .arena)) (stepShown (w .engine) (w .arena))
   finish-same P h v w f g a b =
       let s : Shown = stepShown (v .engine) (v .arena) in
@@ -355,6 +358,8 @@ all-stories n few horizon P one two cs ds fair fair' same =
     let past : Past = record { pack = P; held = newHeld } in
     let a = story-told (directly n) n horizon answers cs P (start n horizon one) past (start-ends (directly n) n horizon answers P one few) fair in
     let b = story-told (directly n) n horizon answers ds P (start n horizon two) past (start-ends (directly n) n horizon answers P two few) fair' in
-    ends-same (directly n) n horizon answers (retold (directly n) (madeOf n horizon) (story cs (start n horizon one)) past) _ _ (after cs (start n horizon one)) (after ds (start n horizon two)) a
-    (subst (λ (x : List Event). Ends (directly n) n horizon answers (retold (directly n) (madeOf n horizon) x past) (packOf P ds (start n horizon two)) (after ds (start n horizon two)))
+    ends-same (directly n) n horizon answers (retold (directly n) (madeOf n horizon) (story cs (start n horizon one)) past) _ _
+    (after cs (start n horizon one)) (after ds (start n horizon two)) a
+    (subst (λ (x : List Event). Ends (directly n) n horizon answers (retold (directly n) (madeOf n horizon) x past)
+    (packOf P ds (start n horizon two)) (after ds (start n horizon two)))
     (sym same) b)

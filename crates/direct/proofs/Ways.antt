@@ -268,7 +268,8 @@ module _ (e : Engine) (arena : List ℕ) (ok : engineOk e (length arena) ≡ tru
       grid-of = rw (ready, need) at (and-left (needOk (e .shared) (e .follower .due .need)) _ due-parts)
 
       module _ (failure : ℕ) (bs : List ℕ) (fits : takes (nextStep c₁ key) h₁ key failure (length bs) ≡ true) where
-        brings-by : (n : Next) (offset len : ℕ) → nextStep c₁ key ≡ n → fetched c₁ n arena h₁ key ≡ Request.Read offset len → openRead e ≡ Status.Fetch offset len
+        brings-by : (n : Next) (offset len : ℕ) → nextStep c₁ key ≡ n → fetched c₁ n arena h₁ key ≡ Request.Read offset len
+            → openRead e ≡ Status.Fetch offset len
             → readLen n ≡ len → Brings e arena key failure bs
         unfolding Loaded.fetch
         brings-by n offset len q r a same = record {
@@ -343,7 +344,8 @@ module _ (e : Engine) (arena : List ℕ) (ok : engineOk e (length arena) ≡ tru
       part-by : (key : TileKey) → e .follower .due .need ≡ MaybeKey.Key key
           → ((takes (nextStep c₁ key) h₁ key failure (length bs) ≡ true) → Brings e arena key failure bs)
           → (t : Bool) → takes (nextStep c₁ key) h₁ key failure (length bs) ≡ t
-          → Comes (cond t (over (loaded e (told (Loads.stepped c₁ (nextStep c₁ key) arena h₁ key failure bs))) (Loads.stepped c₁ (nextStep c₁ key) arena h₁ key failure bs .arena))
+          → Comes (cond t (over (loaded e (told (Loads.stepped c₁ (nextStep c₁ key) arena h₁ key failure bs)))
+          (Loads.stepped c₁ (nextStep c₁ key) arena h₁ key failure bs .arena))
           (over (refused e 11) arena))
       unfolding Loaded.load
       part-by key need b true f = rw (← load-steps) (brings key (b f))
