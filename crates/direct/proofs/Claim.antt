@@ -1,11 +1,13 @@
 -- THE THEOREM: the claims of demand 3, of every list of calls from a fresh engine of any page count and horizon over any arena. A fresh engine has the
 -- invariants, and they hold along the list. Assumes nothing.
-use Prim.Native.Nat.{ℕ}
+use Prim.Native.Nat.{ℕ, _/_, min}
 use mathlib.Core.Path.{_≡_, refl}
 use mathlib.Core.List.{List, [], _∷_}
 use lib.Ieee.{Float}
+use lib.ListN.{length}
 use Rattle.cache_lists.proofs.Inv.{inv-fresh}
 use Rattle.follower.specs.State as Followers
+use Rattle.engine.specs.Calls as Engines
 use Rattle.direct.specs.Lists.{World, Call, exec, start}
 use Rattle.direct.specs.Direct.{Lookup, directly, Direct, newDirect, applied, packAfter, directExec, directShows}
 use Rattle.direct.specs.Claims.{toldOf, tolds, shows, AllFair, madeOf, Answers, AllSame, AllDirect, AllSafe, AllOpen}
@@ -15,6 +17,11 @@ use Rattle.direct.proofs.Linked.{Linked, Alike, turn-alike}
 use Rattle.direct.proofs.Sound.{start-sound}
 use Rattle.direct.proofs.Opened.{reset-fits}
 use Rattle.direct.proofs.Always.{open-along}
+
+-- a new engine is one of the fresh ones
+pub new-start : (arena : List ℕ) (horizon : Float) → Engines.new arena horizon ≡ start (min (length arena / 8192) 96) horizon arena .engine
+unfolding Engines.new
+new-start arena horizon = refl
 
 pub all-safe : AllSafe
 all-safe n few horizon arena cs = safe-along cs (start n horizon arena) (inv-fresh n few)

@@ -1,14 +1,18 @@
--- Demand 3.
+-- Demand 3, proved.
+-- Ways: how a step, a delivery and the lent-pack form go. Changes: what they leave of cache and arena. Found: what lookups hand out. Safe: with no
+-- premise. Beside: what they leave beside the cache. Fit: under the premises. Agreed: the cache's look and the pack's. Seen: a step and the direct
+-- engine's. Linked: one call beside the direct engine's turn. Started: a road from a start that was found. Sound: states that 12 does not name.
+-- Opened, Always: no call is refused with 12. Stories: two lists. Claim: the theorems.
 pub mod Ways
 pub mod Changes
 pub mod Found
-pub mod Started
 pub mod Safe
 pub mod Beside
 pub mod Fit
 pub mod Agreed
 pub mod Seen
 pub mod Linked
+pub mod Started
 pub mod Sound
 pub mod Opened
 pub mod Always
