@@ -1,7 +1,8 @@
 //! Nanoseconds a step, the port beside the unaltered Rust: idle, the header, a chunk, a tile's last
 //! chunk, a match, a road. Each step runs many times from one state: the port's by `terrain_repeat`,
 //! the Rust's on a copy of the engine. What repeating costs by itself, a record of no kind and the
-//! copy alone, is taken off. Passes of both take turns, and medians count. A step is `step_from`.
+//! copy alone, is taken off. Passes of both take turns, and medians count, of the thread's own time. A
+//! step is `step_from`.
 use super::script::*;
 use super::{Case, joined};
 use crate::cache::script::{Record, bytes, record};
@@ -10,10 +11,10 @@ use crate::road::networks::{highway, plain};
 use crate::{ffi_cache, random::Random, tally::Tally};
 use oracle::engine::{Fix, Lookahead};
 use oracle_angles::cache::PAGE_BYTES;
-use std::{hint::black_box, mem::ManuallyDrop, ptr, time::Instant};
+use std::{hint::black_box, mem::ManuallyDrop, ptr};
 
-const PASSES: usize = 41;
-const TIMES: u32 = 1_000;
+const PASSES: usize = 201;
+const TIMES: u32 = 200;
 const SOUTH: i32 = 47_000_000;
 const WEST: i32 = 8_000_000;
 /// No kind of record.
@@ -28,11 +29,25 @@ enum Call {
     Fix(i32, u64),
 }
 
+/// CLOCK_THREAD_CPUTIME_ID of Linux: what others run on the machine doesn't count.
+const OF_THREAD: i32 = 3;
+
+unsafe extern "C" {
+    /// Seconds and nanoseconds.
+    safe fn clock_gettime(clock: i32, time: &mut [i64; 2]) -> i32;
+}
+
+fn now() -> f64 {
+    let mut time = [0; 2];
+    assert_eq!(clock_gettime(OF_THREAD, &mut time), 0);
+    time[0] as f64 * 1e9 + time[1] as f64
+}
+
 /// Nanoseconds of each of the runs in `run`.
 fn nanoseconds(run: impl FnOnce()) -> f64 {
-    let start = Instant::now();
+    let start = now();
     run();
-    start.elapsed().as_nanos() as f64 / f64::from(TIMES)
+    (now() - start) / f64::from(TIMES)
 }
 
 fn median(mut times: Vec<f64>) -> f64 {
