@@ -1,5 +1,5 @@
--- What a step and a delivery leave beside the cache: phase, header, and of the follower what it sees, what it matches and what it was made with. By the
--- ways that a call goes. Assumes nothing.
+-- What a step and a delivery leave beside the cache: phase, header, and of the follower what it sees, what it matches and what it was made with; a
+-- delivery also what is published. By the ways that a call goes. Assumes nothing.
 use Prim.Native.Nat.{ℕ}
 use mathlib.Core.Path.{_≡_, refl, _∙_}
 use mathlib.Core.Bool.{Bool, true, false, _&&_, cond}
@@ -44,30 +44,40 @@ use Rattle.direct.proofs.Ways.{Same, Steps, brought, Delivers, step-is,
 -- ---- followers
 
 pub same-self : (f : Follower) → Same f f
-same-self f = record { sight = refl; matcher = refl; horizon = refl }
+same-self f = record { sight = refl; matcher = refl; horizon = refl; ahead = refl }
 
 pub same-then : {f g h : Follower} → Same f g → Same g h → Same f h
-same-then p q = record { sight = q .sight ∙ p .sight; matcher = q .matcher ∙ p .matcher; horizon = q .horizon ∙ p .horizon }
+same-then p q = record {
+  sight = q .sight ∙ p .sight;
+  matcher = q .matcher ∙ p .matcher;
+  horizon = q .horizon ∙ p .horizon;
+  ahead = q .ahead ∙ p .ahead;
+}
 
 either-same : (f : Follower) (t : Bool) (x y : Follower) → Same f x → Same f y → Same f (cond t x y)
 either-same f true x y p q = p
 either-same f false x y p q = q
 
--- a tile that a match or a road asks for changes nothing that is seen or matched
+-- a tile that a match asks for changes nothing of it
 pub match-asks : (f : Follower) (pages : ℕ) (key : TileKey) → Same f (matchAsks f pages key)
 match-asks f pages key =
-    either-same f (mayAsk (f .due) pages) _ _ (record { sight = refl; matcher = refl; horizon = refl }) (record { sight = refl; matcher = refl; horizon = refl })
+    either-same f (mayAsk (f .due) pages) _ _ (record { sight = refl; matcher = refl; horizon = refl; ahead = refl })
+    (record { sight = refl; matcher = refl; horizon = refl; ahead = refl })
 
-pub road-asks : (f : Follower) (pages : ℕ) (fix : Fix) (found : Matched) (key : TileKey) → Same f (roadAsks f pages fix found key)
-unfolding published
-road-asks f pages fix found key =
-    either-same f (mayAsk (f .due) pages) _ _ (record { sight = refl; matcher = refl; horizon = refl }) (record { sight = refl; matcher = refl; horizon = refl })
-
--- the follower after a match that was finished
+-- the follower after a match that was finished, or a road that asked for a tile
 pub record Holds (f : Follower) (m : Matcher) (g : Follower) : Type 0 where
   pub sight : g .sight ≡ f .sight
   pub matcher : g .matcher ≡ m
   pub horizon : g .«horizon_m» ≡ f .«horizon_m»
+
+pub road-asks : (f : Follower) (pages : ℕ) (fix : Fix) (found : Matched) (key : TileKey) → Holds f (f .matcher) (roadAsks f pages fix found key)
+unfolding published
+road-asks f pages fix found key =
+    by (mayAsk (f .due) pages) _ _ (record { sight = refl; matcher = refl; horizon = refl }) (record { sight = refl; matcher = refl; horizon = refl })
+  where
+    by : (t : Bool) (x y : Follower) → Holds f (f .matcher) x → Holds f (f .matcher) y → Holds f (f .matcher) (cond t x y)
+    by true x y p q = p
+    by false x y p q = q
 
 pub match-holds : (f : Follower) (m : Matcher) (fix : Fix) → Holds f m (matched f m fix)
 unfolding matched
@@ -155,25 +165,25 @@ module _ (e : Engine) (failure : ℕ) (bs : List ℕ) where
   either-left false x y p q = q
 
   same-parts : {f : Follower} → f .sight ≡ e .follower .sight → f .matcher ≡ e .follower .matcher → f .«horizon_m» ≡ e .follower .«horizon_m»
-      → Same (e .follower) f
-  same-parts p q r = record { sight = p; matcher = q; horizon = r }
+      → f .ahead ≡ e .follower .ahead → Same (e .follower) f
+  same-parts p q r s = record { sight = p; matcher = q; horizon = r; ahead = s }
 
   loaded-left : (p : Progress) (c : Cache) → Left e failure bs (loadedBy p e c .answer) (loadedBy p e c .engine)
   unfolding arrived loadFailed
-  loaded-left Progress.Done c = record { heads = kept; follower = same-parts refl refl refl }
-  loaded-left Progress.More c = record { heads = kept; follower = same-parts refl refl refl }
+  loaded-left Progress.Done c = record { heads = kept; follower = same-parts refl refl refl refl }
+  loaded-left Progress.More c = record { heads = kept; follower = same-parts refl refl refl refl }
   loaded-left (Progress.Failed number) c =
-      either-left (ltb (e .follower .failures) 7) _ _ (record { heads = kept; follower = same-parts refl refl refl })
-      (record { heads = failed; follower = same-parts refl refl refl })
+      either-left (ltb (e .follower .failures) 7) _ _ (record { heads = kept; follower = same-parts refl refl refl refl })
+      (record { heads = failed; follower = same-parts refl refl refl refl })
   loaded-left (Progress.Refused number) c = left-same
 
   delivers-left : {arena : List ℕ} {r : After} → Delivers e arena failure bs r → Left e failure bs (r .answer) (r .engine)
   unfolding headerFailed
   delivers-left Ways.refuses = left-same
   delivers-left (Ways.loses number o s) =
-      either-left (eqb number 1 && ltb (e .follower .failures) 7) _ _ (record { heads = unread; follower = same-parts refl refl refl })
-      (record { heads = failed; follower = same-parts refl refl refl })
-  delivers-left (Ways.parses o z s a) = record { heads = came o z s a; follower = same-parts refl refl refl }
+      either-left (eqb number 1 && ltb (e .follower .failures) 7) _ _ (record { heads = unread; follower = same-parts refl refl refl refl })
+      (record { heads = failed; follower = same-parts refl refl refl refl })
+  delivers-left (Ways.parses o z s a) = record { heads = came o z s a; follower = same-parts refl refl refl refl }
   delivers-left {arena} (Ways.brings key b) = loaded-left (brought e arena key failure bs .answer) (brought e arena key failure bs .cache)
 
   pub deliver-left : (arena : List ℕ) → Left e failure bs (Engines.deliver e arena failure bs .answer) (Engines.deliver e arena failure bs .engine)

@@ -145,7 +145,7 @@ none-keeps {e} (Ways.repeats o) q = same-self (e .follower)
 none-keeps {e} Ways.fails q = same-self (e .follower)
 none-keeps {e} (Ways.opens p offset len o f r) q = same-self (e .follower)
 none-keeps {e} (Ways.spoils key i r s p) q = same-self (e .follower)
-none-keeps (Ways.arrives key n r s f) q = record { sight = refl; matcher = refl; horizon = refl }
+none-keeps (Ways.arrives key n r s f) q = record { sight = refl; matcher = refl; horizon = refl; ahead = refl }
 none-keeps (Ways.rests f s) q = s
 none-keeps (Ways.leaves f w o) q = absurd (true≢false (sym q))
 none-keeps (Ways.matches f w) q = absurd (true≢false (sym q))
@@ -207,7 +207,7 @@ pub record Silent (e : Engine) (arena : List ℕ) : Type 0 where
   pub shows : stepShown e arena ≡ nothing
   pub keeps : Same (e .follower) (Engines.step e arena .engine .follower)
 
-fetch-silent : (e : Engine) (arena : List ℕ) {offset len : ℕ} → Engines.step e arena .answer ≡ Status.Fetch offset len → Silent e arena
+pub fetch-silent : (e : Engine) (arena : List ℕ) {offset len : ℕ} → Engines.step e arena .answer ≡ Status.Fetch offset len → Silent e arena
 unfolding stepShown Engines.step
 fetch-silent e arena {offset} {len} q = record { shows = shows (engineOk e (length arena)) q; keeps = keeps (engineOk e (length arena)) q }
   where

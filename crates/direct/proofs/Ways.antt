@@ -78,11 +78,12 @@ pub record Works (e : Engine) (f : Fix) : Type 0 where
   pub ready : e .shared .phase ≡ Phase.Ready
   pub fix : e .follower .sight .fix ≡ MaybeFix.Is f
 
--- a follower that sees and matches what it did
+-- a follower that sees, matches and publishes what it did
 pub record Same (f g : Follower) : Type 0 where
   pub sight : g .sight ≡ f .sight
   pub matcher : g .matcher ≡ f .matcher
   pub horizon : g .«horizon_m» ≡ f .«horizon_m»
+  pub ahead : g .ahead ≡ f .ahead
 
 -- with the task that it works at, in a state that 12 does not name
 pub data Steps (e : Engine) (arena : List ℕ) : Task → Stepped → Type 0 where
@@ -121,7 +122,7 @@ module _ (e : Engine) (arena : List ℕ) where
   f₁ = counted (e .follower)
 
   counted-same : Same (e .follower) f₁
-  counted-same = record { sight = refl; matcher = refl; horizon = refl }
+  counted-same = record { sight = refl; matcher = refl; horizon = refl; ahead = refl }
 
   -- ---- the work of a step
 
@@ -129,7 +130,7 @@ module _ (e : Engine) (arena : List ℕ) where
     road-is : (key : TileKey) (x : Current) → keyOf (e .shared .header) (f .lat) (f .lon) ≡ Keyed.In key → e .follower .matcher .current ≡ x
         → Goes (roadTask x f) (roadDueBy x e arena f₁ f)
     unfolding roadStep
-    road-is key Current.Nothing k q = rests (withDue f₁ (roadOff (f₁ .due))) (record { sight = refl; matcher = refl; horizon = refl })
+    road-is key Current.Nothing k q = rests (withDue f₁ (roadOff (f₁ .due))) (record { sight = refl; matcher = refl; horizon = refl; ahead = refl })
     road-is key (Current.Is found) k q = follows f key found w k q
 
     due-is : (key : TileKey) (s t : Bool) → keyOf (e .shared .header) (f .lat) (f .lon) ≡ Keyed.In key

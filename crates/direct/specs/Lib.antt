@@ -1,6 +1,8 @@
--- Demand 3: the public calls as data; what a call finishes; the direct engine; what is claimed of every list of calls; the corollary of two lists.
+-- Demand 3: the public calls as data; what a call finishes; the direct engine; what is claimed of every list of calls; the corollary of two lists; what a
+-- host reads of the road between the calls.
 pub mod Lists
 pub mod Finished
 pub mod Direct
 pub mod Claims
 pub mod Story
+pub mod Published

@@ -1,6 +1,6 @@
 -- Demand 3's theorem is not empty: a list of calls, computed from the definitions, in which its premises hold (`fair`), reads fail (`header-missed`,
 -- `entry-missed`), a tile is evicted and loaded again (`answered`, `ready`, `evicted`), fixes come while a fetch is open, and a match and a road are
--- finished (`finished`): so they are the direct engine's (`direct-finished`). Assumes nothing.
+-- finished (`finished`) and read (`read`): so they are the direct engine's (`direct-finished`). Assumes nothing.
 use Prim.Native.Nat.{ℕ, _+_, _≤_}
 use mathlib.Core.Path.{_≡_, refl, _∙_}
 use mathlib.Core.Bool.{true, false}
@@ -79,6 +79,8 @@ use Rattle.direct.specs.Lists.{World, Call, fix, step, deliver, stepFrom, onCac
 use Rattle.direct.specs.Finished.{Shown, nothing, matched, published, Road, shown, stepShown, taskOf}
 use Rattle.direct.specs.Direct.{directly, newDirect, directShows}
 use Rattle.direct.specs.Claims.{tolds, shows, AllFair, madeOf}
+use Rattle.direct.specs.Story as Story
+use Rattle.direct.specs.Published.{readOf}
 use Rattle.direct.proofs.Claim.{all-direct}
 
 -- ---- the pack: one row of two tiles, of 10,000 millionths of a degree, at the equator
@@ -208,13 +210,9 @@ unfoldable pub answers : List Call → World → List Answer
 answers [] w = []
 answers (c ∷ cs) w = exec c w .answer ∷ answers cs (exec c w .world)
 
--- what a list of calls leaves
-unfoldable pub left : List Call → World → World
-left [] w = w
-left (c ∷ cs) w = left cs (exec c w .world)
-
+-- what the first n calls leave
 abbrev pub after : ℕ → World
-after n = left (take n calls) begin
+after n = Story.after (take n calls) begin
 
 -- ---- what is computed with: to name one of these on an `unfolding` line is to name all that its own line names
 
@@ -295,20 +293,27 @@ finished = refl
 
 -- a missed read of the header is counted, and one of the entry
 pub header-missed : after 2 .engine .follower .failures ≡ 1
-unfolding lists left
+unfolding lists Story.after
 header-missed = refl
 
 pub entry-missed : after 8 .engine .follower .failures ≡ 1
-unfolding lists left
+unfolding lists Story.after
 entry-missed = refl
 
 pub ready : Lookups.landsOn (after 13 .engine .shared .cache) roadKey ≡ Landing.At 0
-unfolding lists left
+unfolding lists Story.after
 ready = refl
 
 pub evicted : Lookups.landsOn (after 15 .engine .shared .cache) roadKey ≡ Landing.Nothing
-unfolding lists left
+unfolding lists Story.after
 evicted = refl
+
+-- ---- what is read
+
+-- the road that was finished stands published after the last call
+pub read : readOf (Story.after calls begin) ≡ road
+unfolding lists Story.after Calls.ahead
+read = refl
 
 -- ---- the premises
 
