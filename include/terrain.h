@@ -27,8 +27,9 @@ uint32_t terrain_u32_of_f32(float x);
 uint32_t terrain_u8_of_f32(float x);
 int32_t terrain_i16_of_f32(float x);
 
-/* The low 16 bits as a signed number. */
+/* The low 16 bits as a signed number; the 32 bits as an unsigned one. */
 int32_t terrain_i16_of_i32(int32_t z);
+uint32_t terrain_u32_of_i32(int32_t z);
 
 /* min and max pass over not-a-number, clamp passes it on. total_cmp answers -1, 0 or 1 and has it last; is_finite answers 1 or 0. */
 float terrain_min(float a, float b);

@@ -4,6 +4,7 @@ use mathlib.Core.List.{List}
 use lib.IntN.{ℤ}
 use lib.ListN.{set}
 use lib.Ieee.{Float}
+use Rattle.num.specs.Cast.{bits32}
 use Rattle.geo.specs.declared.Point.{Point}
 use Rattle.geo.specs.declared.Metres.{Metres}
 use Rattle.geo.specs.declared.MetresRead.{MetresRead}
@@ -14,7 +15,6 @@ use Rattle.geo.specs.declared.Figure.{Figure}
 use Rattle.geo.specs.declared.Figure.the-variants as Figure
 use Rattle.geo.specs.declared.EdgePoint.{EdgePoint}
 use Rattle.geo.specs.declared.EdgePoint.the-variants as EdgePoint
-use Rattle.abi.specs.Format.{wordOf}
 
 abbrev pub pointOf : ℤ → ℤ → Point
 pointOf lat lon = record { lat = lat; lon = lon }
@@ -27,7 +27,7 @@ edgePointNumber (EdgePoint.At p z) = 0
 edgePointNumber (EdgePoint.Refused n) = n
 
 abbrev pub edgePointOut : EdgePoint → List ℕ → List ℕ
-edgePointOut (EdgePoint.At p z) ws = set (set (set ws 0 (wordOf (p .lat))) 1 (wordOf (p .lon))) 2 (wordOf z)
+edgePointOut (EdgePoint.At p z) ws = set (set (set ws 0 (bits32 (p .lat))) 1 (bits32 (p .lon))) 2 (bits32 z)
 edgePointOut (EdgePoint.Refused n) ws = ws
 
 abbrev pub metresNumber : MetresRead → ℕ

@@ -1,10 +1,10 @@
 -- How the format's records and answers cross to C: words in the order of the fields, signed numbers in two's complement. Of each answer two things are said: its number,
 -- 0 where there is a result, 256 where there is none, else the refusal's; and what then stands where the result is to go. Assumes nothing.
-use Prim.Native.Nat.{ℕ, _+_, _-_, _*_, _/_, _%_}
+use Prim.Native.Nat.{ℕ, _+_, _*_, _/_, _%_}
 use mathlib.Core.List.{List}
-use lib.IntN.{ℤ, pos, negsuc}
 use lib.ListN.{getD, set}
 use mathlib.Core.Bool.{Bool, true, false}
+use Rattle.num.specs.Cast.{bits32}
 use Rattle.pack.specs.Bytes.{signed32}
 use Rattle.pack.specs.declared.Header.{Header}
 use Rattle.pack.specs.declared.TileKey.{TileKey}
@@ -70,11 +70,6 @@ edgeOf ws = record {
 abbrev pub keyOf : ℕ → ℕ → TileKey
 keyOf row col = record { row = row; col = col }
 
--- the 32 bits of a signed number
-abbrev pub wordOf : ℤ → ℕ
-wordOf (pos n) = n
-wordOf (negsuc n) = 4294967295 - n
-
 -- ---- answers
 
 abbrev pub rangeNumber : Range → ℕ
@@ -90,7 +85,7 @@ parsedNumber p = answerNumber (p .answer)
 
 abbrev pub headerOut : Header → List ℕ → List ℕ
 headerOut h ws =
-    set (set (set (set (set (set (set (set (set (set (set (set (set ws 0 (h .tile)) 1 (wordOf (h .south))) 2 (wordOf (h .west))) 3 (h .rows)) 4 (h .cols)) 5 (h .directory))
+    set (set (set (set (set (set (set (set (set (set (set (set (set ws 0 (h .tile)) 1 (bits32 (h .south))) 2 (bits32 (h .west))) 3 (h .rows)) 4 (h .cols)) 5 (h .directory))
     6 (h .«data»)) 7 (h .total)) 8 (h .tiles)) 9 (h .created % 4294967296)) 10 (h .created / 4294967296)) 11 (h .«attribution_offset»)) 12 (h .«attribution_len»)
 
 abbrev pub acceptedOut : Answer → Header → List ℕ → List ℕ
@@ -115,7 +110,7 @@ originNumber (Origin.At c) = 0
 originNumber (Origin.Refused n) = n
 
 abbrev pub originOut : Origin → List ℕ → List ℕ
-originOut (Origin.At c) ws = set (set ws 0 (wordOf (c .south))) 1 (wordOf (c .west))
+originOut (Origin.At c) ws = set (set ws 0 (bits32 (c .south))) 1 (bits32 (c .west))
 originOut (Origin.Refused n) ws = ws
 
 abbrev pub offsetNumber : Offset → ℕ

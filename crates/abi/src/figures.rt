@@ -27,9 +27,9 @@ pub extern "C" fn terrain_edge_point(
     let answer = geo::edge_point(h, bytes, e, index);
     match answer {
         EdgePoint::At(p, z) => {
-            out[0] = crate::format::word_of(p.lat);
-            out[1] = crate::format::word_of(p.lon);
-            out[2] = crate::format::word_of(z);
+            out[0] = num::cast::u32_of_i32(p.lat);
+            out[1] = num::cast::u32_of_i32(p.lon);
+            out[2] = num::cast::u32_of_i32(z);
             0
         }
         EdgePoint::Refused(n) => n,

@@ -32,16 +32,6 @@ fn long_of(low: u32, high: u32) -> u64
     (low as u64) + (high as u64) * 4294967296
 }
 
-// The 32 bits of a signed number.
-pub fn word_of(z: i32) -> u32
-    ensures { λ r. ⌜ r ≡ Format.wordOf z ⌝ }
-{
-    if z >= 0 {
-        return z as u32;
-    }
-    4294967295 - ((-1 - z) as u32)
-}
-
 // A header from its words, and back.
 pub fn header_of(words: &[u32; 13]) -> Header
     ensures { λ r. ⌜ r ≡ Format.headerOf (now (words .entry)) ⌝ }
@@ -66,8 +56,8 @@ fn write_header(h: Header, out: &mut [u32; 13])
     ensures { λ r. ⌜ now (out .exit) ≡ Format.headerOut h (now (out .entry)) ⌝ }
 {
     out[0] = h.tile;
-    out[1] = word_of(h.south);
-    out[2] = word_of(h.west);
+    out[1] = num::cast::u32_of_i32(h.south);
+    out[2] = num::cast::u32_of_i32(h.west);
     out[3] = h.rows as u32;
     out[4] = h.cols as u32;
     out[5] = h.directory;
@@ -228,8 +218,8 @@ pub extern "C" fn terrain_header_origin(
     let answer = h.origin(key_of(row, col));
     match answer {
         Origin::At(c) => {
-            out[0] = word_of(c.south);
-            out[1] = word_of(c.west);
+            out[0] = num::cast::u32_of_i32(c.south);
+            out[1] = num::cast::u32_of_i32(c.west);
             0
         }
         Origin::Refused(n) => n,

@@ -93,6 +93,13 @@ pub extern "C" fn terrain_i16_of_i32(z: i32) -> i32
 }
 
 #[no_mangle]
+pub extern "C" fn terrain_u32_of_i32(z: i32) -> u32
+    ensures { λ r. ⌜ r ≡ Cast.bits32 z ⌝ }
+{
+    num::cast::u32_of_i32(z)
+}
+
+#[no_mangle]
 pub extern "C" fn terrain_min(a: f32, b: f32) -> f32
     ensures { λ r. ⌜ r ≡ Order.min a b ⌝ }
 {

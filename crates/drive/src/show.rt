@@ -117,9 +117,9 @@ fn heights(a: Ahead) -> [u8; 1002]
     let mut out = [0u8; 1002];
     let mut i = 0;
     while i < 501 {
-        let n = engine_replay::heights::word(a.samples[i]);
+        let n = num::cast::u16_of_i16(a.samples[i]);
         out[i * 2] = (n % 256) as u8;
-        out[i * 2 + 1] = (n / 256 % 256) as u8;
+        out[i * 2 + 1] = (n / 256) as u8;
         i += 1;
     }
     out

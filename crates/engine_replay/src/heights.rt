@@ -1,24 +1,18 @@
 // The heights of the published road, 512 numbers of 16 bits behind the words of an answer.
 use cache_replay::words;
 use follower::Ahead;
-use match_replay::figures::word_of;
 use predict::BEHIND_SAMPLES;
 use predict::MAX_SAMPLES;
-
-// A height in two's complement.
-pub fn word(z: i16) -> u32 {
-    word_of(z as i32)
-}
 
 // Height `i` of an answer, of 512.
 fn height(z: i16, i: usize, out: &mut [u8]) {
     if 511 < i {
         return;
     }
-    let n = word(z);
+    let n = num::cast::u16_of_i16(z);
     let at = 256 + i * 2;
     words::put_byte(out, at, (n % 256) as u8);
-    words::put_byte(out, at + 1, (n / 256 % 256) as u8);
+    words::put_byte(out, at + 1, (n / 256) as u8);
 }
 
 pub fn samples(a: Ahead, out: &mut [u8]) {

@@ -17,7 +17,7 @@ use follower::MaybeTime;
 use follower::Sight;
 use junction::End;
 use match_replay::figures::pattern;
-use match_replay::figures::word_of;
+use num::cast::u32_of_i32;
 use pack::Header;
 
 fn flag(b: bool) -> u32 {
@@ -41,8 +41,8 @@ fn time(t: u64, at: usize, out: &mut [u8]) {
 // The size and the corner of a header's tiles.
 fn corner(h: Header, out: &mut [u8]) {
     words::put(out, 0, h.tile);
-    words::put(out, 1, word_of(h.south));
-    words::put(out, 2, word_of(h.west));
+    words::put(out, 1, u32_of_i32(h.south));
+    words::put(out, 2, u32_of_i32(h.west));
 }
 
 // How many they are.
@@ -132,8 +132,8 @@ fn fix(fix: MaybeFix, out: &mut [u8]) {
         MaybeFix::Nothing => {}
         MaybeFix::Is(f) => {
             words::put(out, 50, 1);
-            words::put(out, 51, word_of(f.lat));
-            words::put(out, 52, word_of(f.lon));
+            words::put(out, 51, u32_of_i32(f.lat));
+            words::put(out, 52, u32_of_i32(f.lon));
             time(f.at_ms, 53, out);
         }
     }
@@ -197,7 +197,7 @@ fn result(a: Ahead, out: &mut [u8]) {
     words::put(out, 6, a.generation);
     time(a.at_ms, 13, out);
     matched(current, out);
-    words::put(out, 29, word_of(a.start_z_dm));
+    words::put(out, 29, u32_of_i32(a.start_z_dm));
 }
 
 fn road(a: Ahead, out: &mut [u8]) {
@@ -245,7 +245,7 @@ pub fn answer(told: Told, s: State, arena: &[u8], out: &mut [u8]) {
 fn mark_of(a: Ahead) -> u32 {
     let b = std::num::wrapping_add_u32(a.generation, words::low(a.len));
     let c = std::num::wrapping_add_u32(b, pattern(a.end_m));
-    std::num::wrapping_add_u32(c, heights::word(a.samples[1]))
+    std::num::wrapping_add_u32(c, num::cast::u16_of_i16(a.samples[1]) as u32)
 }
 
 // How a record ended, as one number that clock, steps and road go into.

@@ -1,4 +1,4 @@
-// Floats and signed numbers as words.
+// Floats as words.
 
 // The float of a pattern; every not-a-number is one.
 pub fn float(pattern: u32) -> f32 {
@@ -14,12 +14,4 @@ pub fn pattern(x: f32) -> u32 {
         return 2143289344;
     }
     f32::to_bits(x)
-}
-
-// A signed number in two's complement.
-pub fn word_of(z: i32) -> u32 {
-    if z >= 0 {
-        return z as u32;
-    }
-    4294967295 - ((-1 - z) as u32)
 }

@@ -3,7 +3,6 @@ use crate::Ended;
 use crate::State;
 use crate::Step;
 use crate::figures::pattern;
-use crate::figures::word_of;
 use cache_replay::words;
 use candidates::Current;
 use candidates::Forward;
@@ -11,6 +10,7 @@ use candidates::Matched;
 use matcher::Challenger;
 use matcher::Matcher;
 use matcher::NearKeys;
+use num::cast::u32_of_i32;
 use pages::Pages;
 use tile::TileId;
 
@@ -86,7 +86,7 @@ fn road(m: Matched, at: usize, out: &mut [u8]) {
     if 64 < at {
         return;
     }
-    words::put(out, at, word_of(m.z_dm));
+    words::put(out, at, u32_of_i32(m.z_dm));
     words::put(out, at + 1, m.class as u32);
     words::put(out, at + 2, m.flags as u32);
     words::put(out, at + 3, m.confidence as u32);
@@ -160,7 +160,7 @@ pub fn answer(ended: Ended, s: State, out: &mut [u8]) {
 
 fn mark_of(m: Matched) -> u32 {
     let a = std::num::wrapping_add_u32(pattern(m.offset_m), pattern(m.ridden_m));
-    let b = std::num::wrapping_add_u32(a, word_of(m.z_dm));
+    let b = std::num::wrapping_add_u32(a, u32_of_i32(m.z_dm));
     std::num::wrapping_add_u32(b, m.confidence as u32)
 }
 

@@ -5,6 +5,11 @@ use mathlib.Core.Bool.{cond}
 use lib.Dec.{ltb}
 use lib.IntN.{ℤ, pos, negsuc}
 
+-- z modulo 2 ^ 32, of a z that has 32 bits: Rust's `z as u32`
+abbrev pub bits32 : ℤ → ℕ
+bits32 (pos n) = n
+bits32 (negsuc n) = 4294967295 - n
+
 -- z modulo 2 ^ 16: the number that its low 16 bits stand for
 abbrev pub lowBits : ℤ → ℕ
 lowBits (pos n) = n % 65536

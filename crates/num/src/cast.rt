@@ -1,7 +1,7 @@
-// Rust's casts from floats to whole numbers, which cut toward zero, hold to the range and make 0 of not-a-number, and the cast that keeps low bits.
+// Rust's casts from floats to whole numbers, which cut toward zero, hold to the range and make 0 of not-a-number, and the casts that keep low bits.
 ghost use mathlib.Core.Path.{_≡_};
 ghost use lib.Ieee.{toSigned, toUnsigned};
-ghost use Rattle.num.specs.Cast.{lowBits, low16};
+ghost use Rattle.num.specs.Cast.{bits32, lowBits, low16};
 
 // Rust's `x as i64`. The others hold its answer to their own range as whole numbers.
 pub fn i64_of_f32(x: f32) -> i64
@@ -88,14 +88,28 @@ pub fn u64_of_f64(x: f64) -> u64
     0
 }
 
+// Rust's `z as u32`.
+pub fn u32_of_i32(z: i32) -> u32
+    ensures { λ r. ⌜ r ≡ bits32 z ⌝ }
+{
+    if z >= 0 {
+        return z as u32;
+    }
+    4294967295 - ((-1 - z) as u32)
+}
+
 // The low 16 bits of z.
 fn low_bits(z: i32) -> u32
     ensures { λ r. ⌜ r ≡ lowBits z ⌝ }
 {
-    if z >= 0 {
-        return (z as u32) % 65536;
-    }
-    65535 - ((-1 - z) as u32) % 65536
+    u32_of_i32(z) % 65536
+}
+
+// Rust's `z as u16`.
+pub fn u16_of_i16(z: i16) -> u16
+    ensures { λ r. ⌜ r ≡ lowBits z ⌝ }
+{
+    low_bits(z as i32) as u16
 }
 
 // Rust's `z as i16`.

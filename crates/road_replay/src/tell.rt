@@ -5,7 +5,6 @@ use cache_replay::words;
 use junction::End;
 use match_replay::State;
 use match_replay::figures::pattern;
-use match_replay::figures::word_of;
 use predict::BEHIND_SAMPLES;
 use predict::MAX_SAMPLES;
 use predict::Prediction;
@@ -38,20 +37,15 @@ fn blank(out: &mut [u8]) {
     words::put(out, 15, 0);
 }
 
-// A height in two's complement.
-fn word(z: i16) -> u32 {
-    word_of(z as i32)
-}
-
 // Height `i` of an answer, of 512.
 fn height(z: i16, i: usize, out: &mut [u8]) {
     if 511 < i {
         return;
     }
-    let n = word(z);
+    let n = num::cast::u16_of_i16(z);
     let at = 64 + i * 2;
     words::put_byte(out, at, (n % 256) as u8);
-    words::put_byte(out, at + 1, (n / 256 % 256) as u8);
+    words::put_byte(out, at + 1, (n / 256) as u8);
 }
 
 fn samples(h: Heights, out: &mut [u8]) {
@@ -94,5 +88,5 @@ pub fn mark(ended: Ended) -> u32 {
     let a = std::num::wrapping_add_u32(told.how, words::low(r.len));
     let b = std::num::wrapping_add_u32(a, pattern(r.end_m));
     let c = std::num::wrapping_add_u32(b, r.confidence as u32);
-    std::num::wrapping_add_u32(c, word(heights.samples[1]))
+    std::num::wrapping_add_u32(c, num::cast::u16_of_i16(heights.samples[1]) as u32)
 }

@@ -13,6 +13,7 @@ unsafe extern "C" {
     pub safe fn terrain_u8_of_f32(x: f32) -> u32;
     pub safe fn terrain_i16_of_f32(x: f32) -> i32;
     pub safe fn terrain_i16_of_i32(z: i32) -> i32;
+    pub safe fn terrain_u32_of_i32(z: i32) -> u32;
     pub safe fn terrain_min(a: f32, b: f32) -> f32;
     pub safe fn terrain_max(a: f32, b: f32) -> f32;
     pub safe fn terrain_clamp(x: f32, lo: f32, hi: f32) -> f32;

@@ -96,6 +96,7 @@ fn main() -> ExitCode {
     let tallies = match words.iter().map(String::as_str).collect::<Vec<_>>()[..] {
         [] | ["gate"] => compare(&GATE),
         ["full"] => compare(&FULL),
+        ["full", "numbers"] => numbers::compare(&FULL),
         ["full", "format"] => {
             crc::compare(&FULL).into_iter().chain(format_and_geometry(&FULL)).collect()
         }
@@ -124,7 +125,7 @@ fn main() -> ExitCode {
         ["sample", pack, list, seed] => drive::write_any(pack, list, seed),
         _ => {
             eprintln!(
-                "usage: run [gate [cache | matching | road | engine | drive] | full [format | cache | matching | road | engine] | bench [road | engine] | panics | list FILE | list_format FILE | list_cache FILE | list_matches FILE | list_roads FILE | list_engine FILE | drive PACK DRIVE [K] | sample PACK DRIVE [SEED]"
+                "usage: run [gate [cache | matching | road | engine | drive] | full [numbers | format | cache | matching | road | engine] | bench [road | engine] | panics | list FILE | list_format FILE | list_cache FILE | list_matches FILE | list_roads FILE | list_engine FILE | drive PACK DRIVE [K] | sample PACK DRIVE [SEED]"
             );
             return ExitCode::from(2);
         }

@@ -23,7 +23,7 @@ const fn of(kind: u32, name: &'static str, port: Words, rust: Words) -> Function
 }
 
 #[rustfmt::skip]
-pub const FUNCTIONS: [Function; 18] = [
+pub const FUNCTIONS: [Function; 19] = [
     of(1, "f32_of_i32", |[a, ..]| bits(terrain_f32_of_i32(a as i32)), |[a, ..]| bits(a as i32 as f32)),
     of(2, "f32_of_u32", |[a, ..]| bits(terrain_f32_of_u32(a)), |[a, ..]| bits(a as f32)),
     of(3, "i32_of_f32", |[a, ..]| terrain_i32_of_f32(f(a)) as u32, |[a, ..]| f(a) as i32 as u32),
@@ -46,6 +46,7 @@ pub const FUNCTIONS: [Function; 18] = [
         |[a, b, _]| bits(f64::from_bits(wide(a, b)) as f32)),
     of(19, "clamp", |[x, lo, hi]| bits(terrain_clamp(f(x), f(lo), f(hi))),
         |[x, lo, hi]| bits(f(x).clamp(f(lo), f(hi)))),
+    of(20, "u32_of_i32", |[a, ..]| terrain_u32_of_i32(a as i32), |[a, ..]| a as i32 as u32),
 ];
 
 fn f(bits: u32) -> f32 {

@@ -19,20 +19,20 @@ edge-point-requires c κs = search needs
 enum-known-answer : tie.Need-enum-known-answer
 enum-known-answer c = search needs
 
-word-of-requires : tie.Need-word-of-requires
-word-of-requires c κs = search needs
+u32-of-i32-requires : tie.Need-u32-of-i32-requires
+u32-of-i32-requires c κs = search needs
 
 element-write-out : tie.Need-element-write-out
 element-write-out c = search needs
 
-word-of-requires-2 : tie.Need-word-of-requires-2
-word-of-requires-2 c κs = search needs
+u32-of-i32-requires-2 : tie.Need-u32-of-i32-requires-2
+u32-of-i32-requires-2 c κs = search needs
 
 element-write-out-2 : tie.Need-element-write-out-2
 element-write-out-2 c = search needs
 
-word-of-requires-3 : tie.Need-word-of-requires-3
-word-of-requires-3 c κs = search needs
+u32-of-i32-requires-3 : tie.Need-u32-of-i32-requires-3
+u32-of-i32-requires-3 c κs = search needs
 
 element-write-out-3 : tie.Need-element-write-out-3
 element-write-out-3 c = search needs
@@ -47,9 +47,9 @@ returns c =
     rw (
       ← (rw (called .before .before .header-of .ensures, called .before .edge-of .ensures) at (called .edge-point .ensures)),
       found .answer .given .1,
-      c .before .before .before .word-of .ensures,
-      c .before .word-of2 .ensures,
-      c .word-of3 .ensures,
+      c .before .before .before .u32-of-i32 .ensures,
+      c .before .u32-of-i322 .ensures,
+      c .u32-of-i323 .ensures,
       got w32 (c .before .before .before .before .struct-told .given .0 .1),
       got w32 (c .before .before .struct-told2 .given .1 .0 .1),
       got w32 (c .before .before .before .before .before .known-told .given .1 .0 .1),
@@ -69,11 +69,11 @@ terrain-edge-point-spec =
     edge-of-requires
     edge-point-requires
     enum-known-answer
-    word-of-requires
+    u32-of-i32-requires
     element-write-out
-    word-of-requires-2
+    u32-of-i32-requires-2
     element-write-out-2
-    word-of-requires-3
+    u32-of-i32-requires-3
     element-write-out-3
     enum-known-answer-2
     returns

@@ -18,14 +18,14 @@ origin-requires c κs = search needs
 enum-known-answer : tie.Need-enum-known-answer
 enum-known-answer c = search needs
 
-word-of-requires : tie.Need-word-of-requires
-word-of-requires c κs = search needs
+u32-of-i32-requires : tie.Need-u32-of-i32-requires
+u32-of-i32-requires c κs = search needs
 
 element-write-out : tie.Need-element-write-out
 element-write-out c = search needs
 
-word-of-requires-2 : tie.Need-word-of-requires-2
-word-of-requires-2 c κs = search needs
+u32-of-i32-requires-2 : tie.Need-u32-of-i32-requires-2
+u32-of-i32-requires-2 c κs = search needs
 
 element-write-out-2 : tie.Need-element-write-out-2
 element-write-out-2 c = search needs
@@ -37,7 +37,7 @@ returns : tie.Need-returns
 returns c =
     let corner = c .before .before .before .before .before in
     let called = corner .before .before in
-    rw (← (rw (called .before .before .header-of .ensures, called .before .key-of .ensures) at (called .origin .ensures)), corner .answer .given .1, c .before .before .word-of .ensures, c .word-of2 .ensures, got w32 (c .before .before .before .struct-told .given .0 .1), got w32 (c .before .struct-told2 .given .1 .0 .1)) (refl, refl)
+    rw (← (rw (called .before .before .header-of .ensures, called .before .key-of .ensures) at (called .origin .ensures)), corner .answer .given .1, c .before .before .u32-of-i32 .ensures, c .u32-of-i322 .ensures, got w32 (c .before .before .before .struct-told .given .0 .1), got w32 (c .before .struct-told2 .given .1 .0 .1)) (refl, refl)
 
 returns-2 : tie.Need-returns-2
 returns-2 c =
@@ -52,9 +52,9 @@ terrain-header-origin-spec =
     key-of-requires
     origin-requires
     enum-known-answer
-    word-of-requires
+    u32-of-i32-requires
     element-write-out
-    word-of-requires-2
+    u32-of-i32-requires-2
     element-write-out-2
     enum-known-answer-2
     returns

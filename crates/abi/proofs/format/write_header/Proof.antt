@@ -8,14 +8,14 @@ use Rattle.abi.proofs.format.write_header.Tie as tie
 element-write-out : tie.Need-element-write-out
 element-write-out c = search needs
 
-word-of-requires : tie.Need-word-of-requires
-word-of-requires c κs = search needs
+u32-of-i32-requires : tie.Need-u32-of-i32-requires
+u32-of-i32-requires c κs = search needs
 
 element-write-out-2 : tie.Need-element-write-out-2
 element-write-out-2 c = search needs
 
-word-of-requires-2 : tie.Need-word-of-requires-2
-word-of-requires-2 c κs = search needs
+u32-of-i32-requires-2 : tie.Need-u32-of-i32-requires-2
+u32-of-i32-requires-2 c κs = search needs
 
 element-write-out-3 : tie.Need-element-write-out-3
 element-write-out-3 c = search needs
@@ -66,16 +66,16 @@ returns : tie.Need-returns
 returns c =
     let south = c .before .before .before .before .before .before in
     let west = c .before .before .before .before in
-    rw (south .word-of .ensures, west .word-of2 .ensures, got w32 (south .before .struct-told .given .1 .0 .1), got w32 (west .before .struct-told2 .given .1 .1 .0 .1))
+    rw (south .u32-of-i32 .ensures, west .u32-of-i322 .ensures, got w32 (south .before .struct-told .given .1 .0 .1), got w32 (west .before .struct-told2 .given .1 .1 .0 .1))
 
 pub write-header-spec : {M : Type 1} → statement M
 write-header-spec =
     tie.close
     (tie.spec
     element-write-out
-    word-of-requires
+    u32-of-i32-requires
     element-write-out-2
-    word-of-requires-2
+    u32-of-i32-requires-2
     element-write-out-3
     cast-out
     element-write-out-4

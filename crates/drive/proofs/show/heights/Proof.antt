@@ -15,14 +15,14 @@ abbrev μ-loop : tie.MeasureT-loop
 loop-holds : tie.Need-loop-holds Inv-loop μ-loop
 loop-holds c = search needs
 
-mul-word : tie.Need-mul-word Inv-loop μ-loop
-mul-word c = search needs
+mul-u16-of-i16 : tie.Need-mul-u16-of-i16 Inv-loop μ-loop
+mul-u16-of-i16 c = search needs
 
-element-copy-out-word : tie.Need-element-copy-out-word Inv-loop μ-loop
-element-copy-out-word c = search needs
+element-copy-out-u16-of-i16 : tie.Need-element-copy-out-u16-of-i16 Inv-loop μ-loop
+element-copy-out-u16-of-i16 c = search needs
 
-word-requires : tie.Need-word-requires Inv-loop μ-loop
-word-requires c κs = search needs
+u16-of-i16-requires : tie.Need-u16-of-i16-requires Inv-loop μ-loop
+u16-of-i16-requires c κs = search needs
 
 cast-out : tie.Need-cast-out Inv-loop μ-loop
 cast-out c = search needs
@@ -64,9 +64,9 @@ heights-spec =
     Inv-loop
     μ-loop
     loop-holds
-    mul-word
-    element-copy-out-word
-    word-requires
+    mul-u16-of-i16
+    element-copy-out-u16-of-i16
+    u16-of-i16-requires
     cast-out
     mul-out
     array-write-out

@@ -1,54 +1,24 @@
--- `cast::low_bits` meets its contract, by the sign: a negative z is taken by its complement, -1 - z. Assumes nothing.
-use Prim.Native.Nat.{_-_, _%_}
-use mathlib.Core.Bool.{true, false}
-use mathlib.Core.Path.{_≡_, _∙_}
+-- `cast::low_bits` meets its contract: of 32 bits the low 16 are the low 16 of z. Assumes nothing.
+use Prim.Native.Nat.{_%_}
+use mathlib.Core.Path.{_≡_, refl}
 use native.Mathlib.Omega.{arith}
-use lib.IntN.{ℤ, pos, negsuc, _-ℤ_}
-use lib.Signed.{leZ, mag}
-use mir.Facts.{toZ-ofZ, toZ-pos}
+use lib.IntN.{ℤ, pos, negsuc}
+use mir.Facts.{toZ-ofZ}
 use mir.Syntax.{w32}
-use mir.Val.{Fits, SFits, ofZ, toZ}
-use borrow.Author.Needs.{needs}
-use Rattle.num.specs.Cast.{lowBits}
-use Rattle.num.proofs.CastLaws.{as-pos, as-neg, flip-neg}
+use mir.Val.{SFits}
+use Rattle.num.specs.Cast.{bits32, lowBits}
 use Rattle.num.proofs.cast.low_bits.Statement.{statement}
 use Rattle.num.proofs.cast.low_bits.Tie as tie
 
-size-fits : {z : ℤ} → SFits w32 z → Fits w32 (mag z)
-size-fits f = record { fits = omega (arith, f .sfits) }
+low-of-bits : (z : ℤ) → SFits w32 z → bits32 z % 65536 ≡ lowBits z
+low-of-bits (pos n) f = refl
+low-of-bits (negsuc n) f = omega (arith, f .sfits)
 
-module _ {z : ℤ} (f : SFits w32 z) (e : leZ (pos 0) (toZ w32 (ofZ w32 z)) ≡ true) where
-  plain : toZ w32 (ofZ w32 z) ≡ pos (mag z)
-  plain = toZ-ofZ f ∙ as-pos z (rw (toZ-ofZ f) at e)
-
-  low-plain : mag z % 65536 ≡ lowBits z
-  low-plain = rw (as-pos z (rw (toZ-ofZ f) at e))
-
-module _ {z : ℤ} (f : SFits w32 z) (e : leZ (pos 0) (toZ w32 (ofZ w32 z)) ≡ false) where
-  complement : negsuc 0 -ℤ toZ w32 (ofZ w32 z) ≡ pos (mag z)
-  complement = rw (toZ-ofZ f, as-neg z (rw (toZ-ofZ f) at e)) (flip-neg (mag z))
-
-  low-complement : 65535 - mag z % 65536 ≡ lowBits z
-  low-complement = rw (as-neg z (rw (toZ-ofZ f) at e))
-
-cast-result : tie.Need-cast-result
-cast-result c = rw (plain (c .before .fits .z) (c .if1 .taken)) (tt, size-fits (c .before .fits .z))
+u32-of-i32-requires : tie.Need-u32-of-i32-requires
+u32-of-i32-requires c κs = tt
 
 returns : tie.Need-returns
-returns c = rw (plain (c .before .fits .z) (c .if1 .taken)) (low-plain (c .before .fits .z) (c .if1 .taken))
-
-sub-result : tie.Need-sub-result
-sub-result c = rw (complement (c .before .fits .z) (c .if1 .left)) (record { sfits = c .before .fits .z .sfits })
-
-cast-result-2 : tie.Need-cast-result-2
-cast-result-2 c = rw (complement (c .before .fits .z) (c .if1 .left), toZ-pos w32 (c .before .fits .z .sfits)) (tt, size-fits (c .before .fits .z))
-
-sub-result-2 : tie.Need-sub-result-2
-sub-result-2 c = search needs
-
-returns-2 : tie.Need-returns-2
-returns-2 c = rw (complement (c .before .fits .z) (c .if1 .left), toZ-pos w32 (c .before .fits .z .sfits)) (low-complement (c .before .fits .z) (c .if1 .left))
+returns c = rw (rw (toZ-ofZ (c .before .fits .z)) at (c .u32-of-i32 .ensures)) (low-of-bits (c .before .args .z) (c .before .fits .z))
 
 pub low-bits-spec : {M : Type 1} → statement M
-low-bits-spec =
-    tie.close (tie.spec cast-result returns sub-result cast-result-2 sub-result-2 returns-2)
+low-bits-spec = tie.close (tie.spec u32-of-i32-requires returns)
