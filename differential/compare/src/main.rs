@@ -97,6 +97,7 @@ fn main() -> ExitCode {
         [] | ["gate"] => compare(&GATE),
         ["full"] => compare(&FULL),
         ["full", "numbers"] => numbers::compare(&FULL),
+        ["full", "numbers", name] => numbers::compare_one(&FULL, name),
         ["full", "format"] => {
             crc::compare(&FULL).into_iter().chain(format_and_geometry(&FULL)).collect()
         }
@@ -125,7 +126,7 @@ fn main() -> ExitCode {
         ["sample", pack, list, seed] => drive::write_any(pack, list, seed),
         _ => {
             eprintln!(
-                "usage: run [gate [cache | matching | road | engine | drive] | full [numbers | format | cache | matching | road | engine] | bench [road | engine] | panics | list FILE | list_format FILE | list_cache FILE | list_matches FILE | list_roads FILE | list_engine FILE | drive PACK DRIVE [K] | sample PACK DRIVE [SEED]"
+                "usage: run [gate [cache | matching | road | engine | drive] | full [numbers [NAME] | format | cache | matching | road | engine] | bench [road | engine] | panics | list FILE | list_format FILE | list_cache FILE | list_matches FILE | list_roads FILE | list_engine FILE | drive PACK DRIVE [K] | sample PACK DRIVE [SEED]"
             );
             return ExitCode::from(2);
         }

@@ -134,6 +134,14 @@ pub fn sample(random: &mut Random, edges: &[u32]) -> u32 {
 
 /// The longitude scale has latitudes of its own, in angles.rs.
 pub fn compare(scale: &Scale) -> Vec<Tally> {
-    let (edges, all) = (edges(), FUNCTIONS.iter().filter(|f| f.kind != 8));
-    all.map(|f| f.compare(scale, &edges)).collect()
+    compare_some(scale, |f| f.kind != 8)
+}
+
+pub fn compare_one(scale: &Scale, name: &str) -> Vec<Tally> {
+    compare_some(scale, |f| f.name == name)
+}
+
+fn compare_some(scale: &Scale, wanted: impl Fn(&Function) -> bool) -> Vec<Tally> {
+    let (edges, some) = (edges(), FUNCTIONS.iter().filter(|f| wanted(f)));
+    some.map(|f| f.compare(scale, &edges)).collect()
 }
