@@ -2,7 +2,7 @@
 -- the list finished (`all-read`), by `all-direct` one that the direct engine worked out (`all-read-direct`). Assumes nothing.
 use Prim.Native.Nat.{ℕ, _+_}
 use mathlib.Core.Path.{_≡_, refl, sym, ap, subst, _∙_}
-use mathlib.Core.Bool.{Bool, true, false, cond, true≢false}
+use mathlib.Core.Bool.{Bool, true, false, cond}
 use mathlib.Core.List.{List, [], _∷_}
 use mathlib.Core.Logic.{_⊎_, inl, inr, ⊎-elim}
 use native.Mathlib.Omega.{arith}
@@ -11,26 +11,19 @@ use lib.Ieee.{Float}
 use lib.ListN.{length}
 use Rattle.pack.specs.Grid.{isPoint}
 use Rattle.pack.specs.declared.TileKey.{TileKey}
-use Rattle.cache.specs.Direct.{look}
 use Rattle.cache.specs.declared.Cache.{Cache}
 use Rattle.candidates.specs.declared.Current.{Current}
 use Rattle.candidates.specs.declared.Current.the-variants as Current
-use Rattle.candidates.specs.declared.Heading.{Heading}
-use Rattle.candidates.specs.declared.Kept.{Kept}
 use Rattle.candidates.specs.declared.Matched.{Matched}
 use Rattle.matcher.specs.Gather as Gather
-use Rattle.matcher.specs.Relied.{isFinished}
 use Rattle.matcher.specs.declared.Matcher.{Matcher}
 use Rattle.matcher.specs.declared.Outcome as MatchOutcome
 use Rattle.matcher.specs.declared.Outcome.the-variants as Match
-use Rattle.matcher.specs.declared.gather.Ending.{Ending}
-use Rattle.matcher.specs.declared.gather.Ending.the-variants as Ending
 use Rattle.junction.specs.declared.End.the-variants as End
 use Rattle.predict.specs.Predict as Predict
 use Rattle.predict.specs.declared.Outcome as RoadOutcome
 use Rattle.predict.specs.declared.Outcome.the-variants as Roads
 use Rattle.follower.specs.Fixes as Fixes
-use Rattle.follower.specs.Fixes.{placeOf}
 use Rattle.follower.specs.Publish as Publish
 use Rattle.follower.specs.Publish.{nothingAhead, withMatch, withoutMatch}
 use Rattle.follower.specs.State as Followers
@@ -59,6 +52,7 @@ use Rattle.direct.specs.Published.{IsFinished, Empty, Publishes, kept, f
 use Rattle.direct.proofs.Ways as Ways
 use Rattle.direct.proofs.Ways.{Steps, Lends, step-is, lends-is}
 use Rattle.direct.proofs.Beside.{deliver-left, match-asks}
+use Rattle.direct.proofs.Seen.{made-current}
 use Rattle.direct.proofs.Linked.{Silent, fetch-silent}
 use Rattle.direct.proofs.Claim.{all-direct}
 
@@ -69,21 +63,6 @@ pub data Leaves (e : Engine) (s : Shown) (pages : ℕ) (a : Ahead) : Type 0 wher
   stays : a ≡ e .follower .ahead → Leaves e s pages a
   ends : IsFinished s (roadOf a) → Leaves e s pages a
   limit : mayAsk (e .follower .due) pages ≡ false → a .end ≡ End.Memory → Empty (roadOf a) → Leaves e s pages a
-
--- a match that was made is the matcher's current one
-made-current : (e : Engine) (arena : List ℕ) (f : Fix) (x : MatchOutcome.Outcome) → matchOf e arena f .answer ≡ x → isFinished x ≡ true
-    → Gather.outcome (matchOf e arena f .matcher .current) ≡ x
-unfolding Gather.updated Gather.updateOver
-made-current e arena f =
-    let r = Gather.runOver (look (e .shared .cache) arena (e .shared .header .tile)) (e .follower .matcher) (e .shared .header) (placeOf f)
-    (e .follower .sight .heading) in
-    by (r .end) (r .kept) (e .follower .matcher) (e .follower .sight .heading)
-  where
-    by : (end : Ending) (k : Kept) (m : Matcher) (heading : Heading) (x : MatchOutcome.Outcome) → Gather.matchingBy end k m heading .answer ≡ x
-        → isFinished x ≡ true → Gather.outcome (Gather.matchingBy end k m heading .matcher .current) ≡ x
-    by Ending.All k m heading x q fin = q
-    by (Ending.Need key) k m heading x q fin = absurd (true≢false (sym fin ∙ ap isFinished (sym q)))
-    by Ending.Stale k m heading x q fin = absurd (true≢false (sym fin ∙ ap isFinished (sym q)))
 
 module _ (e : Engine) (arena : List ℕ) where
   abbrev a₁ : Ahead

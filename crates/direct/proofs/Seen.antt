@@ -2,7 +2,7 @@
 -- finishes at the cache's look gives the same at every look that agrees with it. Assumes nothing.
 use Prim.Native.Nat.{ℕ}
 use mathlib.Core.Path.{_≡_, refl, sym, ap, _∙_}
-use mathlib.Core.Bool.{Bool, true, false, cond}
+use mathlib.Core.Bool.{Bool, true, false, cond, true≢false}
 use mathlib.Core.List.{List}
 use native.Mathlib.Omega.{arith}
 use borrow.Author.Tests.{eqb-true}
@@ -63,6 +63,21 @@ use Rattle.direct.proofs.Beside.{match-asks, road-asks, match-holds}
 -- what is told of a call that shows s
 abbrev pub toldBy : Bool → Bool → Shown → Told
 toldBy refused fetching s = record { refused = refused; fetching = fetching; match = isMatch s; road = isRoad s }
+
+-- a match that was made is the matcher's current one
+pub made-current : (e : Engine) (arena : List ℕ) (f : Fix) (x : MatchOutcome.Outcome) → matchOf e arena f .answer ≡ x → MatchRelied.isFinished x ≡ true
+    → Gather.outcome (matchOf e arena f .matcher .current) ≡ x
+unfolding Gather.updated Gather.updateOver
+made-current e arena f =
+    let r = Gather.runOver (look (e .shared .cache) arena (e .shared .header .tile)) (e .follower .matcher) (e .shared .header) (placeOf f)
+    (e .follower .sight .heading) in
+    by (r .end) (r .kept) (e .follower .matcher) (e .follower .sight .heading)
+  where
+    by : (end : Ending) (k : Kept) (m : Matcher) (heading : Heading) (x : MatchOutcome.Outcome) → Gather.matchingBy end k m heading .answer ≡ x
+        → MatchRelied.isFinished x ≡ true → Gather.outcome (Gather.matchingBy end k m heading .matcher .current) ≡ x
+    by Ending.All k m heading x q fin = q
+    by (Ending.Need key) k m heading x q fin = absurd (true≢false (sym fin ∙ ap MatchRelied.isFinished (sym q)))
+    by Ending.Stale k m heading x q fin = absurd (true≢false (sym fin ∙ ap MatchRelied.isFinished (sym q)))
 
 module _ (at : Lookup) (n : ℕ) (horizon : Float) (P : List ℕ) where
   abbrev made : Made
@@ -158,21 +173,12 @@ module _ (at : Lookup) (n : ℕ) (horizon : Float) (P : List ℕ) where
 
     -- finding none leaves no match
     none-current : (f : Fix) → matchAt f .answer ≡ Match.Nothing → matchAt f .matcher .current ≡ Current.Nothing
-    unfolding Gather.updateOver
-    none-current f =
-        let r = Gather.runOver (look (e .shared .cache) arena (e .shared .header .tile)) (e .follower .matcher) (e .shared .header) (placeOf f)
-        (e .follower .sight .heading) in
-        by (r .end) (r .kept) (e .follower .matcher) (e .follower .sight .heading)
+    unfolding Gather.updated
+    none-current f a = by (matchAt f .matcher .current) (made-current e arena f Match.Nothing a refl)
       where
-        current : (x : Current) → Gather.outcome x ≡ Match.Nothing → x ≡ Current.Nothing
-        current Current.Nothing q = refl
-        current (Current.Is m) q = let z : _≡_ {A = ℕ} 0 1 = cc in absurd (omega arith)
-
-        by : (end : Ending) (k : Kept) (m : Matcher) (heading : Heading) → Gather.matchingBy end k m heading .answer ≡ Match.Nothing
-            → Gather.matchingBy end k m heading .matcher .current ≡ Current.Nothing
-        by Ending.All k m heading q = current _ q
-        by (Ending.Need key) k m heading q = let z : _≡_ {A = ℕ} 0 1 = cc in absurd (omega arith)
-        by Ending.Stale k m heading q = let z : _≡_ {A = ℕ} 0 1 = cc in absurd (omega arith)
+        by : (x : Current) → Gather.outcome x ≡ Match.Nothing → x ≡ Current.Nothing
+        by Current.Nothing q = refl
+        by (Current.Is m) q = let z : _≡_ {A = ℕ} 0 1 = cc in absurd (omega arith)
 
     -- what is published of it
     abbrev emptied : Fix → Bool → Ahead
