@@ -1,0 +1,2 @@
+-- What the first step of a new engine does.
+pub mod First
