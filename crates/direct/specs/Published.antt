@@ -1,17 +1,24 @@
 -- What a host reads of the road between the calls. Demand 3 says of a finished match or road that it is the direct engine's; here is said that nothing else
 -- is ever published: a call leaves the published road as it was, or leaves the one that it finished, or an empty one (`lost`, `reset`, and the empty
--- Memory answer at the reload limit, which document 01 does not count as finished). So a missed read, a delivery, an eviction or a direct call can't
--- change a road once it is published. `AllPublished` and `AllRead` are claimed with no premise, `AllReadDirect` on demand 3's. Assumes nothing.
+-- Memory answer at the reload limit, which document 01 does not count as finished, and whose match is one that was). So a missed read, a delivery, an
+-- eviction or a direct call can't change a road once it is published. `AllPublished` and `AllRead` are claimed with no premise, `AllReadDirect` on
+-- demand 3's. Assumes nothing.
 use Prim.Native.Nat.{ℕ, _≤_}
 use mathlib.Core.Path.{_≡_}
 use mathlib.Core.Bool.{false}
 use mathlib.Core.List.{List, [], _∷_}
 use mathlib.Core.Logic.{_⊎_}
 use lib.Ieee.{Float}
-use Rattle.junction.specs.declared.End.the-variants as End
+use Rattle.candidates.specs.declared.Current.{Current}
+use Rattle.candidates.specs.declared.Current.the-variants as Current
+use Rattle.candidates.specs.declared.Matched.{Matched}
+use Rattle.follower.specs.Publish.{nothingAhead, forgotten, withMatch}
 use Rattle.follower.specs.declared.Ahead.{Ahead}
-use Rattle.engine.specs.Work.{mayAsk}
+use Rattle.follower.specs.declared.Fix.{Fix}
+use Rattle.follower.specs.declared.MaybeFix.the-variants as MaybeFix
+use Rattle.engine.specs.Work.{mayAsk, noRoad}
 use Rattle.engine.specs.Calls as Engines
+use Rattle.engine.specs.declared.Engine.{Engine}
 use Rattle.direct.specs.Lists as Calls
 use Rattle.direct.specs.Lists.{World, Call, exec, start, Along}
 use Rattle.direct.specs.Finished as Shows
@@ -20,88 +27,89 @@ use Rattle.direct.specs.Direct.{directly, newDirect, directShows}
 use Rattle.direct.specs.Claims.{tolds, shows, AllFair, madeOf}
 use Rattle.direct.specs.Story.{after}
 
--- the road q is the one that was finished, as the engine leaves it
-abbrev pub IsFinished : Shown → Road → Type 0
-IsFinished (Shows.published r) q = q ≡ r
-IsFinished (Shows.unmatched m r) q = q ≡ r
-IsFinished (Shows.emptied m r) q = q ≡ r
-IsFinished Shows.nothing q = ⊥
-IsFinished (Shows.matched m) q = ⊥
-IsFinished (Shows.again number m) q = ⊥
-IsFinished (Shows.updated a m) q = ⊥
-IsFinished (Shows.predicted a samples behind) q = ⊥
-IsFinished Shows.unanswered q = ⊥
+-- the road r is the one that was finished, as the engine leaves it
+abbrev pub FinishedRoad : Road → Shown → Type 0
+FinishedRoad r (Shows.published q) = r ≡ q
+FinishedRoad r (Shows.unmatched m q) = r ≡ q
+FinishedRoad r (Shows.emptied m q) = r ≡ q
+FinishedRoad r Shows.nothing = ⊥
+FinishedRoad r (Shows.matched m) = ⊥
+FinishedRoad r (Shows.again number m) = ⊥
+FinishedRoad r (Shows.updated a m) = ⊥
+FinishedRoad r (Shows.predicted a samples behind) = ⊥
+FinishedRoad r Shows.unanswered = ⊥
 
--- no height, ahead or behind
-pub record Empty (r : Road) : Type 0 where
-  pub len : r .len ≡ 0
-  pub behind : r .«behind_len» ≡ 0
+-- c is how the match that was finished ended
+abbrev pub FinishedMatch : Current → Shown → Type 0
+FinishedMatch c (Shows.matched m) = c ≡ m .current
+FinishedMatch c (Shows.unmatched m q) = c ≡ m .current
+FinishedMatch c (Shows.published q) = ⊥
+FinishedMatch c (Shows.emptied m q) = ⊥
+FinishedMatch c Shows.nothing = ⊥
+FinishedMatch c (Shows.again number m) = ⊥
+FinishedMatch c (Shows.updated a m) = ⊥
+FinishedMatch c (Shows.predicted a samples behind) = ⊥
+FinishedMatch c Shows.unanswered = ⊥
 
--- calls that empty the road
-abbrev pub Empties : Call → Type 0
-Empties Calls.lost = Unit
-Empties (Calls.reset P) = Unit
-Empties (Calls.fix f) = ⊥
-Empties Calls.step = ⊥
-Empties (Calls.deliver failure bs) = ⊥
-Empties (Calls.stepFrom Q) = ⊥
-Empties (Calls.read r) = ⊥
-Empties (Calls.onCache c) = ⊥
-Empties (Calls.nearby h p) = ⊥
-Empties (Calls.current m) = ⊥
-Empties (Calls.update m h p heading) = ⊥
-Empties (Calls.predict h m horizon samples behind) = ⊥
+-- ---- a call
 
--- a step, by itself or over a lent pack
-abbrev pub IsStep : Call → Type 0
-IsStep Calls.step = Unit
-IsStep (Calls.stepFrom Q) = Unit
-IsStep (Calls.fix f) = ⊥
-IsStep Calls.lost = ⊥
-IsStep (Calls.reset P) = ⊥
-IsStep (Calls.deliver failure bs) = ⊥
-IsStep (Calls.read r) = ⊥
-IsStep (Calls.onCache c) = ⊥
-IsStep (Calls.nearby h p) = ⊥
-IsStep (Calls.current m) = ⊥
-IsStep (Calls.update m h p heading) = ⊥
-IsStep (Calls.predict h m horizon samples behind) = ⊥
+-- the empty Memory answer, at the newest fix, for the current match, where the road asked for as many tiles as it may
+pub record AtLimit (e : Engine) (pages : ℕ) (a : Ahead) : Type 0 where
+  pub asked : mayAsk (e .follower .due) pages ≡ false
+  pub fix : Fix
+  pub found : Matched
+  pub newest : e .follower .sight .fix ≡ MaybeFix.Is fix
+  pub current : e .follower .matcher .current ≡ Current.Is found
+  pub memory : a ≡ withMatch (e .follower .ahead) (fix .«at_ms») found noRoad
 
--- the road that stands published after a call
-pub data Publishes (w : World) (c : Call) : Ahead → Type 0 where
-  -- as it was, every field
-  kept : Publishes w c (w .engine .follower .ahead)
-  -- the one that the call finished
-  finished : {a : Ahead} → IsFinished (shown w c) (roadOf a) → Publishes w c a
-  -- an empty one
-  emptied : {a : Ahead} → Empties c → Empty (roadOf a) → Publishes w c a
-  -- the empty Memory answer of a road that asked for as many tiles as it may
-  memory : {a : Ahead} → IsStep c → mayAsk (w .engine .follower .due) (exec c w .world .engine .shared .cache .pages .count) ≡ false → a .end ≡ End.Memory
-      → Empty (roadOf a) → Publishes w c a
+-- the road that stands published after a call: as it was, every field; the one that the call finished; the empty one with the next generation; the
+-- empty Memory answer of a step, or of one over a lent pack
+pub data Publishes (w : World) : Call → Ahead → Type 0 where
+  kept : {c : Call} → Publishes w c (w .engine .follower .ahead)
+  finished : {c : Call} {a : Ahead} → FinishedRoad (roadOf a) (shown w c) → Publishes w c a
+  byLost : Publishes w Calls.lost (forgotten (w .engine .follower .ahead))
+  byReset : {P : List ℕ} → Publishes w (Calls.reset P) (forgotten (w .engine .follower .ahead))
+  atLimit : {a : Ahead} → AtLimit (w .engine) (exec Calls.step w .world .engine .shared .cache .pages .count) a → Publishes w Calls.step a
+  lentAtLimit : {Q : List ℕ} {a : Ahead} → AtLimit (w .engine) (exec (Calls.stepFrom Q) w .world .engine .shared .cache .pages .count) a
+      → Publishes w (Calls.stepFrom Q) a
 
 abbrev pub AllPublished : Type 0
 AllPublished =
     (n : ℕ) (horizon : Float) (arena : List ℕ) (cs : List Call) →
     Along (λ w c. Publishes w c (exec c w .world .engine .follower .ahead)) cs (start n horizon arena)
 
--- one of those that were finished
-unfoldable pub Among : Road → List Shown → Type 0
-Among r [] = ⊥
-Among r (s ∷ ss) = IsFinished s r ⊎ Among r ss
+-- ---- a list
+
+-- of one of those that were finished
+unfoldable pub Among : (Shown → Type 0) → List Shown → Type 0
+Among Q [] = ⊥
+Among Q (s ∷ ss) = Q s ⊎ Among Q ss
+
+-- no match and no height: `Ahead::default()`
+abbrev pub blank : Road
+blank = roadOf (nothingAhead 0)
+
+-- the empty Memory answer for a match
+abbrev pub memoryOf : ℕ → Matched → Road
+memoryOf at found = roadOf (withMatch (nothingAhead 0) at found noRoad)
+
+-- a road that is read: none; one that was finished; the empty Memory answer for a match that was finished
+pub data Read (ss : List Shown) (r : Road) : Type 0 where
+  isBlank : r ≡ blank → Read ss r
+  wasFinished : Among (FinishedRoad r) ss → Read ss r
+  isMemory : (at : ℕ) (found : Matched) → r ≡ memoryOf at found → Among (FinishedMatch (Current.Is found)) ss → Read ss r
 
 -- the road that `ahead` answers
 abbrev pub readOf : World → Road
 readOf w = roadOf (Engines.ahead (w .engine) (w .arena) .ahead)
 
--- after any list of calls a host reads an empty road or one that the list finished
+-- after any list of calls a host reads what the list finished
 abbrev pub AllRead : Type 0
 AllRead =
-    (n : ℕ) (horizon : Float) (arena : List ℕ) (cs : List Call) →
-    let r = readOf (after cs (start n horizon arena)) in Empty r ⊎ Among r (shows cs (start n horizon arena))
+    (n : ℕ) (horizon : Float) (arena : List ℕ) (cs : List Call) → Read (shows cs (start n horizon arena)) (readOf (after cs (start n horizon arena)))
 
--- on demand 3's premises it reads an empty road or one that the direct engine worked out
+-- on demand 3's premises it reads what the direct engine worked out
 abbrev pub AllReadDirect : Type 0
 AllReadDirect =
     (n : ℕ) → n ≤ 96 → (horizon : Float) (arena P : List ℕ) (cs : List Call) → AllFair P cs (start n horizon arena) →
-    let r = readOf (after cs (start n horizon arena)) in
-    Empty r ⊎ Among r (directShows (directly n) (madeOf n horizon) P cs (tolds cs (start n horizon arena)) newDirect)
+    Read (directShows (directly n) (madeOf n horizon) P cs (tolds cs (start n horizon arena)) newDirect) (readOf (after cs (start n horizon arena)))
