@@ -67,10 +67,10 @@ pub data Leaves (e : Engine) (s : Shown) (pages : ℕ) (a : Ahead) : Type 0 wher
   limit : AtLimit e pages a → Leaves e s pages a
 
 -- and the matcher that it leaves
-pub data Holds (e : Engine) (s : Shown) (m : Matcher) : Type 0 where
-  holds : m ≡ e .follower .matcher → Holds e s m
-  makes : FinishedMatch (m .current) s → Holds e s m
-  clears : m .current ≡ Current.Nothing → Holds e s m
+pub data LeavesMatcher (e : Engine) (s : Shown) (m : Matcher) : Type 0 where
+  holds : m ≡ e .follower .matcher → LeavesMatcher e s m
+  makes : FinishedMatch (m .current) s → LeavesMatcher e s m
+  clears : m .current ≡ Current.Nothing → LeavesMatcher e s m
 
 module _ (e : Engine) (arena : List ℕ) where
   abbrev a₁ : Ahead
@@ -165,27 +165,27 @@ module _ (e : Engine) (arena : List ℕ) where
 
   -- ---- and the matcher
 
-  holds-off : (f : Fix) {s : Shown} → Holds e s (Work.offMap f₁ f .matcher)
+  holds-off : (f : Fix) {s : Shown} → LeavesMatcher e s (Work.offMap f₁ f .matcher)
   unfolding Work.offMap
   holds-off f {s} = by (isMatched (a₁ .matched))
     where
-      by : (t : Bool) → Holds e s (cond t Matching.reset (e .follower .matcher))
+      by : (t : Bool) → LeavesMatcher e s (cond t Matching.reset (e .follower .matcher))
       by true = clears refl
       by false = holds refl
 
   holds-match : (f : Fix) (x : MatchOutcome.Outcome) → let n = matchEndedBy x e f₁ f (matchOf e arena f) .engine in
-      Holds e (matchShown x e n) (n .follower .matcher)
+      LeavesMatcher e (matchShown x e n) (n .follower .matcher)
   holds-match f (Match.Found m) = makes refl
   holds-match f Match.Nothing = by (isMatched (a₁ .matched)) _ _
     where
-      by : (t : Bool) (m : Matcher) (r : Road) → Holds e (cond t (Shows.unmatched m r) (Shows.matched m)) m
+      by : (t : Bool) (m : Matcher) (r : Road) → LeavesMatcher e (cond t (Shows.unmatched m r) (Shows.matched m)) m
       by true m r = makes refl
       by false m r = makes refl
   holds-match f (Match.Need key) = holds (match-asks f₁ (matchOf e arena f .cache .pages .count) key .matcher)
   holds-match f (Match.Refused number) = holds refl
 
   holds-road : (f : Fix) (found : Matched) (x : RoadOutcome.Outcome) → let n = roadEndedBy x e f₁ f found (roadAt e arena found) .engine in
-      Holds e (roadShown x n) (n .follower .matcher)
+      LeavesMatcher e (roadShown x n) (n .follower .matcher)
   unfolding published
   holds-road f found (Roads.Road p) = holds refl
   holds-road f found (Roads.Need key) = holds (road-asks f₁ (roadAt e arena found .predicted .cache .pages .count) f found key .matcher)
@@ -193,11 +193,11 @@ module _ (e : Engine) (arena : List ℕ) where
   holds-road f found (Roads.Refused number) = by (eqb number 10)
     where
       by : (t : Bool) {s : Shown}
-          → Holds e s (cond t (Work.ended e (roadAt e arena found .predicted .cache) (Work.rematch f₁) Status.Working) (refused e number) .engine .follower .matcher)
+          → LeavesMatcher e s (cond t (Work.ended e (roadAt e arena found .predicted .cache) (Work.rematch f₁) Status.Working) (refused e number) .engine .follower .matcher)
       by true = clears refl
       by false = holds refl
 
-  steps-hold : {x : Task} {s : Stepped} → Steps e arena x s → Holds e (taskShown x e arena (s .engine)) (s .engine .follower .matcher)
+  steps-hold : {x : Task} {s : Stepped} → Steps e arena x s → LeavesMatcher e (taskShown x e arena (s .engine)) (s .engine .follower .matcher)
   unfolding arrived
   steps-hold (Ways.repeats o) = holds refl
   steps-hold Ways.fails = holds refl
@@ -209,14 +209,14 @@ module _ (e : Engine) (arena : List ℕ) where
   steps-hold (Ways.matches f w) = holds-match f (matchOf e arena f .answer)
   steps-hold (Ways.follows f key found w k c) = holds-road f found (roadAt e arena found .predicted .answer)
 
-  step-holds : Holds e (stepShown e arena) (Engines.step e arena .engine .follower .matcher)
+  step-holds : LeavesMatcher e (stepShown e arena) (Engines.step e arena .engine .follower .matcher)
   unfolding stepShown Engines.step
   step-holds = by (engineOk e (length arena))
     where
       left : Bool → Stepped
       left t = cond t (stepped e arena) (refused e 12)
 
-      by : (t : Bool) → Holds e (cond t (taskShown (taskOf e) e arena (left t .engine)) Shows.nothing) (left t .engine .follower .matcher)
+      by : (t : Bool) → LeavesMatcher e (cond t (taskShown (taskOf e) e arena (left t .engine)) Shows.nothing) (left t .engine .follower .matcher)
       by true = steps-hold (step-is e arena)
       by false = holds refl
 
@@ -238,7 +238,7 @@ module _ (w : World) where
   On c g = Publishes w c (g .ahead)
 
   abbrev Held : Follower → Type 0
-  Held g = Holds e₁ Shows.nothing (g .matcher)
+  Held g = LeavesMatcher e₁ Shows.nothing (g .matcher)
 
   -- what a call keeps, and what the step of one leaves
   stays-as : (c : Call) {a : Ahead} → a ≡ e₁ .follower .ahead → Publishes w c a
@@ -308,12 +308,12 @@ module _ (w : World) where
   fixed-holds f =
       either-follower (λ (x : Follower). x .matcher ≡ e₁ .follower .matcher) (Fixes.isSamePlace (e₁ .follower .sight .fix) f) _ _ refl refl
 
-  lent-holds : (Q : List ℕ) {r : After} → Lends e₁ (w .arena) Q r → Holds e₁ (stepShown e₁ (w .arena)) (r .engine .follower .matcher)
+  lent-holds : (Q : List ℕ) {r : After} → Lends e₁ (w .arena) Q r → LeavesMatcher e₁ (stepShown e₁ (w .arena)) (r .engine .follower .matcher)
   lent-holds Q (Ways.plain t) = step-holds e₁ (w .arena)
   lent-holds Q (Ways.asks offset len failure bs a fair) =
       holds (deliver-left (Engines.step e₁ (w .arena) .engine) failure bs (w .arena) .follower .matcher ∙ fetch-silent e₁ (w .arena) a .keeps .matcher)
 
-  call-holds : (c : Call) → Holds e₁ (shown w c) (exec c w .world .engine .follower .matcher)
+  call-holds : (c : Call) → LeavesMatcher e₁ (shown w c) (exec c w .world .engine .follower .matcher)
   unfolding shown exec Engines.fix Engines.lost Engines.reset forgotten Followers.lost Followers.reset
   call-holds (Calls.fix f) =
       either-changed Held (engineOk e₁ (length (w .arena))) _ _
@@ -374,7 +374,7 @@ publishes-reads w c a ss (atLimit l) = limit-reads (w .engine) _ a _ l
 publishes-reads w c a ss (lentAtLimit l) = limit-reads (w .engine) _ a _ l
 
 remembers-on : (w : World) (c : Call) (r : Road) (ss : List Shown) (at : ℕ) (found : Matched) → r ≡ memoryOf at found
-    → Current.Is found ≡ onMatch (exec c w .world) → Holds (w .engine) (shown w c) (exec c w .world .engine .follower .matcher)
+    → Current.Is found ≡ onMatch (exec c w .world) → LeavesMatcher (w .engine) (shown w c) (exec c w .world .engine .follower .matcher)
     → Reads (onMatch w) (onAhead w) r (shown w c ∷ ss)
 unfolding Among
 remembers-on w c r ss at found q h (holds k) = remembers at found q (inl (h ∙ ap (λ (m : Matcher). m .current) k))
