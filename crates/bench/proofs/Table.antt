@@ -6,10 +6,10 @@ use lib.Ieee.{ofInt, ofBits, toBits, units}
 use Rattle.crc.specs.Fcs.{add, lower, divide, remainder, zeros, bits, number, message, fcs, crc32}
 use Rattle.num.specs.Root.{rootIn, wholeRoot, nearRoot, squareRoot}
 use Rattle.pack.specs.Grid.{keyOf, checkedOf, entryOf}
-use Rattle.pages.specs.Runs.{span}
-use Rattle.pages.specs.Victim.{age, leastOf, bestOf}
+use Rattle.cache.specs.Runs.{span}
+use Rattle.cache.specs.Victim.{age, leastOf, bestOf}
 use Rattle.num.specs.Fold.{upTo}
-use Rattle.ways.specs.Twins.{push, twinStep, twinsTo}
+use Rattle.predict.specs.Twins.{push, twinStep, twinsTo}
 use Rattle.engine.specs.Calls.{new, fix}
 use Rattle.engine.specs.declared.Taken.the-variants as Taken
 use Rattle.engine.proofs.StateLaws.{new-ok}

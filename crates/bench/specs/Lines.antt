@@ -14,16 +14,16 @@ use Rattle.pack.specs.declared.Header.{Header}
 use Rattle.pack.specs.declared.TileKey.{TileKey}
 use Rattle.pack.specs.declared.Keyed.the-variants.{In, Outside}
 use Rattle.tile.specs.Layout.{length}
-use Rattle.pages.specs.Runs.{span, emptySlot}
-use Rattle.pages.specs.Victim.{victim}
-use Rattle.pages.specs.declared.Pages.{Pages}
-use Rattle.pages.specs.declared.victim.Found.the-variants as Found
-use Rattle.ways.specs.Twins.{noTwin, boundaryTwins}
-use Rattle.follower.specs.Fixes.{fromE7}
-use Rattle.follower.specs.declared.Fix.{Fix}
+use Rattle.cache.specs.Runs.{span, emptySlot}
+use Rattle.cache.specs.Victim.{victim}
+use Rattle.cache.specs.declared.Pages.{Pages}
+use Rattle.cache.specs.declared.victim.Found.the-variants as Found
+use Rattle.predict.specs.Twins.{noTwin, boundaryTwins}
+use Rattle.engine.specs.Fixes.{fromE7}
+use Rattle.engine.specs.declared.Fix.{Fix}
 use Rattle.engine.specs.Calls.{new, fix}
 use Rattle.engine.specs.declared.Taken.the-variants as Taken
-use Rattle.ways.specs.declared.twins.Twin.{Twin}
+use Rattle.predict.specs.declared.twins.Twin.{Twin}
 
 -- a header with these grid fields and all others 0
 abbrev gridOf : ℕ → ℕ → ℕ → ℕ → Header

@@ -1,11 +1,11 @@
--- The public functions, each with its refusals: document 01, "Refused". 12 first, then 9, and the late 12 of a lookup; a refused call
--- leaves the state as it was. Assumes nothing.
+-- The public functions, each with its refusals: document 01, "Refused". 12 first, then 11, 9, and the late 12 of a lookup; a refused call
+-- leaves state and arena as they were. Assumes nothing.
 use Prim.Native.Nat.{ℕ}
 use mathlib.Core.Bool.{Bool, _&&_, cond}
-use mathlib.Core.List.{List}
+use mathlib.Core.List.{List, []}
 use lib.ListN.{length}
 use Rattle.pack.specs.Sector.{rules}
-use Rattle.pack.specs.Grid.{inGrid}
+use Rattle.pack.specs.Grid.{inGrid, read}
 use Rattle.pack.specs.declared.TileKey.{TileKey}
 use Rattle.pack.specs.declared.Header.{Header}
 use Rattle.cache.specs.declared.Cache.{Cache}
@@ -15,8 +15,15 @@ use Rattle.cache.specs.declared.Lookup.the-variants as Lookup
 use Rattle.cache.specs.declared.Got.{Got}
 use Rattle.cache.specs.declared.Cleared.{Cleared}
 use Rattle.cache.specs.declared.Clearing.the-variants as Clearing
-use Rattle.cache.specs.Lookups.{got, pagesOf}
+use Rattle.cache.specs.Lookups.{got, pagesOf, nextStep}
 use Rattle.cache.specs.State.{cleared, stateOk, cacheOk}
+use Rattle.pack.specs.declared.Range.{Range}
+use Rattle.pack.specs.declared.Range.the-variants as Range
+use Rattle.cache.specs.declared.Request.{Request}
+use Rattle.cache.specs.declared.Request.the-variants as Request
+use Rattle.cache.specs.Loads.{After, over, refused, takes, fetched, stepped, packBytes}
+
+-- ---- what is there
 
 unfoldable pub capacity : Cache → Count
 capacity c = cond (stateOk c) (Count.Is (c .pages .count)) (Count.Refused 12)
@@ -38,3 +45,34 @@ get c arena h key =
 
 unfoldable pub clear : Cache → Cleared
 clear c = cond (stateOk c) (record { answer = Clearing.Done; cache = cleared c }) (record { answer = Clearing.Refused 12; cache = c })
+
+-- ---- bringing tiles in
+
+-- the read that the next step towards the key makes; nothing changes
+unfoldable pub fetch : Cache → List ℕ → Header → TileKey → Request
+fetch c arena h key =
+    cond (cacheOk c h (length arena)) (cond (inGrid h key) (fetched c (nextStep c key) arena h key) (Request.Refused 9)) (Request.Refused 12)
+
+-- that step with its read answered
+unfoldable pub load : Cache → List ℕ → Header → TileKey → ℕ → List ℕ → After
+load c arena h key failure bs =
+    cond (cacheOk c h (length arena))
+    (cond (takes (nextStep c key) h key failure (length bs))
+    (cond (inGrid h key) (stepped c (nextStep c key) arena h key failure bs) (over (refused c 9) arena))
+    (over (refused c 11) arena))
+    (over (refused c 12) arena)
+
+-- `load` with the pack's bytes, or with 2 where they pass its end
+abbrev pub loadBy : Range → Cache → List ℕ → Header → TileKey → ℕ → List ℕ → After
+loadBy (Range.At offset) c arena h key n pack = load c arena h key 0 (packBytes pack offset n)
+loadBy (Range.Refused number) c arena h key n pack = load c arena h key 2 []
+
+-- what `fetch` tells, done
+abbrev pub requestLoad : Request → Cache → List ℕ → Header → TileKey → List ℕ → After
+requestLoad Request.Settled c arena h key pack = load c arena h key 0 []
+requestLoad (Request.Refused number) c arena h key pack = over (refused c number) arena
+requestLoad (Request.Read offset n) c arena h key pack = loadBy (read pack offset n) c arena h key n pack
+
+-- `fetch`, then `load`
+unfoldable pub loadFrom : Cache → List ℕ → Header → TileKey → List ℕ → After
+loadFrom c arena h key pack = requestLoad (fetch c arena h key) c arena h key pack

@@ -11,8 +11,8 @@ use Rattle.pack.specs.declared.TileKey.{TileKey}
 use Rattle.pack.specs.declared.Header.{Header}
 use Rattle.pack.specs.declared.Located.{Located}
 use Rattle.pack.specs.declared.Located.the-variants as Located
-use Rattle.pages.specs.declared.Slot.{Slot}
-use Rattle.pages.specs.Runs.{span, slotAt}
+use Rattle.cache.specs.declared.Slot.{Slot}
+use Rattle.cache.specs.Runs.{span, slotAt}
 use Rattle.tile.specs.Parse.{accepts}
 use Rattle.cache.specs.declared.Cache.{Cache}
 use Rattle.cache.specs.declared.look.Landing.{Landing}

@@ -4,12 +4,12 @@ use mathlib.Core.Bool.{Bool, false, _&&_}
 use lib.Dec.{eqb}
 use lib.ListN.{getD, set}
 use Rattle.pack.specs.declared.TileKey.{TileKey}
-use Rattle.pages.specs.declared.Slot.{Slot}
-use Rattle.pages.specs.declared.Pages.{Pages}
-use Rattle.pages.specs.declared.MaybeKey.{MaybeKey}
-use Rattle.pages.specs.declared.MaybeKey.the-variants as MaybeKey
-use Rattle.pages.specs.declared.victim.Found.{Found}
-use Rattle.pages.specs.Runs.{slotAt}
+use Rattle.cache.specs.declared.Slot.{Slot}
+use Rattle.cache.specs.declared.Pages.{Pages}
+use Rattle.cache.specs.declared.MaybeKey.{MaybeKey}
+use Rattle.cache.specs.declared.MaybeKey.the-variants as MaybeKey
+use Rattle.cache.specs.declared.victim.Found.{Found}
+use Rattle.cache.specs.Runs.{slotAt}
 use Rattle.cache.specs.declared.RingKey.{RingKey}
 use Rattle.cache.specs.declared.Ring.{Ring}
 use Rattle.cache.specs.Search.{lowest, isFound}

@@ -1,3 +1,8 @@
+-- Page runs: what a page is and when runs are well-formed, evicting and placing, the victim, and the beginning of a load.
+pub mod Runs
+pub mod Evict
+pub mod Victim
+pub mod Begin
 -- The cache: searches, keys and the ring, lookups, the states that number 12 names, the public functions, and the direct lookup.
 pub mod Search
 pub mod Keys
@@ -5,3 +10,8 @@ pub mod Lookups
 pub mod State
 pub mod Calls
 pub mod Direct
+-- Bringing tiles in: one step of a load, and the public functions.
+pub mod Loads
+-- The lookups of one call that makes many, and a lookup as a definition reads it.
+pub mod Ages
+pub mod Reader

@@ -7,10 +7,10 @@ use mathlib.Core.List.{List}
 use lib.Dec.{eqb, leb}
 use lib.ListN.{length, take, drop, set}
 use Rattle.pack.specs.declared.TileKey.{TileKey}
-use Rattle.pages.specs.declared.Pages.{Pages}
-use Rattle.pages.specs.declared.victim.Found.{Found}
-use Rattle.pages.specs.declared.victim.Found.the-variants as Found
-use Rattle.pages.specs.Runs.{span, slotAt}
+use Rattle.cache.specs.declared.Pages.{Pages}
+use Rattle.cache.specs.declared.victim.Found.{Found}
+use Rattle.cache.specs.declared.victim.Found.the-variants as Found
+use Rattle.cache.specs.Runs.{span, slotAt}
 use Rattle.tile.specs.Parse as Parse
 use Rattle.cache.specs.declared.Cache.{Cache}
 use Rattle.cache.specs.declared.MaybeLoading.{MaybeLoading}

@@ -1,8 +1,8 @@
 -- A search by index. Assumes nothing.
 use Prim.Native.Nat.{ℕ, zero, suc}
 use mathlib.Core.Bool.{Bool, true, false, cond}
-use Rattle.pages.specs.declared.victim.Found.{Found}
-use Rattle.pages.specs.declared.victim.Found.the-variants as Found
+use Rattle.cache.specs.declared.victim.Found.{Found}
+use Rattle.cache.specs.declared.victim.Found.the-variants as Found
 
 -- what was found, and if nothing, the other
 abbrev pub orElse : Found → Found → Found

@@ -1,5 +1,5 @@
 -- The empty state (`Cache::new`), and the states that number 12 names (document 01, "Refused", the cache's part), each cause by name:
--- page runs that overlap, pass the page count or lack a part, or a count above its array (`runsOk` of crate pages); a ring place past its
+-- page runs that overlap, pass the page count or lack a part, or a count above its array (`runsOk` of Runs); a ring place past its
 -- ring; a load without its run, or done not below its length; an open fetch that the state would not make; a header that `Header::parse`
 -- would refuse; an arena shorter than its pages. Assumes nothing.
 use Prim.Native.Nat.{ℕ, _*_, _/_, min}
@@ -10,9 +10,9 @@ use lib.ListN.{length, replicate}
 use Rattle.pack.specs.Sector.{allOf, rules}
 use Rattle.pack.specs.declared.TileKey.{TileKey}
 use Rattle.pack.specs.declared.Header.{Header}
-use Rattle.pages.specs.declared.Slot.{Slot}
-use Rattle.pages.specs.declared.Pages.{Pages}
-use Rattle.pages.specs.Runs as Runs
+use Rattle.cache.specs.declared.Slot.{Slot}
+use Rattle.cache.specs.declared.Pages.{Pages}
+use Rattle.cache.specs.Runs as Runs
 use Rattle.cache.specs.declared.RingKey.{RingKey}
 use Rattle.cache.specs.declared.Cache.{Cache}
 use Rattle.cache.specs.declared.Loading.{Loading}

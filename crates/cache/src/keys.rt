@@ -1,11 +1,11 @@
 // Keys, the ring of missing tiles, and the lowest ready run of a key.
+use crate::MaybeKey;
+use crate::Pages;
 use crate::Ring;
 use crate::RingKey;
+use crate::Slot;
+use crate::victim::Found;
 use pack::TileKey;
-use pages::MaybeKey;
-use pages::Pages;
-use pages::Slot;
-use pages::victim::Found;
 ghost use mathlib.Core.Path.{_≡_};
 ghost use Rattle.cache.specs.Keys as Keys;
 
@@ -28,7 +28,7 @@ pub fn holds(m: MaybeKey, key: TileKey) -> bool
 }
 
 // Whether a key is known missing.
-pub fn in_ring(ring: Ring, key: TileKey) -> bool
+pub(crate) fn in_ring(ring: Ring, key: TileKey) -> bool
     ensures { λ r. ⌜ r ≡ Keys.inRing ring key ⌝ }
 {
     let mut i = 0;
@@ -44,7 +44,7 @@ pub fn in_ring(ring: Ring, key: TileKey) -> bool
 }
 
 // A key into the ring, in the place of the oldest once it is full.
-pub fn forget(ring: Ring, key: TileKey) -> Ring
+pub(crate) fn forget(ring: Ring, key: TileKey) -> Ring
     ensures { λ r. ⌜ r ≡ Keys.forgotten ring key ⌝ }
 {
     let mut d = ring;
@@ -59,7 +59,7 @@ pub fn forget(ring: Ring, key: TileKey) -> Ring
 }
 
 // Whether a page starts the run of a tile that is ready.
-pub fn is_ready(s: Slot, key: TileKey) -> bool
+pub(crate) fn is_ready(s: Slot, key: TileKey) -> bool
     ensures { λ r. ⌜ r ≡ Keys.isReady key s ⌝ }
 {
     let k = s.key;
@@ -70,13 +70,13 @@ pub fn is_ready(s: Slot, key: TileKey) -> bool
 }
 
 // The lowest page below the count that starts a ready run of the key.
-pub fn ready_at(g: Pages, key: TileKey) -> Found
+pub(crate) fn ready_at(g: Pages, key: TileKey) -> Found
     ensures { λ r. ⌜ r ≡ Keys.readyAt g key ⌝ }
 {
     let n = g.count;
     let mut i = 0;
     while i < n {
-        if pages::MAX_PAGES <= i {
+        if crate::MAX_PAGES <= i {
             return Found::Nothing;
         }
         let s = g.slots[i];

@@ -1,23 +1,72 @@
 // Recently used tiles in an arena that the caller lends: the Rust's cache.rs.
 //
-// The arena is cut into pages of `PAGE_BYTES`. A tile takes as many consecutive pages as it needs, up to `MAX_TILE_BYTES`: its run
-// (crate `pages`). A tile loads in reads of `CHUNK` bytes, one a step, and is checked (CRC and structure) when its last chunk arrives.
-// Tiles without roads, too large or corrupt are remembered as missing, so that they cost one directory read.
+// The arena is cut into pages of `PAGE_BYTES`. A tile takes as many consecutive pages as it needs, its run: most rural tiles fit one page, a
+// dense city tile a few, up to `MAX_TILE_BYTES`. The run's first page holds key and length, the rest point back at it. A new tile replaces
+// the run of pages whose most recent use is oldest. Tiles without roads, too large or corrupt are remembered as missing, so that they cost
+// one directory read.
 //
-// The state goes in by value and comes back by value; the arena is lent. This crate has the state, the lookups and number 12; crate `load`
-// brings tiles in.
+// The state goes in by value and comes back by value; the arena is lent. The cache reads no card: `fetch` says which read the next step
+// towards a tile makes, and `load` is that step with the read answered; `load_from` does both over a pack that is lent whole. A load is one
+// read of the tile's directory entry, then chunks of 2,048 bytes, one a step, a few milliseconds of a card's time; the tile is checked (CRC
+// and structure) when its last chunk arrives.
+//
+// `runs`, `victim`, `evict` and `begin` have the page runs; `keys`, `look` and `ages` the lookups (`ages` those of one call that makes many);
+// `state` number 12; `next` and `step` a load's step; `load` the calls that bring tiles in.
+pub mod ages;
+mod begin;
+mod evict;
 pub mod keys;
+pub mod load;
 pub mod look;
 pub mod next;
+pub mod runs;
 pub mod state;
+pub mod step;
+pub mod victim;
 
 use pack::Header;
 use pack::TileKey;
-use pages::MaybeKey;
-use pages::Pages;
-ghost use mathlib.Core.Path.{_≡_};
-ghost use Rattle.cache.specs.State as State;
 ghost use Rattle.cache.specs.Calls as Calls;
+ghost use Rattle.cache.specs.State as State;
+ghost use mathlib.Core.Path.{_≡_};
+
+// The arena unit; the cache holds up to `MAX_PAGES` of them.
+pub const PAGE_BYTES: usize = 8 * 1024;
+
+// The largest tile the cache holds (the builder's limit too).
+pub const MAX_TILE_BYTES: usize = 48 * 1024;
+
+// Pages the largest tile takes.
+pub const MAX_SPAN: usize = MAX_TILE_BYTES / PAGE_BYTES;
+
+pub const MAX_PAGES: usize = 96;
+
+pub enum MaybeKey {
+    Nothing,
+    Key(TileKey),
+}
+
+// Whether a page is a first one or, as a continuation page, which the tile's first page is.
+pub enum Part {
+    Head,
+    Of(usize),
+}
+
+// A page: the first of a tile's pages holds its key and length, the rest point back at it.
+pub struct Slot {
+    pub key: MaybeKey,
+    pub len: usize,
+    pub ready: bool,
+    pub part: Part,
+}
+
+// The slots, when each was last used, how many of them the arena has, and the clock that uses are told by.
+pub struct Pages {
+    pub slots: [Slot; MAX_PAGES],
+    pub used: [u32; MAX_PAGES],
+    pub count: usize,
+    pub clock: u32,
+}
 
 // Keys that the ring of missing tiles holds.
 pub const MISSING: usize = 64;
@@ -97,9 +146,9 @@ impl Cache {
     pub fn new(arena: &[u8]) -> Cache
         ensures { λ r. ⌜ r ≡ State.new (now (arena .entry)) ⌝ }
     {
-        let n = arena.len() / pages::PAGE_BYTES;
-        if pages::MAX_PAGES < n {
-            return state::fresh(pages::MAX_PAGES);
+        let n = arena.len() / crate::PAGE_BYTES;
+        if crate::MAX_PAGES < n {
+            return state::fresh(crate::MAX_PAGES);
         }
         state::fresh(n)
     }
@@ -177,4 +226,43 @@ impl Cache {
             cache: empty,
         }
     }
+}
+
+// The read that the next step towards a tile makes: offset in the pack and length. Settled where it makes none.
+pub enum Request {
+    Settled,
+    Read(u64, usize),
+    Refused(u32),
+}
+
+// How a step of a load ended: the tile is ready or known missing; more steps are to come; the read or the entry failed (1, 2 or 4); refused.
+pub enum Progress {
+    Done,
+    More,
+    Failed(u32),
+    Refused(u32),
+}
+
+pub struct Loaded {
+    pub answer: Progress,
+    pub cache: Cache,
+}
+
+// The clock, the age of each page, and which runs were checked, by their first page.
+pub struct Carried {
+    pub clock: u32,
+    pub used: [u32; crate::MAX_PAGES],
+    pub seen: [bool; crate::MAX_PAGES],
+}
+
+pub struct Hit {
+    pub answer: Lookup,
+    pub carried: Carried,
+}
+
+// The lowest ready run of a tile, with its length: one search copies the slots once. Past the last page, and of no length, where there is none.
+struct Run {
+    ready: bool,
+    at: usize,
+    len: usize,
 }

@@ -2,9 +2,9 @@
 use crate::Cache;
 use crate::Got;
 use crate::Lookup;
+use crate::Pages;
+use crate::victim::Found;
 use pack::TileKey;
-use pages::Pages;
-use pages::victim::Found;
 use tile::Parsed;
 ghost use mathlib.Core.Path.{_≡_};
 ghost use Rattle.cache.specs.Lookups as Lookups;
@@ -17,7 +17,7 @@ pub enum Landing {
 }
 
 // The ring first, then the lowest ready run.
-pub fn lands_on(c: Cache, key: TileKey) -> Landing
+pub(crate) fn lands_on(c: Cache, key: TileKey) -> Landing
     ensures { λ r. ⌜ r ≡ Lookups.landsOn c key ⌝ }
 {
     let ring = c.missing;
@@ -32,13 +32,13 @@ pub fn lands_on(c: Cache, key: TileKey) -> Landing
 }
 
 // Pages of the tile's ready run, one where there is none. The ring is not asked, as in the Rust.
-pub fn pages_of(g: Pages, key: TileKey) -> usize
+pub(crate) fn pages_of(g: Pages, key: TileKey) -> usize
     ensures { λ r. ⌜ r ≡ Lookups.pagesOf g key ⌝ }
 {
     match crate::keys::ready_at(g, key) {
         Found::At(i) => {
-            let s = pages::slot_at(g, i);
-            pages::span(s.len)
+            let s = crate::runs::slot_at(g, i);
+            crate::runs::span(s.len)
         }
         Found::Nothing => 1,
     }
@@ -54,13 +54,13 @@ fn accepts(bytes: &[u8], key: TileKey, size: u32) -> bool
 }
 
 // Whether the run of `len` bytes from page `first` on lies in the arena and passes `Tile::parse` for its key.
-pub fn passes(arena: &[u8], first: usize, len: usize, key: TileKey, size: u32) -> bool
+pub(crate) fn passes(arena: &[u8], first: usize, len: usize, key: TileKey, size: u32) -> bool
     ensures { λ r. ⌜ r ≡ Lookups.passes (now (arena .entry)) first len key size ⌝ }
 {
-    if arena.len() / pages::PAGE_BYTES < first {
+    if arena.len() / crate::PAGE_BYTES < first {
         return false;
     }
-    let at = first * pages::PAGE_BYTES;
+    let at = first * crate::PAGE_BYTES;
     if arena.len() - at < len {
         return false;
     }
@@ -75,7 +75,7 @@ pub fn touch(c: Cache, i: usize) -> Cache
     let mut g = d.pages;
     let now = std::num::wrapping_add_u32(g.clock, 1);
     g.clock = now;
-    if i < pages::MAX_PAGES {
+    if i < crate::MAX_PAGES {
         g.used[i] = now;
     }
     d.pages = g;
@@ -97,7 +97,7 @@ pub fn got(c: Cache, arena: &[u8], size: u32, key: TileKey) -> Got
         },
         Landing::At(i) => {
             let g = c.pages;
-            let s = pages::slot_at(g, i);
+            let s = crate::runs::slot_at(g, i);
             if passes(arena, i, s.len, key, size) {
                 let d = touch(c, i);
                 return Got {

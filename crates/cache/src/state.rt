@@ -1,17 +1,17 @@
 // The empty state, and number 12: the states that no list of calls leaves, refused before anything else is looked at.
 use crate::Cache;
 use crate::Loading;
+use crate::MaybeKey;
 use crate::MaybeLoading;
+use crate::Pages;
+use crate::Part;
 use crate::Pending;
 use crate::Ring;
 use crate::RingKey;
+use crate::Slot;
 use crate::next::Next;
 use pack::Header;
 use pack::TileKey;
-use pages::MaybeKey;
-use pages::Pages;
-use pages::Part;
-use pages::Slot;
 ghost use mathlib.Core.Path.{_≡_};
 ghost use Rattle.cache.specs.State as State;
 
@@ -36,13 +36,13 @@ fn empty_place() -> RingKey
 }
 
 // A cache of `count` pages with nothing in it.
-pub fn fresh(count: usize) -> Cache
+pub(crate) fn fresh(count: usize) -> Cache
     ensures { λ r. ⌜ r ≡ State.fresh count ⌝ }
 {
     let empty = empty_slot();
     let none = empty_place();
-    let slots = [empty; pages::MAX_PAGES];
-    let used = [0u32; pages::MAX_PAGES];
+    let slots = [empty; crate::MAX_PAGES];
+    let used = [0u32; crate::MAX_PAGES];
     let keys = [none; crate::MISSING];
     let g = Pages {
         slots,
@@ -66,7 +66,7 @@ pub fn cleared(c: Cache) -> Cache
 {
     let empty = empty_slot();
     let none = empty_place();
-    let slots = [empty; pages::MAX_PAGES];
+    let slots = [empty; crate::MAX_PAGES];
     let keys = [none; crate::MISSING];
     let old = c.pages;
     let used = old.used;
@@ -94,8 +94,8 @@ pub fn cleared(c: Cache) -> Cache
 fn tile_loads(g: Pages, l: Loading) -> bool
     ensures { λ r. ⌜ r ≡ State.tileLoads g l ⌝ }
 {
-    let s = pages::slot_at(g, l.slot);
-    if !pages::is_run(s) {
+    let s = crate::runs::slot_at(g, l.slot);
+    if !crate::runs::is_run(s) {
         return false;
     }
     let k = s.key;
@@ -170,7 +170,7 @@ pub fn state_ok(c: Cache) -> bool
     ensures { λ r. ⌜ r ≡ State.stateOk c ⌝ }
 {
     let g = c.pages;
-    if !pages::runs_ok(g) {
+    if !crate::runs::runs_ok(g) {
         return false;
     }
     let ring = c.missing;
@@ -194,5 +194,5 @@ pub fn cache_ok(c: Cache, header: Header, size: usize) -> bool
         return false;
     }
     let g = c.pages;
-    g.count <= size / pages::PAGE_BYTES
+    g.count <= size / crate::PAGE_BYTES
 }

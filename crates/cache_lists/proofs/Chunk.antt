@@ -7,17 +7,17 @@ use mathlib.Core.List.{List}
 use mathlib.Core.Logic.{⊎-elim}
 use native.Mathlib.Omega.{arith}
 use lib.ListN.{length}
-use Rattle.pages.specs.declared.Pages.{Pages}
-use Rattle.pages.specs.Runs.{slotAt, run, kindAt, Sound}
-use Rattle.pages.proofs.Below.{below-or}
-use Rattle.pages.proofs.RunLaws.{span-holds, apart}
-use Rattle.pages.proofs.FillLaws.{out}
+use Rattle.cache.specs.declared.Pages.{Pages}
+use Rattle.cache.specs.Runs.{slotAt, run, kindAt, Sound}
+use Rattle.cache.proofs.Below.{below-or}
+use Rattle.cache.proofs.RunLaws.{span-holds, apart}
+use Rattle.cache.proofs.FillLaws.{out}
 use Rattle.cache.specs.declared.Cache.{Cache}
 use Rattle.cache.specs.declared.Loading.{Loading}
 use Rattle.cache.specs.declared.MaybeLoading.{MaybeLoading}
 use Rattle.cache.specs.declared.MaybeLoading.the-variants as MaybeLoading
 use Rattle.cache.specs.Lookups.{runBytes, lenAt}
-use Rattle.load.specs.Loads.{chunkLen, put}
+use Rattle.cache.specs.Loads.{chunkLen, put}
 use Rattle.cache_lists.specs.Claims.{OfChunk, Written}
 use Rattle.cache_lists.proofs.Stores.{part-same, put-size, put-same}
 use Rattle.cache_lists.proofs.Inv.{LoadIn, Inv, ready-run, chunk-room}

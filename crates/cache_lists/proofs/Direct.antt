@@ -12,7 +12,7 @@ use Rattle.pack.specs.declared.TileKey.{TileKey}
 use Rattle.pack.specs.declared.Header.{Header}
 use Rattle.pack.specs.declared.Located.{Located}
 use Rattle.pack.specs.declared.Located.the-variants as Located
-use Rattle.pages.specs.Runs.{span}
+use Rattle.cache.specs.Runs.{span}
 use Rattle.tile.specs.Parse.{accepts}
 use Rattle.cache.specs.Direct.{Look, ready, missing, absent, stale, directTile, directAt, direct}
 

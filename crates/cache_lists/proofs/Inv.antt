@@ -12,16 +12,16 @@ use borrow.Author.Tests.{not-true, ltb-false, lt-ltb, eq-eqb}
 use lib.Dec.{ltb}
 use lib.ListN.{length, replicate, length-replicate, length-set}
 use Rattle.pack.specs.declared.TileKey.{TileKey}
-use Rattle.pages.specs.declared.Slot.{Slot}
-use Rattle.pages.specs.declared.Pages.{Pages}
-use Rattle.pages.specs.declared.MaybeKey.the-variants as MaybeKey
-use Rattle.pages.specs.Runs.{span, emptySlot, slotAt, Kind, bare, run, piece, kindOf, kindAt, noKey, blank, KindGood, Sound}
-use Rattle.pages.specs.Evict.{evicted, headSlot}
-use Rattle.pages.specs.Begin.{replaced}
-use Rattle.pages.proofs.Below.{and-left, and-right}
-use Rattle.pages.proofs.RunLaws.{span-pos, sound-ok, inside, apart}
-use Rattle.pages.proofs.EvictLaws.{SameOrEmpty, evicted-count, sound-evicted, evicted-either, placed-head, sound-set}
-use Rattle.pages.proofs.BeginLaws.{sound-replaced}
+use Rattle.cache.specs.declared.Slot.{Slot}
+use Rattle.cache.specs.declared.Pages.{Pages}
+use Rattle.cache.specs.declared.MaybeKey.the-variants as MaybeKey
+use Rattle.cache.specs.Runs.{span, emptySlot, slotAt, Kind, bare, run, piece, kindOf, kindAt, noKey, blank, KindGood, Sound}
+use Rattle.cache.specs.Evict.{evicted, headSlot}
+use Rattle.cache.specs.Begin.{replaced}
+use Rattle.cache.proofs.Below.{and-left, and-right}
+use Rattle.cache.proofs.RunLaws.{span-pos, sound-ok, inside, apart}
+use Rattle.cache.proofs.EvictLaws.{SameOrEmpty, evicted-count, sound-evicted, evicted-either, placed-head, sound-set}
+use Rattle.cache.proofs.BeginLaws.{sound-replaced}
 use Rattle.cache.specs.declared.Cache.{Cache}
 use Rattle.cache.specs.declared.Loading.{Loading}
 use Rattle.cache.specs.declared.MaybeLoading.{MaybeLoading}
@@ -33,7 +33,7 @@ use Rattle.cache.specs.declared.look.Landing.the-variants as Landing
 use Rattle.cache.specs.Keys.{emptyPlace, readyAt, forgotten}
 use Rattle.cache.specs.Lookups.{landsOn, touched, nextAt, nextStep}
 use Rattle.cache.specs.State.{fresh, cleared, tileLoads, loadsOk, wantsChunkOf, pendingFits, pendingOk, isEntry, isChunk, stateOk}
-use Rattle.load.specs.Loads.{chunkLen, withdrawn, moved, forgot, withoutRun, dropped, newLoad, readySlot, withReady, readied, further}
+use Rattle.cache.specs.Loads.{chunkLen, withdrawn, moved, forgot, withoutRun, dropped, newLoad, readySlot, withReady, readied, further}
 use Rattle.cache_lists.specs.Claims.{LoadsAt, Live, Apart}
 use Rattle.cache_lists.proofs.Lookups.{key-same}
 use Rattle.cache_lists.proofs.Stores.{getD-same}

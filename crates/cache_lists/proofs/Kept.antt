@@ -12,17 +12,17 @@ use lib.ListN.{length, take, drop, getD, replicate}
 use lib.Seq.{paste, take-add, drop-drop}
 use Rattle.pack.specs.declared.TileKey.{TileKey}
 use Rattle.pack.specs.declared.Header.{Header}
-use Rattle.pages.specs.declared.Slot.{Slot}
-use Rattle.pages.specs.declared.Pages.{Pages}
-use Rattle.pages.specs.declared.MaybeKey.{MaybeKey}
-use Rattle.pages.specs.declared.MaybeKey.the-variants as MaybeKey
-use Rattle.pages.specs.Runs.{span, emptySlot, slotAt, Sound}
-use Rattle.pages.specs.Evict.{evicted, headSlot, pieceSlot}
-use Rattle.pages.specs.Begin.{replaced}
-use Rattle.pages.proofs.Below.{same-or}
-use Rattle.pages.proofs.RunLaws.{span-holds}
-use Rattle.pages.proofs.FillLaws.{Out, out-or}
-use Rattle.pages.proofs.EvictLaws.{evicted-count, sound-evicted, evicted-either, placed-same, placed-piece}
+use Rattle.cache.specs.declared.Slot.{Slot}
+use Rattle.cache.specs.declared.Pages.{Pages}
+use Rattle.cache.specs.declared.MaybeKey.{MaybeKey}
+use Rattle.cache.specs.declared.MaybeKey.the-variants as MaybeKey
+use Rattle.cache.specs.Runs.{span, emptySlot, slotAt, Sound}
+use Rattle.cache.specs.Evict.{evicted, headSlot, pieceSlot}
+use Rattle.cache.specs.Begin.{replaced}
+use Rattle.cache.proofs.Below.{same-or}
+use Rattle.cache.proofs.RunLaws.{span-holds}
+use Rattle.cache.proofs.FillLaws.{Out, out-or}
+use Rattle.cache.proofs.EvictLaws.{evicted-count, sound-evicted, evicted-either, placed-same, placed-piece}
 use Rattle.tile.specs.Parse.{accepts}
 use Rattle.cache.specs.declared.RingKey.{RingKey}
 use Rattle.cache.specs.declared.Cache.{Cache}
@@ -33,7 +33,7 @@ use Rattle.cache.specs.Keys.{emptyPlace, keyAt, forgotten}
 use Rattle.cache.specs.Lookups.{runBytes, passes, touched}
 use Rattle.cache.specs.State.{fresh, cleared}
 use Rattle.cache.specs.Direct.{ready, missing, directTile, direct}
-use Rattle.load.specs.Loads.{chunkLen, moved, forgot, dropped, newLoad, put, readySlot, readied, further}
+use Rattle.cache.specs.Loads.{chunkLen, moved, forgot, dropped, newLoad, put, readySlot, readied, further}
 use Rattle.cache_lists.proofs.Stores.{set-cases, getD-same, paste-size, bytes-same, bytes-before}
 use Rattle.cache_lists.proofs.Inv.{Loads, Inv, loads-within, without-count, without-either, chunk-room, replaced-head, inv-fresh, inv-cleared, inv-touched, inv-forgot, inv-dropped, inv-began, inv-further, inv-readied}
 use Rattle.cache_lists.proofs.Chunk.{put-written, ready-kept}

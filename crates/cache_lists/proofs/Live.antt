@@ -9,18 +9,18 @@ use native.Mathlib.Omega.{arith}
 use lib.ListN.{length, set, replicate}
 use lib.Seq.{getD-set-same, getD-set-other}
 use Rattle.pack.specs.declared.TileKey.{TileKey}
-use Rattle.pages.specs.declared.Slot.{Slot}
-use Rattle.pages.specs.declared.Pages.{Pages}
-use Rattle.pages.specs.Runs.{span, emptySlot, slotAt, run, kindOf, Sound}
-use Rattle.pages.specs.Evict.{evicted, pieceSlot}
-use Rattle.pages.specs.Begin.{replaced}
-use Rattle.pages.proofs.Below.{same-or}
-use Rattle.pages.proofs.FillLaws.{Out, out-or}
-use Rattle.pages.proofs.EvictLaws.{sound-evicted, evicted-either, evicted-empty, placed-same, placed-piece}
+use Rattle.cache.specs.declared.Slot.{Slot}
+use Rattle.cache.specs.declared.Pages.{Pages}
+use Rattle.cache.specs.Runs.{span, emptySlot, slotAt, run, kindOf, Sound}
+use Rattle.cache.specs.Evict.{evicted, pieceSlot}
+use Rattle.cache.specs.Begin.{replaced}
+use Rattle.cache.proofs.Below.{same-or}
+use Rattle.cache.proofs.FillLaws.{Out, out-or}
+use Rattle.cache.proofs.EvictLaws.{sound-evicted, evicted-either, evicted-empty, placed-same, placed-piece}
 use Rattle.cache.specs.declared.Loading.{Loading}
 use Rattle.cache.specs.declared.MaybeLoading.{MaybeLoading}
 use Rattle.cache.specs.declared.MaybeLoading.the-variants as MaybeLoading
-use Rattle.load.specs.Loads.{newLoad, readySlot}
+use Rattle.cache.specs.Loads.{newLoad, readySlot}
 use Rattle.cache_lists.specs.Claims.{LoadsAt}
 use Rattle.cache_lists.proofs.Stores.{getD-same}
 

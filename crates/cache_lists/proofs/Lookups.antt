@@ -7,13 +7,13 @@ use native.Mathlib.Omega.{arith}
 use borrow.Author.Tests.{eqb-true, eqb-false, eq-eqb}
 use lib.Dec.{eqb}
 use Rattle.pack.specs.declared.TileKey.{TileKey}
-use Rattle.pages.specs.declared.Pages.{Pages}
-use Rattle.pages.specs.declared.MaybeKey.{MaybeKey}
-use Rattle.pages.specs.declared.MaybeKey.the-variants as MaybeKey
-use Rattle.pages.specs.declared.victim.Found.{Found}
-use Rattle.pages.specs.declared.victim.Found.the-variants as Found
-use Rattle.pages.specs.Runs.{slotAt}
-use Rattle.pages.proofs.Below.{and-left, and-right}
+use Rattle.cache.specs.declared.Pages.{Pages}
+use Rattle.cache.specs.declared.MaybeKey.{MaybeKey}
+use Rattle.cache.specs.declared.MaybeKey.the-variants as MaybeKey
+use Rattle.cache.specs.declared.victim.Found.{Found}
+use Rattle.cache.specs.declared.victim.Found.the-variants as Found
+use Rattle.cache.specs.Runs.{slotAt}
+use Rattle.cache.proofs.Below.{and-left, and-right}
 use Rattle.cache.specs.declared.Cache.{Cache}
 use Rattle.cache.specs.declared.Ring.{Ring}
 use Rattle.cache.specs.declared.Loading.{Loading}

@@ -13,9 +13,9 @@ use Rattle.pack.specs.Grid.{inGrid}
 use Rattle.pack.specs.declared.TileKey.{TileKey}
 use Rattle.pack.specs.declared.Header.{Header}
 use Rattle.pack.proofs.Laws.{located}
-use Rattle.pages.specs.Runs.{span}
-use Rattle.pages.proofs.Below.{and-left, and-right}
-use Rattle.pages.proofs.VictimLaws.{victim-is}
+use Rattle.cache.specs.Runs.{span}
+use Rattle.cache.proofs.Below.{and-left, and-right}
+use Rattle.cache.proofs.VictimLaws.{victim-is}
 use Rattle.cache.specs.declared.Cache.{Cache}
 use Rattle.cache.specs.declared.Got.{Got}
 use Rattle.cache.specs.declared.Clearing.the-variants as Clearing
@@ -26,11 +26,10 @@ use Rattle.cache.specs.declared.next.Next.the-variants as Next
 use Rattle.cache.specs.Lookups.{runBytes, passes, lenAt, nextStep}
 use Rattle.cache.specs.State.{cleared, cacheOk}
 use Rattle.cache.specs.Calls as Cached
-use Rattle.load.specs.declared.Request.{Request}
-use Rattle.load.specs.declared.Request.the-variants as Request
-use Rattle.load.specs.declared.Progress.the-variants as Progress
-use Rattle.load.specs.Loads.{After, over, refused, fetched, readLen, takes, dropped, chunkLen, stepped}
-use Rattle.load.specs.Calls as Loaded
+use Rattle.cache.specs.declared.Request.{Request}
+use Rattle.cache.specs.declared.Request.the-variants as Request
+use Rattle.cache.specs.declared.Progress.the-variants as Progress
+use Rattle.cache.specs.Loads.{After, over, refused, fetched, readLen, takes, dropped, chunkLen, stepped}
 use Rattle.tile.specs.Parse.{accepts}
 use Rattle.cache_lists.specs.Lists.{World, Call, capacity, loads, pages, get, fetch, load, loadFrom, clear, found, exec, Along}
 use Rattle.cache_lists.specs.Claims.{ofProgress, Settles, Passed, HandedOut, Read, readsOf, reads, bytesOf, TakesOnly, Written, Safe}
@@ -114,9 +113,9 @@ one-read w capacity = omega arith
 one-read w loads = omega arith
 one-read w (pages h key) = omega arith
 one-read w (get h key) = omega arith
-one-read w (fetch h key) = one-of (Loaded.fetch (w .cache) (w .arena) h key)
-one-read w (load h key failure bs) = one-of (Loaded.fetch (w .cache) (w .arena) h key)
-one-read w (loadFrom h key pack) = one-of (Loaded.fetch (w .cache) (w .arena) h key)
+one-read w (fetch h key) = one-of (Cached.fetch (w .cache) (w .arena) h key)
+one-read w (load h key failure bs) = one-of (Cached.fetch (w .cache) (w .arena) h key)
+one-read w (loadFrom h key pack) = one-of (Cached.fetch (w .cache) (w .arena) h key)
 one-read w clear = omega arith
 
 module _ (c : Cache) (arena : List ℕ) (h : Header) (key : TileKey) where
@@ -133,8 +132,8 @@ module _ (c : Cache) (arena : List ℕ) (h : Header) (key : TileKey) where
   read-len (Next.Chunk l) = add-zero (chunkLen l)
 
   -- so a `load` that is not refused has them
-  takes-only : (bs : List ℕ) → ofProgress (Loaded.load c arena h key 0 bs .answer) ≡ 0 → length bs ≡ bytesOf (readsOf (Loaded.fetch c arena h key))
-  unfolding Loaded.load Loaded.fetch
+  takes-only : (bs : List ℕ) → ofProgress (Cached.load c arena h key 0 bs .answer) ≡ 0 → length bs ≡ bytesOf (readsOf (Cached.fetch c arena h key))
+  unfolding Cached.load Cached.fetch
   takes-only bs e = by (cacheOk c h (length arena)) (takes (nextStep c key) h key 0 (length bs)) (inGrid h key) refl refl e
     where
       left : Bool → Bool → Bool → After

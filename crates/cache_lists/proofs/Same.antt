@@ -14,12 +14,12 @@ use Rattle.pack.specs.declared.TileKey.{TileKey}
 use Rattle.pack.specs.declared.Header.{Header}
 use Rattle.pack.specs.declared.Located.{Located}
 use Rattle.pack.proofs.Laws.{parse-accepted, located}
-use Rattle.pages.specs.declared.victim.Found.{Found}
-use Rattle.pages.specs.declared.victim.Found.the-variants as Found
-use Rattle.pages.specs.Runs.{span}
-use Rattle.pages.proofs.Below.{below-or}
-use Rattle.pages.proofs.RunLaws.{span-holds, inside}
-use Rattle.pages.proofs.VictimLaws.{victim-there, victim-is}
+use Rattle.cache.specs.declared.victim.Found.{Found}
+use Rattle.cache.specs.declared.victim.Found.the-variants as Found
+use Rattle.cache.specs.Runs.{span}
+use Rattle.cache.proofs.Below.{below-or}
+use Rattle.cache.proofs.RunLaws.{span-holds, inside}
+use Rattle.cache.proofs.VictimLaws.{victim-there, victim-is}
 use Rattle.cache.specs.declared.Cache.{Cache}
 use Rattle.cache.specs.declared.Got.{Got}
 use Rattle.cache.specs.declared.Count.{Count}
@@ -33,10 +33,9 @@ use Rattle.cache.specs.Lookups.{pagesOf, passes, lenAt}
 use Rattle.cache.specs.State.{cacheOk}
 use Rattle.cache.specs.Direct.{missing, directAt, direct}
 use Rattle.cache.specs.Calls as Cached
-use Rattle.load.specs.declared.Request.{Request}
-use Rattle.load.specs.declared.Request.the-variants as Request
-use Rattle.load.specs.Loads.{After, fetched, dropped, chunkLen}
-use Rattle.load.specs.Calls as Loaded
+use Rattle.cache.specs.declared.Request.{Request}
+use Rattle.cache.specs.declared.Request.the-variants as Request
+use Rattle.cache.specs.Loads.{After, fetched, dropped, chunkLen}
 use Rattle.cache_lists.specs.Lists.{World, Call, capacity, loads, pages, get, fetch, load, loadFrom, clear, found, exec, Along}
 use Rattle.cache_lists.specs.Claims.{ofCount, ofLookup, ofRequest, ofProgress, Parsed, FairBytes, Fair, SameLook, SameAs, Open}
 use Rattle.cache_lists.proofs.Lookups.{in-ring, ReadyAt, ready-at, next-is}
@@ -66,7 +65,7 @@ module _ (P : List ℕ) (h : Header) (n : ℕ) (key : TileKey) where
     kept-got unknown = k
     kept-got (handed i e p) = kept-touched P h n c arena i k
 
-    module _ (failure : ℕ) (bs : List ℕ) (fair : failure ≡ 0 → FairBytes P (Loaded.fetch c arena h key) bs) where
+    module _ (failure : ℕ) (bs : List ℕ) (fair : failure ≡ 0 → FairBytes P (Cached.fetch c arena h key) bs) where
       fair-came : {next : Next} → Came c arena h key failure bs next → FairBytes P (fetched c next arena h key) bs
       fair-came came = rw (fetch-came c arena h key came) at (fair (came .whole))
 
@@ -179,7 +178,7 @@ module _ (P : List ℕ) (n : ℕ) where
   kept-call w (load h key failure bs) k f =
       rw (f .0 .header) (kept-step P h n key (w .cache) (w .arena) (given (f .0) k) failure bs (f .1) (load-is (w .cache) (w .arena) h key failure bs))
   kept-call w (loadFrom h key Q) k f =
-      let r : From (w .cache) (w .arena) h key Q (Loaded.loadFrom (w .cache) (w .arena) h key Q) = from-is (w .cache) (w .arena) h key Q in
+      let r : From (w .cache) (w .arena) h key Q (Cached.loadFrom (w .cache) (w .arena) h key Q) = from-is (w .cache) (w .arena) h key Q in
       rw (f .0 .header) (kept-step P h n key (w .cache) (w .arena) (given (f .0) k) (r .failure) (r .bytes) (r .fair P (f .1)) (r .goes))
   kept-call w clear k f = rw (clear-is (w .cache) (k .inv)) (kept-cleared P _ n (w .cache) (w .arena) k)
 
@@ -217,7 +216,7 @@ module _ (P : List ℕ) (n : ℕ) where
     open-call (pages h key) f = open-pages h key f
     open-call (get h key) f = open-got P h n key (w .cache) (w .arena) (given f k) (parsed-rules f) holds (get-is (w .cache) (w .arena) h key)
     open-call (fetch h key) f =
-        open-fetch P h n key (w .cache) (w .arena) (given f k) (parsed-rules f) holds (Loaded.fetch (w .cache) (w .arena) h key) (fetch-is (w .cache) (w .arena) h key)
+        open-fetch P h n key (w .cache) (w .arena) (given f k) (parsed-rules f) holds (Cached.fetch (w .cache) (w .arena) h key) (fetch-is (w .cache) (w .arena) h key)
     open-call (load h key failure bs) f =
         open-step P h n key (w .cache) (w .arena) (given (f .0) k) (parsed-rules (f .0)) holds (load-is (w .cache) (w .arena) h key failure bs)
     open-call (loadFrom h key Q) f =

@@ -6,12 +6,12 @@ use mathlib.Core.Bool.{Bool, true, false, cond}
 use native.Mathlib.Omega.{arith}
 use lib.Seq.{getD-set-same}
 use Rattle.pack.specs.declared.TileKey.{TileKey}
-use Rattle.pages.specs.declared.Slot.{Slot}
-use Rattle.pages.specs.declared.victim.Found.{Found}
-use Rattle.pages.specs.declared.victim.Found.the-variants as Found
-use Rattle.pages.specs.declared.MaybeKey.the-variants as MaybeKey
-use Rattle.pages.specs.Runs.{emptySlot, slotAt}
-use Rattle.pages.proofs.RunLaws.{span-pos}
+use Rattle.cache.specs.declared.Slot.{Slot}
+use Rattle.cache.specs.declared.victim.Found.{Found}
+use Rattle.cache.specs.declared.victim.Found.the-variants as Found
+use Rattle.cache.specs.declared.MaybeKey.the-variants as MaybeKey
+use Rattle.cache.specs.Runs.{emptySlot, slotAt}
+use Rattle.cache.proofs.RunLaws.{span-pos}
 use Rattle.cache.specs.declared.RingKey.{RingKey}
 use Rattle.cache.specs.declared.Cache.{Cache}
 use Rattle.cache.specs.declared.Loading.{Loading}
@@ -20,7 +20,7 @@ use Rattle.cache.specs.declared.look.Landing.the-variants as Landing
 use Rattle.cache.specs.Search.{isFound}
 use Rattle.cache.specs.Keys.{holds, emptyPlace, keyAt, inRing, forgotten, isReady, readyAt}
 use Rattle.cache.specs.Lookups.{landedOn, landsOn, touched}
-use Rattle.load.specs.Loads.{moved, forgot, readySlot, readied}
+use Rattle.cache.specs.Loads.{moved, forgot, readySlot, readied}
 use Rattle.cache_lists.proofs.Lookups.{key-same, lowest-found}
 use Rattle.cache_lists.proofs.Inv.{Loads, Inv, loads-within}
 

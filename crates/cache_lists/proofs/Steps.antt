@@ -18,12 +18,12 @@ use Rattle.pack.specs.declared.Located.the-variants as Located
 use Rattle.pack.specs.declared.Range.{Range}
 use Rattle.pack.specs.declared.Range.the-variants as Range
 use Rattle.pack.proofs.Laws.{read-at}
-use Rattle.pages.specs.declared.victim.Found.{Found}
-use Rattle.pages.specs.declared.victim.Found.the-variants as Found
-use Rattle.pages.specs.Runs.{span}
-use Rattle.pages.specs.Victim.{victim}
-use Rattle.pages.specs.Begin.{replaced, begunAt, begun}
-use Rattle.pages.proofs.Below.{and-right}
+use Rattle.cache.specs.declared.victim.Found.{Found}
+use Rattle.cache.specs.declared.victim.Found.the-variants as Found
+use Rattle.cache.specs.Runs.{span}
+use Rattle.cache.specs.Victim.{victim}
+use Rattle.cache.specs.Begin.{replaced, begunAt, begun}
+use Rattle.cache.proofs.Below.{and-right}
 use Rattle.cache.specs.declared.Cache.{Cache}
 use Rattle.cache.specs.declared.Loading.{Loading}
 use Rattle.cache.specs.declared.MaybeLoading.the-variants as MaybeLoading
@@ -36,11 +36,10 @@ use Rattle.cache.specs.declared.look.Landing.the-variants as Landing
 use Rattle.cache.specs.Keys.{inRing, readyAt}
 use Rattle.cache.specs.Lookups.{landsOn, passes, lenAt, touched, gotReady, gotAt, got, nextStep}
 use Rattle.cache.specs.State.{stateOk, cacheOk}
-use Rattle.cache.specs.Calls.{gotNothing, get}
-use Rattle.load.specs.declared.Request.{Request}
-use Rattle.load.specs.declared.Request.the-variants as Request
-use Rattle.load.specs.Loads.{After, over, refused, failed, done, more, fetched, readLen, fits, takes, moved, forgot, dropped, newLoad, beganAt, began, located, entryStep, chunkLen, put, readied, ended, further, chunkCame, chunkStep, stepped, packBytes}
-use Rattle.load.specs.Calls.{fetch, load, loadBy, requestLoad, loadFrom}
+use Rattle.cache.specs.declared.Request.{Request}
+use Rattle.cache.specs.declared.Request.the-variants as Request
+use Rattle.cache.specs.Loads.{After, over, refused, failed, done, more, fetched, readLen, fits, takes, moved, forgot, dropped, newLoad, beganAt, began, located, entryStep, chunkLen, put, readied, ended, further, chunkCame, chunkStep, stepped, packBytes}
+use Rattle.cache.specs.Calls.{gotNothing, get, fetch, load, loadBy, requestLoad, loadFrom}
 use Rattle.cache_lists.specs.Claims.{FairBytes, FairPack}
 use Rattle.cache_lists.proofs.Lookups.{LandingIs, landing, next-is}
 

@@ -10,9 +10,9 @@ use borrow.Author.Tests.{leb-true}
 use lib.Dec.{leb}
 use lib.ListN.{length, take, drop, getD, set, replicate, length-set, length-take, length-drop, List·getD-eq-default}
 use lib.Seq.{paste, take-paste, drop-paste, length-paste, length-take-le, take-add, drop-at, take-at, take-all, getD-set-same, getD-set-other, getD-take, getD-drop, ext-getD}
-use Rattle.pages.proofs.Below.{below-or, same-or}
-use Rattle.pages.proofs.FillLaws.{Out}
-use Rattle.load.specs.Loads.{put}
+use Rattle.cache.proofs.Below.{below-or, same-or}
+use Rattle.cache.proofs.FillLaws.{Out}
+use Rattle.cache.specs.Loads.{put}
 
 -- ---- one element, and a list of one value
 

@@ -11,7 +11,7 @@ use Rattle.pack.specs.Sector.{parse}
 use Rattle.pack.specs.declared.TileKey.{TileKey}
 use Rattle.pack.specs.declared.Header.{Header}
 use Rattle.pack.specs.declared.Answer.the-variants as Sector
-use Rattle.pages.specs.Runs.{run, slotAt, kindAt, endOf}
+use Rattle.cache.specs.Runs.{run, slotAt, kindAt, endOf}
 use Rattle.tile.specs.Parse.{accepts}
 use Rattle.cache.specs.declared.Cache.{Cache}
 use Rattle.cache.specs.declared.MaybeLoading.{MaybeLoading}
@@ -25,12 +25,12 @@ use Rattle.cache.specs.declared.Clearing.the-variants as Clearing
 use Rattle.cache.specs.declared.look.Landing.the-variants as Landing
 use Rattle.cache.specs.Lookups.{landsOn, runBytes, lenAt}
 use Rattle.cache.specs.Direct.{Look, ready, missing, direct}
-use Rattle.load.specs.declared.Request.{Request}
-use Rattle.load.specs.declared.Request.the-variants as Request
-use Rattle.load.specs.declared.Progress.{Progress}
-use Rattle.load.specs.declared.Progress.the-variants as Progress
-use Rattle.load.specs.Loads.{chunkLen}
-use Rattle.load.specs.Calls as Loaded
+use Rattle.cache.specs.declared.Request.{Request}
+use Rattle.cache.specs.declared.Request.the-variants as Request
+use Rattle.cache.specs.declared.Progress.{Progress}
+use Rattle.cache.specs.declared.Progress.the-variants as Progress
+use Rattle.cache.specs.Loads.{chunkLen}
+use Rattle.cache.specs.Calls as Loaded
 use Rattle.cache_lists.specs.Lists.{World, Call, capacity, loads, pages, get, fetch, load, loadFrom, clear, Answer, counted, found, asked, stepped, cleared, exec, start, Along}
 
 -- the number of a refusal, 0 for any other answer

@@ -10,10 +10,9 @@ use Rattle.cache.specs.declared.Lookup.{Lookup}
 use Rattle.cache.specs.declared.Clearing.{Clearing}
 use Rattle.cache.specs.State.{fresh}
 use Rattle.cache.specs.Calls as Cached
-use Rattle.load.specs.declared.Request.{Request}
-use Rattle.load.specs.declared.Progress.{Progress}
-use Rattle.load.specs.Loads.{After}
-use Rattle.load.specs.Calls as Loaded
+use Rattle.cache.specs.declared.Request.{Request}
+use Rattle.cache.specs.declared.Progress.{Progress}
+use Rattle.cache.specs.Loads.{After}
 
 -- what the calls work on
 pub record World : Type 0 where
@@ -56,9 +55,9 @@ exec capacity w = same w (counted (Cached.capacity (w .cache)))
 exec loads w = same w (counted (Cached.loads (w .cache)))
 exec (pages h key) w = same w (counted (Cached.pages (w .cache) h key))
 exec (get h key) w = let r = Cached.get (w .cache) (w .arena) h key in inCache w (r .cache) (found (r .answer))
-exec (fetch h key) w = same w (asked (Loaded.fetch (w .cache) (w .arena) h key))
-exec (load h key failure bs) w = loaded (Loaded.load (w .cache) (w .arena) h key failure bs)
-exec (loadFrom h key pack) w = loaded (Loaded.loadFrom (w .cache) (w .arena) h key pack)
+exec (fetch h key) w = same w (asked (Cached.fetch (w .cache) (w .arena) h key))
+exec (load h key failure bs) w = loaded (Cached.load (w .cache) (w .arena) h key failure bs)
+exec (loadFrom h key pack) w = loaded (Cached.loadFrom (w .cache) (w .arena) h key pack)
 exec clear w = let r = Cached.clear (w .cache) in inCache w (r .cache) (cleared (r .answer))
 
 -- a fresh cache of n pages over an arena

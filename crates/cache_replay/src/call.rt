@@ -6,10 +6,10 @@ use crate::words;
 use cache::Cache;
 use cache::Clearing;
 use cache::Count;
+use cache::Loaded;
 use cache::Lookup;
-use load::Loaded;
-use load::Progress;
-use load::Request;
+use cache::Progress;
+use cache::Request;
 use pack::TileKey;
 
 pub fn told(how: u32) -> Told {
@@ -114,7 +114,7 @@ fn get(s: Session, arena: &[u8], key: TileKey) -> Stepped {
 fn fetch(s: Session, arena: &[u8], key: TileKey) -> Stepped {
     let c = s.cache;
     let header = s.header;
-    let answer = load::fetch(c, arena, header, key);
+    let answer = cache::load::fetch(c, arena, header, key);
     unchanged(s, of_request(answer))
 }
 
@@ -129,7 +129,7 @@ fn stepped(s: Session, r: Loaded) -> Stepped {
 fn load(s: Session, arena: &mut [u8], key: TileKey, failure: u32, bytes: &[u8]) -> Stepped {
     let c = s.cache;
     let header = s.header;
-    let r = load::load(c, arena, header, key, failure, bytes);
+    let r = cache::load::load(c, arena, header, key, failure, bytes);
     stepped(s, r)
 }
 
@@ -155,7 +155,7 @@ fn answered(
 fn one_step(s: Session, arena: &mut [u8], key: TileKey, how: u32, pack: &[u8]) -> Stepped {
     let c = s.cache;
     let header = s.header;
-    let wanted = load::fetch(c, &arena[..], header, key);
+    let wanted = cache::load::fetch(c, &arena[..], header, key);
     match wanted {
         Request::Read(offset, len) => {
             answered(s, arena, key, how, words::part(pack, offset, len), len)
@@ -168,7 +168,7 @@ fn one_step(s: Session, arena: &mut [u8], key: TileKey, how: u32, pack: &[u8]) -
 fn load_from(s: Session, arena: &mut [u8], key: TileKey, pack: &[u8]) -> Stepped {
     let c = s.cache;
     let header = s.header;
-    let r = load::load_from(c, arena, header, key, pack);
+    let r = cache::load::load_from(c, arena, header, key, pack);
     stepped(s, r)
 }
 

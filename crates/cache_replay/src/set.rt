@@ -5,12 +5,12 @@ use crate::words;
 use cache::Cache;
 use cache::Loading;
 use cache::MaybeLoading;
+use cache::Pages;
+use cache::Part;
 use cache::Pending;
 use cache::Ring;
 use cache::RingKey;
-use pages::Pages;
-use pages::Part;
-use pages::Slot;
+use cache::Slot;
 
 fn with_pages(s: Session, g: Pages) -> Session {
     let mut c = s.cache;
@@ -64,7 +64,7 @@ pub fn clock(s: Session, clock: u32) -> Session {
 fn used(s: Session, page: usize, age: u32) -> Session {
     let c = s.cache;
     let mut g = c.pages;
-    if page < pages::MAX_PAGES {
+    if page < cache::MAX_PAGES {
         g.used[page] = age;
     }
     with_pages(s, g)
@@ -79,7 +79,7 @@ fn part(n: u32) -> Part {
 }
 
 fn slot(s: Session, page: usize, record: &[u8]) -> Session {
-    if pages::MAX_PAGES <= page {
+    if cache::MAX_PAGES <= page {
         return s;
     }
     let c = s.cache;

@@ -5,12 +5,12 @@ use crate::Told;
 use crate::words;
 use cache::Loading;
 use cache::MaybeLoading;
+use cache::Pages;
+use cache::Part;
 use cache::Pending;
 use cache::Ring;
+use cache::Slot;
 use pack::TileKey;
-use pages::Pages;
-use pages::Part;
-use pages::Slot;
 
 pub fn ending(told: Told, out: &mut [u8]) {
     words::put(out, 0, told.how);
@@ -97,7 +97,7 @@ fn slot(s: Slot, at: usize, out: &mut [u8]) {
 
 fn slots(g: Pages, out: &mut [u8]) {
     let mut i = 0;
-    while i < pages::MAX_PAGES {
+    while i < cache::MAX_PAGES {
         slot(g.slots[i], 17 + i * 3, out);
         i += 1;
     }
@@ -105,7 +105,7 @@ fn slots(g: Pages, out: &mut [u8]) {
 
 fn ages(g: Pages, out: &mut [u8]) {
     let mut i = 0;
-    while i < pages::MAX_PAGES {
+    while i < cache::MAX_PAGES {
         words::put(out, 305 + i, g.used[i]);
         i += 1;
     }

@@ -1,6 +1,6 @@
 // Words of 32 bits, little-endian, and what they stand for.
+use cache::MaybeKey;
 use pack::TileKey;
-use pages::MaybeKey;
 
 // No key: it lies in no grid.
 pub const NO_KEY: u32 = 4294967295;

@@ -16,18 +16,18 @@ use Rattle.geo.specs.declared.Point.{Point}
 use Rattle.cache.specs.Direct.{stale, look}
 use Rattle.cache.specs.State.{cacheOk}
 use Rattle.cache.specs.declared.Cache.{Cache}
-use Rattle.load.specs.declared.Progress.{Progress}
-use Rattle.load.specs.declared.Progress.the-variants as Progress
+use Rattle.cache.specs.declared.Progress.{Progress}
+use Rattle.cache.specs.declared.Progress.the-variants as Progress
 use Rattle.cache_lists.specs.Claims as Cached
 use Rattle.cache_lists.specs.Claims.{Parsed}
 use Rattle.cache_lists.proofs.Inv.{Inv}
 use Rattle.cache_lists.proofs.Steps.{load-is}
 use Rattle.cache_lists.proofs.Same.{kept-ok, given, parsed-rules, open-step, open-call}
-use Rattle.candidates.specs.declared.Current.{Current}
-use Rattle.candidates.specs.declared.Current.the-variants as CurrentIs
-use Rattle.candidates.specs.declared.Heading.{Heading}
-use Rattle.candidates.specs.declared.Heading.the-variants as HeadingIs
-use Rattle.candidates.specs.declared.Matched.{Matched}
+use Rattle.matcher.specs.declared.Current.{Current}
+use Rattle.matcher.specs.declared.Current.the-variants as CurrentIs
+use Rattle.matcher.specs.declared.Heading.{Heading}
+use Rattle.matcher.specs.declared.Heading.the-variants as HeadingIs
+use Rattle.matcher.specs.declared.Matched.{Matched}
 use Rattle.matcher.specs.Calls as Matching
 use Rattle.matcher.specs.Gather as Gather
 use Rattle.matcher.specs.State as Matchers
@@ -43,10 +43,10 @@ use Rattle.matcher.specs.declared.Updated.{Updated}
 use Rattle.predict.specs.Predict as Predict
 use Rattle.predict.specs.declared.Outcome as RoadOutcome
 use Rattle.predict.specs.declared.Outcome.the-variants as Roads
-use Rattle.follower.specs.Fixes.{isSamePlace}
-use Rattle.follower.specs.State as Followers
-use Rattle.follower.specs.declared.Fix.{Fix}
-use Rattle.follower.specs.declared.Follower.{Follower}
+use Rattle.engine.specs.Fixes.{isSamePlace}
+use Rattle.engine.specs.Follow as Followers
+use Rattle.engine.specs.declared.Fix.{Fix}
+use Rattle.engine.specs.declared.Follower.{Follower}
 use Rattle.engine.specs.State as States
 use Rattle.engine.specs.State.{unchanged, followed, isReady, engineOk}
 use Rattle.engine.specs.Deliver as Delivered

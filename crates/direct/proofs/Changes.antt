@@ -22,12 +22,12 @@ use Rattle.cache.specs.declared.look.Landing.{Landing}
 use Rattle.cache.specs.declared.look.Landing.the-variants as Landing
 use Rattle.cache.specs.declared.next.Next.{Next}
 use Rattle.cache.specs.declared.next.Next.the-variants as Next
-use Rattle.load.specs.Loads as Loads
-use Rattle.load.specs.Loads.{forgot, told}
+use Rattle.cache.specs.Loads as Loads
+use Rattle.cache.specs.Loads.{forgot, told}
 use Rattle.cache_lists.proofs.Lookups.{next-is}
 use Rattle.cache_lists.proofs.Steps.{Step, refuses, knows, uses, noPages, fails, lacks, begins, goesOn, readies, spoils, load-is}
-use Rattle.candidates.specs.declared.Heading.{Heading}
-use Rattle.candidates.specs.declared.Matched.{Matched}
+use Rattle.matcher.specs.declared.Heading.{Heading}
+use Rattle.matcher.specs.declared.Matched.{Matched}
 use Rattle.matcher.specs.Calls as Matching
 use Rattle.matcher.specs.Gather as Gather
 use Rattle.matcher.specs.State.{headingOk, callOk, refused}
@@ -40,8 +40,8 @@ use Rattle.matcher.specs.declared.gather.Ending.the-variants as Ending
 use Rattle.predict.specs.Predict as Predict
 use Rattle.predict.specs.declared.Outcome as RoadOutcome
 use Rattle.predict.specs.declared.Outcome.the-variants as Roads
-use Rattle.follower.specs.declared.Fix.{Fix}
-use Rattle.follower.specs.declared.Follower.{Follower}
+use Rattle.engine.specs.declared.Fix.{Fix}
+use Rattle.engine.specs.declared.Follower.{Follower}
 use Rattle.engine.specs.State as States
 use Rattle.engine.specs.State.{engineOk}
 use Rattle.engine.specs.Work.{counted, matchEndedBy, roadEndedBy}

@@ -6,7 +6,7 @@ use mathlib.Core.List.{List, [], _∷_}
 use lib.Ieee.{Float}
 use lib.ListN.{length}
 use Rattle.cache_lists.proofs.Inv.{inv-fresh}
-use Rattle.follower.specs.State as Followers
+use Rattle.engine.specs.Follow as Followers
 use Rattle.engine.specs.Calls as Engines
 use Rattle.direct.specs.Lists.{World, Call, exec, start}
 use Rattle.direct.specs.Direct.{Lookup, directly, Direct, newDirect, applied, packAfter, directExec, directShows}

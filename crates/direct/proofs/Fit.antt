@@ -16,25 +16,25 @@ use Rattle.pack.specs.Bytes.{byteAt}
 use Rattle.pack.specs.Grid.{isPoint}
 use Rattle.pack.specs.declared.Header.{Header}
 use Rattle.pack.specs.declared.TileKey.{TileKey}
-use Rattle.pages.proofs.Below.{same-or}
+use Rattle.cache.proofs.Below.{same-or}
 use Rattle.geo.specs.Flat.{whole}
 use Rattle.cache.specs.Lookups.{touched}
 use Rattle.cache.specs.State.{fresh, cleared, pendingFits}
 use Rattle.cache.specs.declared.Cache.{Cache}
 use Rattle.cache.specs.declared.Pending.{Pending}
 use Rattle.cache.specs.declared.Pending.the-variants as Pending
-use Rattle.load.specs.Loads as Loads
-use Rattle.load.specs.Loads.{forgot, told}
+use Rattle.cache.specs.Loads as Loads
+use Rattle.cache.specs.Loads.{forgot, told}
 use Rattle.cache_lists.specs.Claims.{Parsed}
 use Rattle.cache_lists.proofs.Steps.{Step, refuses, knows, uses, noPages, fails, lacks, begins, goesOn, readies, spoils, load-is}
 use Rattle.cache_lists.proofs.Direct.{direct-none}
 use Rattle.cache_lists.proofs.Inv.{inv-cleared}
 use Rattle.cache_lists.proofs.Kept.{Kept, kept-fresh, kept-touched, kept-forgot}
 use Rattle.cache_lists.proofs.Same.{kept-step, given, kept-call}
-use Rattle.follower.specs.State as Followers
-use Rattle.follower.specs.Fixes.{isSamePlace}
-use Rattle.follower.specs.declared.Fix.{Fix}
-use Rattle.follower.specs.declared.Follower.{Follower}
+use Rattle.engine.specs.Follow as Followers
+use Rattle.engine.specs.Fixes.{isSamePlace}
+use Rattle.engine.specs.declared.Fix.{Fix}
+use Rattle.engine.specs.declared.Follower.{Follower}
 use Rattle.engine.specs.State.{refused, unchanged, engineOk, forgotten}
 use Rattle.engine.specs.Deliver.{After, withPending, sectorOf, arrived, loadFailed, loaded}
 use Rattle.engine.specs.Steps.{steppedBy, stepped}

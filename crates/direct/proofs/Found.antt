@@ -10,8 +10,8 @@ use lib.IntN.{ℤ}
 use Rattle.num.proofs.FoldLaws.{up-keeps}
 use Rattle.pack.specs.declared.Header.{Header}
 use Rattle.pack.specs.declared.TileKey.{TileKey}
-use Rattle.pages.specs.declared.MaybeKey.{MaybeKey}
-use Rattle.pages.specs.declared.MaybeKey.the-variants as MaybeKey
+use Rattle.cache.specs.declared.MaybeKey.{MaybeKey}
+use Rattle.cache.specs.declared.MaybeKey.the-variants as MaybeKey
 use Rattle.geo.specs.declared.Point.{Point}
 use Rattle.cache.specs.Direct.{Look, ready, missing, absent, stale, lookAt, look}
 use Rattle.cache.specs.Lookups.{landsOn, runBytes, passes, lenAt}
@@ -19,16 +19,16 @@ use Rattle.cache.specs.declared.Cache.{Cache}
 use Rattle.cache.specs.declared.look.Landing.{Landing}
 use Rattle.cache.specs.declared.look.Landing.the-variants as Landing
 use Rattle.cache.proofs.LookLaws.{passes-inside, passes-accepted}
-use Rattle.candidates.specs.declared.Heading.{Heading}
-use Rattle.candidates.specs.declared.Matched.{Matched}
-use Rattle.candidates.specs.declared.Query.{Query}
+use Rattle.matcher.specs.declared.Heading.{Heading}
+use Rattle.matcher.specs.declared.Matched.{Matched}
+use Rattle.matcher.specs.declared.Query.{Query}
 use Rattle.matcher.specs.Near.{keyAt, nearOf}
 use Rattle.matcher.specs.Gather.{Run, lookStep, keyStep, runStep, noRun, runTo, queryOf, runOver}
 use Rattle.matcher.specs.declared.Matcher.{Matcher}
 use Rattle.matcher.specs.declared.NearKeys.{NearKeys}
 use Rattle.matcher.specs.declared.gather.Ending.{Ending}
 use Rattle.matcher.specs.declared.gather.Ending.the-variants as Ending
-use Rattle.ages.specs.Reader.{plain}
+use Rattle.cache.specs.Reader.{plain}
 use Rattle.predict.specs.Predict.{predictOver}
 use Rattle.predict.proofs.RoadLaws.{forecast-simulates}
 use Rattle.direct.specs.Claims.{AllOf, HandsOut, matchKeys, roadKeys}

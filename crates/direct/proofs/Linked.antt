@@ -18,9 +18,9 @@ use Rattle.cache.specs.State.{cacheOk}
 use Rattle.cache.specs.declared.Pending.{Pending}
 use Rattle.cache.specs.declared.Pending.the-variants as Pending
 use Rattle.cache_lists.specs.Claims.{Parsed}
-use Rattle.candidates.specs.declared.Current.{Current}
-use Rattle.candidates.specs.declared.Heading.{Heading}
-use Rattle.candidates.specs.declared.Matched.{Matched}
+use Rattle.matcher.specs.declared.Current.{Current}
+use Rattle.matcher.specs.declared.Heading.{Heading}
+use Rattle.matcher.specs.declared.Matched.{Matched}
 use Rattle.matcher.specs.Calls as Matching
 use Rattle.matcher.specs.Gather as Gather
 use Rattle.matcher.specs.Relied as MatchRelied
@@ -36,10 +36,10 @@ use Rattle.predict.specs.Relied as RoadRelied
 use Rattle.predict.specs.declared.Outcome as RoadOutcome
 use Rattle.predict.specs.declared.Outcome.the-variants as Roads
 use Rattle.predict.proofs.RoadLaws.{predict-agrees}
-use Rattle.follower.specs.Fixes as Fixes
-use Rattle.follower.specs.State as Followers
-use Rattle.follower.specs.declared.Fix.{Fix}
-use Rattle.follower.specs.declared.Follower.{Follower}
+use Rattle.engine.specs.Fixes as Fixes
+use Rattle.engine.specs.Follow as Followers
+use Rattle.engine.specs.declared.Fix.{Fix}
+use Rattle.engine.specs.declared.Follower.{Follower}
 use Rattle.engine.specs.State.{refused, unchanged, followed, forgotten, engineOk}
 use Rattle.engine.specs.Work.{matchEndedBy, mayAsk, roadEndedBy, counted}
 use Rattle.engine.specs.Deliver.{After, arrived}

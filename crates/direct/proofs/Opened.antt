@@ -15,12 +15,12 @@ use Rattle.num.proofs.FoldLaws.{up-keeps}
 use Rattle.pack.specs.Sector.{rules}
 use Rattle.pack.specs.declared.Header.{Header}
 use Rattle.pack.specs.declared.TileKey.{TileKey}
-use Rattle.pages.specs.declared.MaybeKey.{MaybeKey}
-use Rattle.pages.specs.declared.MaybeKey.the-variants as MaybeKey
+use Rattle.cache.specs.declared.MaybeKey.{MaybeKey}
+use Rattle.cache.specs.declared.MaybeKey.the-variants as MaybeKey
 use Rattle.geo.specs.declared.Point.{Point}
 use Rattle.cache.specs.Direct.{Look, ready, missing, absent, stale, Agree, lookAt, look}
 use Rattle.cache.specs.Lookups.{landsOn, runBytes, passes, lenAt}
-use Rattle.pages.specs.declared.victim.Found.the-variants as Found
+use Rattle.cache.specs.declared.victim.Found.the-variants as Found
 use Rattle.cache.specs.Keys.{readyAt}
 use Rattle.cache.specs.State.{wantsChunkOf}
 use Rattle.cache.specs.declared.Cache.{Cache}
@@ -34,12 +34,12 @@ use Rattle.cache_lists.specs.Claims.{Parsed}
 use Rattle.cache_lists.proofs.Lookups.{LandingIs, landing, next-is}
 use Rattle.cache_lists.proofs.Kept.{Kept}
 use Rattle.cache_lists.proofs.Same.{kept-passes, given, parsed-rules}
-use Rattle.candidates.specs.declared.Current.{Current}
-use Rattle.candidates.specs.declared.Current.the-variants as Current
-use Rattle.candidates.specs.declared.Heading.{Heading}
-use Rattle.candidates.specs.declared.Kept as Keeping
-use Rattle.candidates.specs.declared.Matched.{Matched}
-use Rattle.candidates.specs.declared.Query.{Query}
+use Rattle.matcher.specs.declared.Current.{Current}
+use Rattle.matcher.specs.declared.Current.the-variants as Current
+use Rattle.matcher.specs.declared.Heading.{Heading}
+use Rattle.matcher.specs.declared.Kept as Keeping
+use Rattle.matcher.specs.declared.Matched.{Matched}
+use Rattle.matcher.specs.declared.Query.{Query}
 use Rattle.matcher.specs.Gather as Gather
 use Rattle.matcher.specs.Gather.{Run, lookStep, keyStep, runStep, noRun, runTo, queryOf, runOver}
 use Rattle.matcher.specs.Near.{keyAt, nearOf}
@@ -56,8 +56,8 @@ use Rattle.matcher.specs.Calls as Matching
 use Rattle.predict.specs.Predict as Predict
 use Rattle.predict.specs.declared.Outcome as RoadOutcome
 use Rattle.predict.specs.declared.Outcome.the-variants as Roads
-use Rattle.follower.specs.State.{isMatched}
-use Rattle.follower.specs.declared.Fix.{Fix}
+use Rattle.engine.specs.Follow.{isMatched}
+use Rattle.engine.specs.declared.Fix.{Fix}
 use Rattle.engine.specs.State.{refused, engineOk}
 use Rattle.engine.specs.Work.{counted, ended, offMap, mayAsk, matchEndedBy, rematch, roadEndedBy, published}
 use Rattle.engine.specs.Deliver.{arrived}

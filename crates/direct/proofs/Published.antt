@@ -12,26 +12,26 @@ use lib.ListN.{length}
 use Rattle.pack.specs.Grid.{isPoint}
 use Rattle.pack.specs.declared.TileKey.{TileKey}
 use Rattle.cache.specs.declared.Cache.{Cache}
-use Rattle.candidates.specs.declared.Current.{Current}
-use Rattle.candidates.specs.declared.Current.the-variants as Current
-use Rattle.candidates.specs.declared.Matched.{Matched}
+use Rattle.matcher.specs.declared.Current.{Current}
+use Rattle.matcher.specs.declared.Current.the-variants as Current
+use Rattle.matcher.specs.declared.Matched.{Matched}
 use Rattle.matcher.specs.Calls as Matching
 use Rattle.matcher.specs.Gather as Gather
 use Rattle.matcher.specs.declared.Matcher.{Matcher}
 use Rattle.matcher.specs.declared.Outcome as MatchOutcome
 use Rattle.matcher.specs.declared.Outcome.the-variants as Match
-use Rattle.junction.specs.declared.End.the-variants as End
+use Rattle.predict.specs.declared.End.the-variants as End
 use Rattle.predict.specs.Predict as Predict
 use Rattle.predict.specs.declared.Outcome as RoadOutcome
 use Rattle.predict.specs.declared.Outcome.the-variants as Roads
-use Rattle.follower.specs.Fixes as Fixes
-use Rattle.follower.specs.Publish as Publish
-use Rattle.follower.specs.Publish.{nothingAhead, withMatch, withoutMatch}
-use Rattle.follower.specs.State as Followers
-use Rattle.follower.specs.State.{isMatched}
-use Rattle.follower.specs.declared.Ahead.{Ahead}
-use Rattle.follower.specs.declared.Fix.{Fix}
-use Rattle.follower.specs.declared.Follower.{Follower}
+use Rattle.engine.specs.Fixes as Fixes
+use Rattle.engine.specs.Publish as Publish
+use Rattle.engine.specs.Publish.{nothingAhead, withMatch, withoutMatch}
+use Rattle.engine.specs.Follow as Followers
+use Rattle.engine.specs.Follow.{isMatched}
+use Rattle.engine.specs.declared.Ahead.{Ahead}
+use Rattle.engine.specs.declared.Fix.{Fix}
+use Rattle.engine.specs.declared.Follower.{Follower}
 use Rattle.engine.specs.State.{refused, unchanged, followed, forgotten, engineOk}
 use Rattle.engine.specs.Work as Work
 use Rattle.engine.specs.Work.{counted, mayAsk, matchEndedBy, roadEndedBy, published}

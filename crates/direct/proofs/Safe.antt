@@ -12,15 +12,15 @@ use Rattle.cache.specs.Lookups.{touched}
 use Rattle.cache.specs.State.{pendingFits, cleared}
 use Rattle.cache.specs.declared.Cache.{Cache}
 use Rattle.cache.specs.declared.Pending.{Pending}
-use Rattle.load.specs.Loads.{forgot}
-use Rattle.load.specs.declared.Progress.{Progress}
-use Rattle.load.specs.declared.Progress.the-variants as Progress
+use Rattle.cache.specs.Loads.{forgot}
+use Rattle.cache.specs.declared.Progress.{Progress}
+use Rattle.cache.specs.declared.Progress.the-variants as Progress
 use Rattle.cache_lists.specs.Claims.{Written}
 use Rattle.cache_lists.proofs.Steps.{load-is}
 use Rattle.cache_lists.proofs.Inv.{Inv, inv-ok, inv-apart, inv-cleared, inv-touched, inv-forgot}
 use Rattle.cache_lists.proofs.Safe.{inv-step, inv-call, handed-call, one-read, takes-call, written-call, written-step}
 use Rattle.cache_lists.proofs.Chunk.{not-written}
-use Rattle.follower.specs.declared.Fix.{Fix}
+use Rattle.engine.specs.declared.Fix.{Fix}
 use Rattle.engine.specs.State.{refused, engineOk, forgotten}
 use Rattle.engine.specs.Deliver as Delivered
 use Rattle.engine.specs.Deliver.{After, withPending, over, arrived, headerFailed, loadFailed, loadedBy}

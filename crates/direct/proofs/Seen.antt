@@ -18,11 +18,11 @@ use Rattle.pack.specs.declared.Keyed.the-variants as Keyed
 use Rattle.pack.specs.declared.TileKey.{TileKey}
 use Rattle.geo.specs.Flat.{whole}
 use Rattle.cache.specs.Direct.{Agree, look}
-use Rattle.candidates.specs.declared.Current.{Current}
-use Rattle.candidates.specs.declared.Current.the-variants as Current
-use Rattle.candidates.specs.declared.Heading.{Heading}
-use Rattle.candidates.specs.declared.Kept.{Kept}
-use Rattle.candidates.specs.declared.Matched.{Matched}
+use Rattle.matcher.specs.declared.Current.{Current}
+use Rattle.matcher.specs.declared.Current.the-variants as Current
+use Rattle.matcher.specs.declared.Heading.{Heading}
+use Rattle.matcher.specs.declared.Kept.{Kept}
+use Rattle.matcher.specs.declared.Matched.{Matched}
 use Rattle.matcher.specs.Calls as Matching
 use Rattle.matcher.specs.Gather as Gather
 use Rattle.matcher.specs.Relied as MatchRelied
@@ -37,14 +37,14 @@ use Rattle.predict.specs.Relied as RoadRelied
 use Rattle.predict.specs.declared.Outcome as RoadOutcome
 use Rattle.predict.specs.declared.Outcome.the-variants as Roads
 use Rattle.predict.proofs.RoadLaws.{predict-agrees}
-use Rattle.junction.specs.declared.End.the-variants as End
-use Rattle.follower.specs.Fixes.{placeOf}
-use Rattle.follower.specs.Publish.{withMatch, withoutMatch}
-use Rattle.follower.specs.State.{isMatched}
-use Rattle.follower.specs.declared.Ahead.{Ahead}
-use Rattle.follower.specs.declared.Fix.{Fix}
-use Rattle.follower.specs.declared.MaybeFix.{MaybeFix}
-use Rattle.follower.specs.declared.MaybeFix.the-variants as MaybeFix
+use Rattle.predict.specs.declared.End.the-variants as End
+use Rattle.engine.specs.Fixes.{placeOf}
+use Rattle.engine.specs.Publish.{withMatch, withoutMatch}
+use Rattle.engine.specs.Follow.{isMatched}
+use Rattle.engine.specs.declared.Ahead.{Ahead}
+use Rattle.engine.specs.declared.Fix.{Fix}
+use Rattle.engine.specs.declared.MaybeFix.{MaybeFix}
+use Rattle.engine.specs.declared.MaybeFix.the-variants as MaybeFix
 use Rattle.engine.specs.State as States
 use Rattle.engine.specs.Work as Work
 use Rattle.engine.specs.Work.{counted, matchEndedBy, roadEndedBy, published}

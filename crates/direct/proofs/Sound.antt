@@ -11,8 +11,8 @@ use lib.Ieee.{Float}
 use lib.ListN.{length}
 use Rattle.pack.specs.declared.Header.{Header}
 use Rattle.pack.specs.declared.TileKey.{TileKey}
-use Rattle.pages.specs.declared.MaybeKey.{MaybeKey}
-use Rattle.pages.proofs.Below.{and-right}
+use Rattle.cache.specs.declared.MaybeKey.{MaybeKey}
+use Rattle.cache.proofs.Below.{and-right}
 use Rattle.cache.specs.Lookups.{touched}
 use Rattle.cache.specs.State as Caches
 use Rattle.cache.specs.State.{cleared}
@@ -21,14 +21,14 @@ use Rattle.cache.specs.declared.Got.{Got}
 use Rattle.cache.specs.declared.Pending.{Pending}
 use Rattle.cache.specs.declared.Pending.the-variants as Pending
 use Rattle.cache.specs.Search.{lowest}
-use Rattle.load.specs.Loads as Loads
-use Rattle.load.specs.Loads.{withdrawn, forgot, dropped, moved, further, readied}
+use Rattle.cache.specs.Loads as Loads
+use Rattle.cache.specs.Loads.{withdrawn, forgot, dropped, moved, further, readied}
 use Rattle.cache_lists.specs.Lists as Cached
 use Rattle.cache_lists.proofs.Steps.{Gets, denied, ringed, unknown, handed, get-is, Step, refuses, knows, uses, noPages, fails, lacks, begins, goesOn, readies, spoils, load-is, from-is}
 use Rattle.cache_lists.proofs.Inv.{Inv, inv-ok, inv-fresh}
 use Rattle.cache_lists.proofs.Safe.{inv-call, clear-is}
-use Rattle.follower.specs.Publish.{nothingAhead}
-use Rattle.follower.specs.State as Followers
+use Rattle.engine.specs.Publish.{nothingAhead}
+use Rattle.engine.specs.Follow as Followers
 use Rattle.engine.specs.State.{needOk, pendingBy, pendingOk, reloadLimit, placesOk, sharedOk, engineOk}
 use Rattle.engine.specs.declared.Engine.{Engine}
 use Rattle.engine.specs.declared.Shared.{Shared}

@@ -15,21 +15,21 @@ use Rattle.tile.specs.Layout as Layout
 use Rattle.tile.specs.declared.TileId.{TileId}
 use Rattle.geo.specs.Flat.{whole}
 use Rattle.cache.specs.Direct.{Look, ready, missing, absent, stale}
-use Rattle.ages.specs.Reader.{plain}
-use Rattle.candidates.specs.Score.{sameId}
-use Rattle.candidates.specs.Within.{Within}
-use Rattle.candidates.specs.declared.Forward.{Forward}
-use Rattle.candidates.specs.declared.Forward.the-variants as Forward
-use Rattle.candidates.specs.declared.Matched.{Matched}
-use Rattle.samples.specs.Samples.{pushed}
-use Rattle.track.specs.Start.{startOk, place}
-use Rattle.track.specs.declared.Trip.{Trip}
-use Rattle.track.specs.declared.ridden.Behind.{Behind}
-use Rattle.junction.specs.Meets.{budget}
-use Rattle.junction.specs.declared.Ending.{Ending}
-use Rattle.junction.specs.declared.Ending.the-variants as Ending
-use Rattle.walk.specs.Walk.{walkOver}
-use Rattle.walk.specs.declared.Walk.{Walk}
+use Rattle.cache.specs.Reader.{plain}
+use Rattle.matcher.specs.Score.{sameId}
+use Rattle.matcher.specs.Within.{Within}
+use Rattle.matcher.specs.declared.Forward.{Forward}
+use Rattle.matcher.specs.declared.Forward.the-variants as Forward
+use Rattle.matcher.specs.declared.Matched.{Matched}
+use Rattle.predict.specs.Samples.{pushed}
+use Rattle.predict.specs.Start.{startOk, place}
+use Rattle.predict.specs.declared.Trip.{Trip}
+use Rattle.predict.specs.declared.ridden.Behind.{Behind}
+use Rattle.predict.specs.Meets.{budget}
+use Rattle.predict.specs.declared.Ending.{Ending}
+use Rattle.predict.specs.declared.Ending.the-variants as Ending
+use Rattle.predict.specs.Walk.{walkOver}
+use Rattle.predict.specs.declared.Walk.{Walk}
 use Rattle.predict.specs.Predict.{legOf, noMark, walkFrom, outcomeBy, roadOver, tileOver, tripOf, startLook, directedOver, forecastOver, predictOver}
 use Rattle.predict.specs.declared.Outcome.{Outcome}
 use Rattle.predict.specs.declared.Outcome.the-variants as Outcome

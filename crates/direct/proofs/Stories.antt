@@ -11,20 +11,20 @@ use lib.ListN.{length}
 use Rattle.pack.specs.Grid.{isPoint, keyOf}
 use Rattle.pack.specs.declared.Keyed.{Keyed}
 use Rattle.pack.specs.declared.Keyed.the-variants as Keyed
-use Rattle.candidates.specs.declared.Current.{Current}
-use Rattle.candidates.specs.declared.Current.the-variants as Current
-use Rattle.candidates.specs.declared.Matched.{Matched}
+use Rattle.matcher.specs.declared.Current.{Current}
+use Rattle.matcher.specs.declared.Current.the-variants as Current
+use Rattle.matcher.specs.declared.Matched.{Matched}
 use Rattle.matcher.specs.Calls as Matching
 use Rattle.matcher.specs.declared.Matcher.{Matcher}
 use Rattle.matcher.specs.declared.Outcome as MatchOutcome
 use Rattle.matcher.specs.declared.Outcome.the-variants as Match
 use Rattle.predict.specs.declared.Outcome as RoadOutcome
 use Rattle.predict.specs.declared.Outcome.the-variants as Roads
-use Rattle.follower.specs.State as Followers
-use Rattle.follower.specs.declared.Fix.{Fix}
-use Rattle.follower.specs.declared.Follower.{Follower}
-use Rattle.follower.specs.declared.MaybeFix.{MaybeFix}
-use Rattle.follower.specs.declared.MaybeFix.the-variants as MaybeFix
+use Rattle.engine.specs.Follow as Followers
+use Rattle.engine.specs.declared.Fix.{Fix}
+use Rattle.engine.specs.declared.Follower.{Follower}
+use Rattle.engine.specs.declared.MaybeFix.{MaybeFix}
+use Rattle.engine.specs.declared.MaybeFix.the-variants as MaybeFix
 use Rattle.engine.specs.State as States
 use Rattle.engine.specs.State.{unchanged, followed, engineOk}
 use Rattle.engine.specs.Calls as Engines

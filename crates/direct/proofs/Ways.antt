@@ -19,10 +19,10 @@ use Rattle.pack.specs.declared.Range.{Range}
 use Rattle.pack.specs.declared.Range.the-variants as RangeIs
 use Rattle.pack.specs.declared.TileKey.{TileKey}
 use Rattle.pack.proofs.Laws.{read-at}
-use Rattle.pages.specs.declared.MaybeKey.{MaybeKey}
-use Rattle.pages.specs.declared.MaybeKey.the-variants as MaybeKey
+use Rattle.cache.specs.declared.MaybeKey.{MaybeKey}
+use Rattle.cache.specs.declared.MaybeKey.the-variants as MaybeKey
 use Rattle.cache.specs.Lookups.{passes, lenAt, nextStep}
-use Rattle.pages.proofs.Below.{and-left, and-right}
+use Rattle.cache.proofs.Below.{and-left, and-right}
 use Rattle.cache.specs.Keys.{holds}
 use Rattle.cache.specs.State.{pendingFits, wantsChunkOf, isEntry, isChunk, stateOk, arenaOk, cacheOk}
 use Rattle.cache.specs.declared.Cache.{Cache}
@@ -33,19 +33,19 @@ use Rattle.cache.specs.declared.Pending.{Pending}
 use Rattle.cache.specs.declared.Pending.the-variants as Pending
 use Rattle.cache.specs.declared.next.Next.{Next}
 use Rattle.cache.specs.declared.next.Next.the-variants as Next
-use Rattle.load.specs.Loads as Loads
-use Rattle.load.specs.Loads.{packBytes, fetched, readLen, takes, told, chunkOffset, chunkLen}
-use Rattle.load.specs.Calls as Loaded
-use Rattle.load.specs.declared.Request.{Request}
-use Rattle.load.specs.declared.Request.the-variants as Request
+use Rattle.cache.specs.Loads as Loads
+use Rattle.cache.specs.Loads.{packBytes, fetched, readLen, takes, told, chunkOffset, chunkLen}
+use Rattle.cache.specs.Calls as Loaded
+use Rattle.cache.specs.declared.Request.{Request}
+use Rattle.cache.specs.declared.Request.the-variants as Request
 use Rattle.cache_lists.proofs.Lookups.{same-key, next-is}
-use Rattle.candidates.specs.declared.Current.{Current}
-use Rattle.candidates.specs.declared.Current.the-variants as Current
-use Rattle.candidates.specs.declared.Matched.{Matched}
-use Rattle.follower.specs.declared.Fix.{Fix}
-use Rattle.follower.specs.declared.Follower.{Follower}
-use Rattle.follower.specs.declared.MaybeFix.{MaybeFix}
-use Rattle.follower.specs.declared.MaybeFix.the-variants as MaybeFix
+use Rattle.matcher.specs.declared.Current.{Current}
+use Rattle.matcher.specs.declared.Current.the-variants as Current
+use Rattle.matcher.specs.declared.Matched.{Matched}
+use Rattle.engine.specs.declared.Fix.{Fix}
+use Rattle.engine.specs.declared.Follower.{Follower}
+use Rattle.engine.specs.declared.MaybeFix.{MaybeFix}
+use Rattle.engine.specs.declared.MaybeFix.the-variants as MaybeFix
 use Rattle.engine.specs.State.{refused, isReady, headerOk, sharedOk, needOk, pendingBy, pendingOk, reloadLimit, engineOk}
 use Rattle.engine.specs.Work as Work
 use Rattle.engine.specs.Work.{counted, ended, matchEnded, matchStep, roadEndedBy, roadStep, roadDueBy, atFix, atFixBy, workedBy, worked, withDue, roadOff}

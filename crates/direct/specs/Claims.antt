@@ -19,13 +19,13 @@ use Rattle.cache.specs.Direct.{Agree, look}
 use Rattle.cache.specs.Lookups.{landsOn, lenAt}
 use Rattle.cache_lists.specs.Claims as Cached
 use Rattle.cache_lists.specs.Claims.{Parsed, Apart, AllLive, Passed, Written, Read}
-use Rattle.candidates.specs.declared.Heading.{Heading}
-use Rattle.candidates.specs.declared.Matched.{Matched}
+use Rattle.matcher.specs.declared.Heading.{Heading}
+use Rattle.matcher.specs.declared.Matched.{Matched}
 use Rattle.matcher.specs.Gather as Gather
 use Rattle.matcher.specs.State.{countsOk, keyOk}
 use Rattle.matcher.specs.declared.Matcher.{Matcher}
 use Rattle.predict.specs.Predict as Predict
-use Rattle.follower.specs.Fixes.{placeOf}
+use Rattle.engine.specs.Fixes.{placeOf}
 use Rattle.engine.specs.Steps.{requestOf}
 use Rattle.engine.specs.Calls as Engines
 use Rattle.engine.specs.declared.Engine.{Engine}

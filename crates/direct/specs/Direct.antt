@@ -19,26 +19,26 @@ use Rattle.pack.specs.declared.TileKey.{TileKey}
 use Rattle.geo.specs.Flat.{whole}
 use Rattle.geo.specs.declared.Point.{Point}
 use Rattle.cache.specs.Direct.{Look, direct}
-use Rattle.candidates.specs.declared.Current.{Current}
-use Rattle.candidates.specs.declared.Current.the-variants as Current
-use Rattle.candidates.specs.declared.Heading.{Heading}
-use Rattle.candidates.specs.declared.Matched.{Matched}
+use Rattle.matcher.specs.declared.Current.{Current}
+use Rattle.matcher.specs.declared.Current.the-variants as Current
+use Rattle.matcher.specs.declared.Heading.{Heading}
+use Rattle.matcher.specs.declared.Matched.{Matched}
 use Rattle.matcher.specs.Calls as Matching
 use Rattle.matcher.specs.Gather as Gather
 use Rattle.matcher.specs.declared.Matcher.{Matcher}
 use Rattle.matcher.specs.declared.Outcome as MatchOutcome
 use Rattle.matcher.specs.declared.Outcome.the-variants as Match
-use Rattle.junction.specs.declared.End.{End}
-use Rattle.junction.specs.declared.End.the-variants as End
+use Rattle.predict.specs.declared.End.{End}
+use Rattle.predict.specs.declared.End.the-variants as End
 use Rattle.predict.specs.Predict as Predict
 use Rattle.predict.specs.declared.Outcome as RoadOutcome
 use Rattle.predict.specs.declared.Outcome.the-variants as Roads
-use Rattle.follower.specs.Fixes as Fixes
-use Rattle.follower.specs.Publish.{nothingAhead, withMatch, withoutMatch}
-use Rattle.follower.specs.declared.Fix.{Fix}
-use Rattle.follower.specs.declared.MaybeFix.{MaybeFix}
-use Rattle.follower.specs.declared.MaybeFix.the-variants as MaybeFix
-use Rattle.follower.specs.declared.Sight.{Sight}
+use Rattle.engine.specs.Fixes as Fixes
+use Rattle.engine.specs.Publish.{nothingAhead, withMatch, withoutMatch}
+use Rattle.engine.specs.declared.Fix.{Fix}
+use Rattle.engine.specs.declared.MaybeFix.{MaybeFix}
+use Rattle.engine.specs.declared.MaybeFix.the-variants as MaybeFix
+use Rattle.engine.specs.declared.Sight.{Sight}
 use Rattle.engine.specs.Work.{withHeights}
 use Rattle.direct.specs.Lists.{Call, fix, lost, reset, step, deliver, stepFrom, read, onCache, nearby, current, update, predict}
 use Rattle.direct.specs.Finished.{Shown, nothing, matched, unmatched, published, again, emptied, updated, predicted, unanswered, Road, roadOf, updateShown, predictShown}

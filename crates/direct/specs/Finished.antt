@@ -12,30 +12,30 @@ use lib.ListN.{length, take, replicate}
 use Rattle.pack.specs.Grid.{keyOf}
 use Rattle.pack.specs.declared.Keyed.{Keyed}
 use Rattle.pack.specs.declared.Keyed.the-variants as Keyed
-use Rattle.pages.specs.declared.MaybeKey.{MaybeKey}
-use Rattle.pages.specs.declared.MaybeKey.the-variants as MaybeKey
+use Rattle.cache.specs.declared.MaybeKey.{MaybeKey}
+use Rattle.cache.specs.declared.MaybeKey.the-variants as MaybeKey
 use Rattle.cache.specs.declared.Pending.{Pending}
 use Rattle.cache.specs.declared.Pending.the-variants as Pending
-use Rattle.candidates.specs.declared.Current.{Current}
-use Rattle.candidates.specs.declared.Current.the-variants as Current
-use Rattle.candidates.specs.declared.Matched.{Matched}
+use Rattle.matcher.specs.declared.Current.{Current}
+use Rattle.matcher.specs.declared.Current.the-variants as Current
+use Rattle.matcher.specs.declared.Matched.{Matched}
 use Rattle.matcher.specs.Calls as Matching
 use Rattle.matcher.specs.Gather as Gather
 use Rattle.matcher.specs.declared.Matcher.{Matcher}
 use Rattle.matcher.specs.declared.Outcome as MatchOutcome
 use Rattle.matcher.specs.declared.Outcome.the-variants as Match
 use Rattle.matcher.specs.declared.Updated.{Updated}
-use Rattle.junction.specs.declared.End.{End}
+use Rattle.predict.specs.declared.End.{End}
 use Rattle.predict.specs.Predict as Predict
 use Rattle.predict.specs.declared.Outcome as RoadOutcome
 use Rattle.predict.specs.declared.Outcome.the-variants as Roads
-use Rattle.follower.specs.Fixes.{placeOf}
-use Rattle.follower.specs.State.{isMatched}
-use Rattle.follower.specs.declared.Ahead.{Ahead}
-use Rattle.follower.specs.declared.Fix.{Fix}
-use Rattle.follower.specs.declared.Follower.{Follower}
-use Rattle.follower.specs.declared.MaybeFix.{MaybeFix}
-use Rattle.follower.specs.declared.MaybeFix.the-variants as MaybeFix
+use Rattle.engine.specs.Fixes.{placeOf}
+use Rattle.engine.specs.Follow.{isMatched}
+use Rattle.engine.specs.declared.Ahead.{Ahead}
+use Rattle.engine.specs.declared.Fix.{Fix}
+use Rattle.engine.specs.declared.Follower.{Follower}
+use Rattle.engine.specs.declared.MaybeFix.{MaybeFix}
+use Rattle.engine.specs.declared.MaybeFix.the-variants as MaybeFix
 use Rattle.engine.specs.State.{engineOk}
 use Rattle.engine.specs.Calls as Engines
 use Rattle.engine.specs.declared.Engine.{Engine}

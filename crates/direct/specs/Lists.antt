@@ -13,8 +13,8 @@ use Rattle.cache.specs.State as Caches
 use Rattle.cache.specs.declared.Cache.{Cache}
 use Rattle.cache_lists.specs.Lists as Cached
 use Rattle.cache_lists.specs.Claims as CacheClaims
-use Rattle.candidates.specs.declared.Heading.{Heading}
-use Rattle.candidates.specs.declared.Matched.{Matched}
+use Rattle.matcher.specs.declared.Heading.{Heading}
+use Rattle.matcher.specs.declared.Matched.{Matched}
 use Rattle.matcher.specs.Calls as Matching
 use Rattle.matcher.specs.declared.CurrentRead.{CurrentRead}
 use Rattle.matcher.specs.declared.CurrentRead.the-variants as CurrentRead
@@ -24,8 +24,8 @@ use Rattle.matcher.specs.declared.Outcome.the-variants as Match
 use Rattle.predict.specs.Predict as Predict
 use Rattle.predict.specs.declared.Outcome as RoadOutcome
 use Rattle.predict.specs.declared.Outcome.the-variants as Road
-use Rattle.follower.specs.State as Followers
-use Rattle.follower.specs.declared.Fix.{Fix}
+use Rattle.engine.specs.Follow as Followers
+use Rattle.engine.specs.declared.Fix.{Fix}
 use Rattle.engine.specs.State.{unread}
 use Rattle.engine.specs.Calls as Engines
 use Rattle.engine.specs.Deliver.{After}

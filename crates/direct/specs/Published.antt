@@ -9,13 +9,13 @@ use mathlib.Core.Bool.{false}
 use mathlib.Core.List.{List, [], _∷_}
 use mathlib.Core.Logic.{_⊎_}
 use lib.Ieee.{Float}
-use Rattle.candidates.specs.declared.Current.{Current}
-use Rattle.candidates.specs.declared.Current.the-variants as Current
-use Rattle.candidates.specs.declared.Matched.{Matched}
-use Rattle.follower.specs.Publish.{nothingAhead, forgotten, withMatch}
-use Rattle.follower.specs.declared.Ahead.{Ahead}
-use Rattle.follower.specs.declared.Fix.{Fix}
-use Rattle.follower.specs.declared.MaybeFix.the-variants as MaybeFix
+use Rattle.matcher.specs.declared.Current.{Current}
+use Rattle.matcher.specs.declared.Current.the-variants as Current
+use Rattle.matcher.specs.declared.Matched.{Matched}
+use Rattle.engine.specs.Publish.{nothingAhead, forgotten, withMatch}
+use Rattle.engine.specs.declared.Ahead.{Ahead}
+use Rattle.engine.specs.declared.Fix.{Fix}
+use Rattle.engine.specs.declared.MaybeFix.the-variants as MaybeFix
 use Rattle.engine.specs.Work.{mayAsk, noRoad}
 use Rattle.engine.specs.Calls as Engines
 use Rattle.engine.specs.declared.Engine.{Engine}

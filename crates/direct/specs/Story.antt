@@ -10,7 +10,7 @@ use lib.Dec.{eqb}
 use lib.Ieee.{Float}
 use Rattle.matcher.specs.Calls as Matching
 use Rattle.matcher.specs.declared.Matcher.{Matcher}
-use Rattle.follower.specs.declared.Fix.{Fix}
+use Rattle.engine.specs.declared.Fix.{Fix}
 use Rattle.direct.specs.Lists as Calls
 use Rattle.direct.specs.Lists.{World, Call, number, exec, start}
 use Rattle.direct.specs.Finished as Shows

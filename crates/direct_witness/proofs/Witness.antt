@@ -15,14 +15,14 @@ use Rattle.pack.specs.declared.TileKey.{TileKey}
 use Rattle.cache.specs.declared.Lookup.the-variants as Lookup
 use Rattle.cache.specs.declared.look.Landing.the-variants as Landing
 use Rattle.cache_lists.specs.Claims.{Parsed}
-use Rattle.load.specs.declared.Progress.the-variants as Progress
-use Rattle.candidates.specs.declared.Current.the-variants as Current
-use Rattle.candidates.specs.declared.Forward.the-variants as Forward
-use Rattle.candidates.specs.declared.Matched.{Matched}
+use Rattle.cache.specs.declared.Progress.the-variants as Progress
+use Rattle.matcher.specs.declared.Current.the-variants as Current
+use Rattle.matcher.specs.declared.Forward.the-variants as Forward
+use Rattle.matcher.specs.declared.Matched.{Matched}
 use Rattle.matcher.specs.declared.Challenger.the-variants as Challenger
 use Rattle.matcher.specs.declared.Matcher.{Matcher}
-use Rattle.junction.specs.declared.End.the-variants as End
-use Rattle.follower.specs.declared.Fix.{Fix}
+use Rattle.predict.specs.declared.End.the-variants as End
+use Rattle.engine.specs.declared.Fix.{Fix}
 use Rattle.engine.specs.declared.Status.the-variants as Status
 use Rattle.engine.specs.declared.Taken.the-variants as Taken
 use Rattle.crc.specs.Fcs as Fcs
@@ -38,38 +38,37 @@ use Rattle.tile.specs.Layout as Layout
 use Rattle.tile.specs.Parse as Parse
 use Rattle.geo.specs.Flat as Flat
 use Rattle.geo.specs.Points as Points
-use Rattle.pages.specs.Runs as Runs
-use Rattle.pages.specs.Evict as Evict
-use Rattle.pages.specs.Victim as Victim
+use Rattle.cache.specs.Runs as Runs
+use Rattle.cache.specs.Evict as Evict
+use Rattle.cache.specs.Victim as Victim
 use Rattle.cache.specs.Search as Search
 use Rattle.cache.specs.Keys as Keys
 use Rattle.cache.specs.Lookups as Lookups
 use Rattle.cache.specs.State as Caches
 use Rattle.cache.specs.Calls as CacheCalls
 use Rattle.cache.specs.Direct as Looks
-use Rattle.load.specs.Loads as Loads
-use Rattle.load.specs.Calls as LoadCalls
+use Rattle.cache.specs.Loads as Loads
 use Rattle.cache_lists.specs.Lists as Cached
-use Rattle.candidates.specs.Scan as Scan
-use Rattle.candidates.specs.Score as Score
-use Rattle.candidates.specs.Keeping as Keeping
-use Rattle.candidates.specs.Tile as Tile
+use Rattle.matcher.specs.Scan as Scan
+use Rattle.matcher.specs.Score as Score
+use Rattle.matcher.specs.Keeping as Keeping
+use Rattle.matcher.specs.Tile as Tile
 use Rattle.matcher.specs.Near as Near
 use Rattle.matcher.specs.Choose as Choose
 use Rattle.matcher.specs.Settle as Settle
 use Rattle.matcher.specs.Gather as Gather
-use Rattle.samples.specs.Samples as Samples
-use Rattle.track.specs.Incoming as Incoming
-use Rattle.track.specs.Start as Start
-use Rattle.track.specs.Ridden as Ridden
-use Rattle.track.specs.Vertex as Vertex
-use Rattle.junction.specs.Meets as Meets
-use Rattle.junction.specs.Visits as Visits
-use Rattle.walk.specs.Walk as Walk
+use Rattle.predict.specs.Samples as Samples
+use Rattle.predict.specs.Incoming as Incoming
+use Rattle.predict.specs.Start as Start
+use Rattle.predict.specs.Ridden as Ridden
+use Rattle.predict.specs.Vertex as Vertex
+use Rattle.predict.specs.Meets as Meets
+use Rattle.predict.specs.Visits as Visits
+use Rattle.predict.specs.Walk as Walk
 use Rattle.predict.specs.Predict as Predict
-use Rattle.follower.specs.Fixes as Fixes
-use Rattle.follower.specs.Publish as Publish
-use Rattle.follower.specs.State as Followers
+use Rattle.engine.specs.Fixes as Fixes
+use Rattle.engine.specs.Publish as Publish
+use Rattle.engine.specs.Follow as Followers
 use Rattle.engine.specs.State as Engines
 use Rattle.engine.specs.Work as Work
 use Rattle.engine.specs.Deliver as Deliver
@@ -243,7 +242,7 @@ pages = tt
 
 -- loads
 unfoldable loads : Unit {0}
-unfolding Loads.chunkLen Loads.moved Loads.dropped Loads.began Loads.entryStep Loads.put Loads.readied Loads.ended Loads.chunkStep LoadCalls.fetch LoadCalls.load LoadCalls.loadFrom Cached.exec
+unfolding Loads.chunkLen Loads.moved Loads.dropped Loads.began Loads.entryStep Loads.put Loads.readied Loads.ended Loads.chunkStep CacheCalls.fetch CacheCalls.load CacheCalls.loadFrom Cached.exec
 loads = tt
 
 -- a match

@@ -1,5 +1,5 @@
 // The fixes of a drive, read from its text: a line has latitude, longitude and time, a blank between two.
-use follower::Fix;
+use engine::Fix;
 
 // Below this one digit more fits.
 const MOST: u64 = 100000000000000000;

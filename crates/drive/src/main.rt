@@ -8,10 +8,10 @@ mod host;
 mod show;
 
 use engine::Engine;
+use engine::Fix;
 use engine::Status;
 use engine::Taken;
 use fixes::Line;
-use follower::Fix;
 use host::Card;
 use host::Ride;
 use host::Turned;

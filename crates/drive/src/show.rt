@@ -1,10 +1,10 @@
 // What is printed: a line for each fix, the heights of the last road, and why a drive stops.
 use crate::host::Ride;
 use crate::host::Turned;
-use candidates::Current;
-use candidates::Forward;
+use engine::Ahead;
+use engine::Current;
+use engine::Forward;
 use engine::Status;
-use follower::Ahead;
 use profile_text::ROOM;
 use profile_text::drive::FixLine;
 use profile_text::drive::MaybePlace;
@@ -43,14 +43,14 @@ fn way_of(forward: Forward) -> Way {
     }
 }
 
-fn end_of(end: junction::End) -> profile_text::drive::End {
+fn end_of(end: engine::End) -> profile_text::drive::End {
     match end {
-        junction::End::Horizon => profile_text::drive::End::Horizon,
-        junction::End::Fork => profile_text::drive::End::Fork,
-        junction::End::DeadEnd => profile_text::drive::End::DeadEnd,
-        junction::End::MapEdge => profile_text::drive::End::MapEdge,
-        junction::End::Uncertain => profile_text::drive::End::Uncertain,
-        junction::End::Memory => profile_text::drive::End::Memory,
+        engine::End::Horizon => profile_text::drive::End::Horizon,
+        engine::End::Fork => profile_text::drive::End::Fork,
+        engine::End::DeadEnd => profile_text::drive::End::DeadEnd,
+        engine::End::MapEdge => profile_text::drive::End::MapEdge,
+        engine::End::Uncertain => profile_text::drive::End::Uncertain,
+        engine::End::Memory => profile_text::drive::End::Memory,
     }
 }
 

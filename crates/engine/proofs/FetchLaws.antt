@@ -17,8 +17,8 @@ use Rattle.pack.specs.declared.Header.{Header}
 use Rattle.pack.specs.declared.Keyed.{Keyed}
 use Rattle.pack.specs.declared.Keyed.the-variants as Keyed
 use Rattle.pack.specs.declared.TileKey.{TileKey}
-use Rattle.pages.specs.declared.MaybeKey.{MaybeKey}
-use Rattle.pages.specs.declared.MaybeKey.the-variants as MaybeKey
+use Rattle.cache.specs.declared.MaybeKey.{MaybeKey}
+use Rattle.cache.specs.declared.MaybeKey.the-variants as MaybeKey
 use Rattle.cache.specs.Keys.{sameKey}
 use Rattle.cache.specs.Lookups.{passes, lenAt, landsOn, nextRead, nextAt, nextStep}
 use Rattle.cache.specs.State.{cleared}
@@ -31,14 +31,14 @@ use Rattle.cache.specs.declared.look.Landing.{Landing}
 use Rattle.cache.specs.declared.look.Landing.the-variants as Landing
 use Rattle.cache.specs.declared.next.Next.{Next}
 use Rattle.cache.specs.declared.next.Next.the-variants as Next
-use Rattle.load.specs.Loads as Loads
-use Rattle.load.specs.declared.Progress.{Progress}
-use Rattle.load.specs.declared.Progress.the-variants as Progress
-use Rattle.load.specs.declared.Request.{Request}
-use Rattle.load.specs.declared.Request.the-variants as Request
-use Rattle.candidates.specs.declared.Current.{Current}
-use Rattle.candidates.specs.declared.Current.the-variants as Current
-use Rattle.candidates.specs.declared.Matched.{Matched}
+use Rattle.cache.specs.Loads as Loads
+use Rattle.cache.specs.declared.Progress.{Progress}
+use Rattle.cache.specs.declared.Progress.the-variants as Progress
+use Rattle.cache.specs.declared.Request.{Request}
+use Rattle.cache.specs.declared.Request.the-variants as Request
+use Rattle.matcher.specs.declared.Current.{Current}
+use Rattle.matcher.specs.declared.Current.the-variants as Current
+use Rattle.matcher.specs.declared.Matched.{Matched}
 use Rattle.matcher.specs.Gather.{updated}
 use Rattle.matcher.specs.declared.Outcome as MatchOutcome
 use Rattle.matcher.specs.declared.Outcome.the-variants as Found
@@ -46,12 +46,12 @@ use Rattle.matcher.specs.declared.Updated.{Updated}
 use Rattle.predict.specs.Predict.{After, predictedIn}
 use Rattle.predict.specs.declared.Outcome as RoadOutcome
 use Rattle.predict.specs.declared.Outcome.the-variants as Road
-use Rattle.follower.specs.Fixes.{placeOf, isSamePlace}
-use Rattle.follower.specs.State.{fixed, lost}
-use Rattle.follower.specs.declared.Fix.{Fix}
-use Rattle.follower.specs.declared.Follower.{Follower}
-use Rattle.follower.specs.declared.MaybeFix.{MaybeFix}
-use Rattle.follower.specs.declared.MaybeFix.the-variants as MaybeFix
+use Rattle.engine.specs.Fixes.{placeOf, isSamePlace}
+use Rattle.engine.specs.Follow.{fixed, lost}
+use Rattle.engine.specs.declared.Fix.{Fix}
+use Rattle.engine.specs.declared.Follower.{Follower}
+use Rattle.engine.specs.declared.MaybeFix.{MaybeFix}
+use Rattle.engine.specs.declared.MaybeFix.the-variants as MaybeFix
 use Rattle.engine.specs.declared.Engine.{Engine}
 use Rattle.engine.specs.declared.Phase.{Phase}
 use Rattle.engine.specs.declared.Phase.the-variants as Phase

@@ -1,3 +1,9 @@
+-- Laws of the follower, for its proofs and for callers to cite.
+-- SameNumber: numbers that are the same have the same bits. Literals: the figure that the code writes as a literal. FollowerLaws: what a fix and
+-- the loss of fixes leave as it was, and how many places the history holds.
+pub mod SameNumber
+pub mod Literals
+pub mod FollowerLaws
 -- Laws of the engine, for its proofs and for callers to cite.
 -- FetchLaws: the open fetch: a step repeats it, a reset withdraws it, a fix and the loss of fixes commute with its delivery. StateLaws: a new
 -- engine is no state that number 12 names. StateNeeds: what a phase holds, and when an arena is shorter than its pages. StepNeeds: what the arms

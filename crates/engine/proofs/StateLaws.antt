@@ -8,13 +8,13 @@ use native.Mathlib.Omega.{arith}
 use borrow.Author.Tests.{le-leb}
 use lib.Ieee.{Float}
 use lib.ListN.{length, replicate, getD-replicate}
-use Rattle.pages.specs.Runs.{emptySlot, slotAt, blank, pageOk}
-use Rattle.pages.proofs.Below.{all-from}
+use Rattle.cache.specs.Runs.{emptySlot, slotAt, blank, pageOk}
+use Rattle.cache.proofs.Below.{all-from}
 use Rattle.cache.specs.Search.{lowest}
 use Rattle.cache.specs.State as Caches
 use Rattle.cache.specs.State.{stateOk}
-use Rattle.follower.specs.Publish.{nothingAhead}
-use Rattle.follower.specs.State as Followers
+use Rattle.engine.specs.Publish.{nothingAhead}
+use Rattle.engine.specs.Follow as Followers
 use Rattle.engine.specs.State.{sharedOk, placesOk, reloadLimit, engineOk}
 use Rattle.engine.specs.Calls.{new}
 

@@ -9,12 +9,12 @@ use Rattle.pack.specs.Grid.{isPoint, read}
 use Rattle.pack.specs.declared.Range.{Range}
 use Rattle.pack.specs.declared.Range.the-variants as Range
 use Rattle.cache.specs.State as Caches
-use Rattle.load.specs.Loads.{packBytes}
-use Rattle.follower.specs.State as Followers
-use Rattle.follower.specs.declared.Fix.{Fix}
-use Rattle.candidates.specs.declared.Heading.{Heading}
-use Rattle.candidates.specs.declared.Heading.the-variants as Heading
-use Rattle.follower.specs.Publish.{nothingAhead}
+use Rattle.cache.specs.Loads.{packBytes}
+use Rattle.engine.specs.Follow as Followers
+use Rattle.engine.specs.declared.Fix.{Fix}
+use Rattle.matcher.specs.declared.Heading.{Heading}
+use Rattle.matcher.specs.declared.Heading.the-variants as Heading
+use Rattle.engine.specs.Publish.{nothingAhead}
 use Rattle.engine.specs.declared.AheadRead.{AheadRead}
 use Rattle.engine.specs.declared.Changed.{Changed}
 use Rattle.engine.specs.declared.Count.{Count}

@@ -13,19 +13,19 @@ use Rattle.pack.specs.declared.Answer.the-variants as Answer
 use Rattle.pack.specs.declared.Header.{Header}
 use Rattle.pack.specs.declared.Parsed.{Parsed}
 use Rattle.pack.specs.declared.TileKey.{TileKey}
-use Rattle.pages.specs.declared.MaybeKey.{MaybeKey}
-use Rattle.pages.specs.declared.MaybeKey.the-variants as MaybeKey
+use Rattle.cache.specs.declared.MaybeKey.{MaybeKey}
+use Rattle.cache.specs.declared.MaybeKey.the-variants as MaybeKey
 use Rattle.cache.specs.Lookups.{nextStep}
 use Rattle.cache.specs.declared.Cache.{Cache}
 use Rattle.cache.specs.declared.Pending.{Pending}
 use Rattle.cache.specs.declared.Pending.the-variants as Pending
-use Rattle.load.specs.Loads as Loads
-use Rattle.load.specs.declared.Loaded.{Loaded}
-use Rattle.load.specs.declared.Progress.{Progress}
-use Rattle.load.specs.declared.Progress.the-variants as Progress
+use Rattle.cache.specs.Loads as Loads
+use Rattle.cache.specs.declared.Loaded.{Loaded}
+use Rattle.cache.specs.declared.Progress.{Progress}
+use Rattle.cache.specs.declared.Progress.the-variants as Progress
 use Rattle.num.specs.Fold.{upTo}
-use Rattle.follower.specs.declared.Due.{Due}
-use Rattle.follower.specs.declared.Follower.{Follower}
+use Rattle.engine.specs.declared.Due.{Due}
+use Rattle.engine.specs.declared.Follower.{Follower}
 use Rattle.engine.specs.declared.Engine.{Engine}
 use Rattle.engine.specs.declared.Phase.{Phase}
 use Rattle.engine.specs.declared.Phase.the-variants as Phase

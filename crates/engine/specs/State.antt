@@ -12,8 +12,8 @@ use Rattle.pack.specs.Sector.{allOf, rules}
 use Rattle.pack.specs.Grid.{inGrid, isPoint}
 use Rattle.pack.specs.declared.Header.{Header}
 use Rattle.pack.specs.declared.TileKey.{TileKey}
-use Rattle.pages.specs.declared.MaybeKey.{MaybeKey}
-use Rattle.pages.specs.declared.MaybeKey.the-variants as MaybeKey
+use Rattle.cache.specs.declared.MaybeKey.{MaybeKey}
+use Rattle.cache.specs.declared.MaybeKey.the-variants as MaybeKey
 use Rattle.cache.specs.Keys.{holds}
 use Rattle.cache.specs.Search.{lowest, isFound}
 use Rattle.cache.specs.State.{stateOk, arenaOk, cleared}
@@ -22,19 +22,19 @@ use Rattle.cache.specs.declared.MaybeLoading.{MaybeLoading}
 use Rattle.cache.specs.declared.MaybeLoading.the-variants as MaybeLoading
 use Rattle.cache.specs.declared.Pending.{Pending}
 use Rattle.cache.specs.declared.Pending.the-variants as Pending
-use Rattle.candidates.specs.declared.Current.{Current}
-use Rattle.candidates.specs.declared.Current.the-variants as Current
+use Rattle.matcher.specs.declared.Current.{Current}
+use Rattle.matcher.specs.declared.Current.the-variants as Current
 use Rattle.matcher.specs.State.{countsOk, headingOk}
 use Rattle.matcher.specs.declared.Matcher.{Matcher}
-use Rattle.follower.specs.Fixes.{placeAt}
-use Rattle.follower.specs.State as Followers
-use Rattle.follower.specs.declared.Ahead.{Ahead}
-use Rattle.follower.specs.declared.Due.{Due}
-use Rattle.follower.specs.declared.Follower.{Follower}
-use Rattle.follower.specs.declared.MaybeFix.{MaybeFix}
-use Rattle.follower.specs.declared.MaybeFix.the-variants as MaybeFix
-use Rattle.follower.specs.declared.Places.{Places}
-use Rattle.follower.specs.declared.Sight.{Sight}
+use Rattle.engine.specs.Fixes.{placeAt}
+use Rattle.engine.specs.Follow as Followers
+use Rattle.engine.specs.declared.Ahead.{Ahead}
+use Rattle.engine.specs.declared.Due.{Due}
+use Rattle.engine.specs.declared.Follower.{Follower}
+use Rattle.engine.specs.declared.MaybeFix.{MaybeFix}
+use Rattle.engine.specs.declared.MaybeFix.the-variants as MaybeFix
+use Rattle.engine.specs.declared.Places.{Places}
+use Rattle.engine.specs.declared.Sight.{Sight}
 use Rattle.engine.specs.declared.Changed.{Changed}
 use Rattle.engine.specs.declared.Engine.{Engine}
 use Rattle.engine.specs.declared.Phase.{Phase}

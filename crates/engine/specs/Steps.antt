@@ -4,8 +4,8 @@ use Prim.Native.Nat.{ℕ, _+_}
 use mathlib.Core.List.{List}
 use Rattle.pack.specs.Grid.{entryOf}
 use Rattle.pack.specs.declared.TileKey.{TileKey}
-use Rattle.pages.specs.declared.MaybeKey.{MaybeKey}
-use Rattle.pages.specs.declared.MaybeKey.the-variants as MaybeKey
+use Rattle.cache.specs.declared.MaybeKey.{MaybeKey}
+use Rattle.cache.specs.declared.MaybeKey.the-variants as MaybeKey
 use Rattle.cache.specs.Lookups.{nextStep, touched}
 use Rattle.cache.specs.declared.Cache.{Cache}
 use Rattle.cache.specs.declared.MaybeLoading.{MaybeLoading}
@@ -14,9 +14,9 @@ use Rattle.cache.specs.declared.Pending.{Pending}
 use Rattle.cache.specs.declared.Pending.the-variants as Pending
 use Rattle.cache.specs.declared.next.Next.{Next}
 use Rattle.cache.specs.declared.next.Next.the-variants as Next
-use Rattle.load.specs.Loads.{chunkLen, chunkOffset, fetched, forgot}
-use Rattle.load.specs.declared.Request.{Request}
-use Rattle.load.specs.declared.Request.the-variants as Request
+use Rattle.cache.specs.Loads.{chunkLen, chunkOffset, fetched, forgot}
+use Rattle.cache.specs.declared.Request.{Request}
+use Rattle.cache.specs.declared.Request.the-variants as Request
 use Rattle.engine.specs.declared.Engine.{Engine}
 use Rattle.engine.specs.declared.Phase.{Phase}
 use Rattle.engine.specs.declared.Phase.the-variants as Phase

@@ -11,37 +11,37 @@ use Rattle.pack.specs.Grid.{keyOf}
 use Rattle.pack.specs.declared.Keyed.{Keyed}
 use Rattle.pack.specs.declared.Keyed.the-variants as Keyed
 use Rattle.pack.specs.declared.TileKey.{TileKey}
-use Rattle.pages.specs.declared.MaybeKey.the-variants as MaybeKey
+use Rattle.cache.specs.declared.MaybeKey.the-variants as MaybeKey
 use Rattle.geo.specs.Flat.{whole}
 use Rattle.cache.specs.Lookups.{after}
 use Rattle.cache.specs.declared.Cache.{Cache}
-use Rattle.candidates.specs.Score.{isOn}
-use Rattle.candidates.specs.declared.Current.{Current}
-use Rattle.candidates.specs.declared.Current.the-variants as Current
-use Rattle.candidates.specs.declared.Matched.{Matched}
+use Rattle.matcher.specs.Score.{isOn}
+use Rattle.matcher.specs.declared.Current.{Current}
+use Rattle.matcher.specs.declared.Current.the-variants as Current
+use Rattle.matcher.specs.declared.Matched.{Matched}
 use Rattle.matcher.specs.Calls as Matching
 use Rattle.matcher.specs.Gather.{updated}
 use Rattle.matcher.specs.declared.Matcher.{Matcher}
 use Rattle.matcher.specs.declared.Outcome as MatchOutcome
 use Rattle.matcher.specs.declared.Outcome.the-variants as Found
 use Rattle.matcher.specs.declared.Updated.{Updated}
-use Rattle.junction.specs.declared.End.{End}
-use Rattle.junction.specs.declared.End.the-variants as End
+use Rattle.predict.specs.declared.End.{End}
+use Rattle.predict.specs.declared.End.the-variants as End
 use Rattle.predict.specs.Predict.{After, predictedIn}
 use Rattle.predict.specs.declared.Outcome as RoadOutcome
 use Rattle.predict.specs.declared.Outcome.the-variants as Road
 use Rattle.predict.specs.declared.Prediction.{Prediction}
-use Rattle.follower.specs.Fixes.{placeOf}
-use Rattle.follower.specs.Publish.{withMatch, withoutMatch}
-use Rattle.follower.specs.State as Followers
-use Rattle.follower.specs.declared.Ahead.{Ahead}
-use Rattle.follower.specs.declared.Due.{Due}
-use Rattle.follower.specs.declared.Fix.{Fix}
-use Rattle.follower.specs.declared.Follower.{Follower}
-use Rattle.follower.specs.declared.MaybeFix.{MaybeFix}
-use Rattle.follower.specs.declared.MaybeFix.the-variants as MaybeFix
-use Rattle.follower.specs.declared.MaybeTime.{MaybeTime}
-use Rattle.follower.specs.declared.MaybeTime.the-variants as MaybeTime
+use Rattle.engine.specs.Fixes.{placeOf}
+use Rattle.engine.specs.Publish.{withMatch, withoutMatch}
+use Rattle.engine.specs.Follow as Followers
+use Rattle.engine.specs.declared.Ahead.{Ahead}
+use Rattle.engine.specs.declared.Due.{Due}
+use Rattle.engine.specs.declared.Fix.{Fix}
+use Rattle.engine.specs.declared.Follower.{Follower}
+use Rattle.engine.specs.declared.MaybeFix.{MaybeFix}
+use Rattle.engine.specs.declared.MaybeFix.the-variants as MaybeFix
+use Rattle.engine.specs.declared.MaybeTime.{MaybeTime}
+use Rattle.engine.specs.declared.MaybeTime.the-variants as MaybeTime
 use Rattle.engine.specs.declared.Engine.{Engine}
 use Rattle.engine.specs.declared.Status.{Status}
 use Rattle.engine.specs.declared.Status.the-variants as Status

@@ -1,18 +1,18 @@
 // The open fetch answered.
+use crate::Due;
 use crate::Engine;
+use crate::Follower;
 use crate::Phase;
 use crate::Shared;
 use crate::Status;
 use crate::Stepped;
 use cache::Cache;
+use cache::Loaded;
+use cache::MaybeKey;
 use cache::Pending;
-use follower::Due;
-use follower::Follower;
-use load::Loaded;
-use load::Progress;
+use cache::Progress;
 use pack::Header;
 use pack::TileKey;
-use pages::MaybeKey;
 ghost use mathlib.Core.Path.{_≡_};
 ghost use Rattle.engine.specs.Deliver as Deliver;
 
@@ -111,7 +111,7 @@ fn needless(d: Due) -> Due
 }
 
 // The tile is settled: ready or known missing.
-pub fn arrived(e: Engine, c: Cache) -> Stepped
+pub(crate) fn arrived(e: Engine, c: Cache) -> Stepped
     ensures { λ r. ⌜ r ≡ Deliver.arrived e c ⌝ }
 {
     let before = e.follower;
@@ -178,10 +178,10 @@ fn part_came(e: Engine, arena: &mut [u8], key: TileKey, failure: u32, bytes: &[u
     let c = s.cache;
     let header = s.header;
     let n = cache::next::next_step(c, key);
-    if !load::step::takes(n, header, key, failure, bytes.len()) {
+    if !cache::step::takes(n, header, key, failure, bytes.len()) {
         return crate::state::refused(e, 11);
     }
-    let l = load::step::stepped(c, n, arena, header, key, failure, bytes);
+    let l = cache::step::stepped(c, n, arena, header, key, failure, bytes);
     loaded(e, l)
 }
 
@@ -212,7 +212,7 @@ fn need_came(e: Engine, arena: &mut [u8], failure: u32, bytes: &[u8]) -> Stepped
 }
 
 // A delivery in a state that has been tested: 11 where no fetch is open, or the answer doesn't fit it.
-pub fn delivered(e: Engine, arena: &mut [u8], failure: u32, bytes: &[u8]) -> Stepped
+pub(crate) fn delivered(e: Engine, arena: &mut [u8], failure: u32, bytes: &[u8]) -> Stepped
     ensures { λ r. ⌜ r ≡ Deliver.told (Deliver.delivered e (now (arena .entry)) failure (now (bytes .entry))) ⌝ }
     ensures { λ r. ⌜ now (arena .exit) ≡ Deliver.delivered e (now (arena .entry)) failure (now (bytes .entry)) .arena ⌝ }
 {

@@ -6,17 +6,17 @@ use crate::Status;
 use crate::Stepped;
 use cache::Cache;
 use cache::Loading;
+use cache::MaybeKey;
 use cache::MaybeLoading;
 use cache::Pending;
+use cache::Request;
 use cache::next::Next;
-use load::Request;
 use pack::Header;
 use pack::TileKey;
-use pages::MaybeKey;
 ghost use mathlib.Core.Path.{_≡_};
 ghost use Rattle.engine.specs.Steps as Steps;
 
-pub fn with_pending(c: Cache, pending: Pending) -> Cache
+pub(crate) fn with_pending(c: Cache, pending: Pending) -> Cache
     ensures { λ r. ⌜ r ≡ Steps.withPending c pending ⌝ }
 {
     let pages = c.pages;
@@ -55,7 +55,7 @@ fn chunk_request(loading: MaybeLoading) -> Status
         MaybeLoading::Nothing => Status::Refused(12),
         MaybeLoading::Tile(l) => Status::Fetch(
             (l.offset as u64) + (l.done as u64),
-            load::step::chunk_len(l) as usize,
+            cache::step::chunk_len(l) as usize,
         ),
     }
 }
@@ -85,7 +85,7 @@ fn settled(c: Cache, n: Next, key: TileKey) -> Cache
 {
     match n {
         Next::Ready(i) => cache::look::touch(c, i),
-        Next::NoPages => load::step::forgot(c, key),
+        Next::NoPages => cache::step::forgot(c, key),
         Next::Missing | Next::Entry | Next::Chunk(_) => c,
     }
 }
@@ -109,7 +109,7 @@ fn need_step(e: Engine, arena: &[u8], key: TileKey) -> Stepped
     let c = s.cache;
     let header = s.header;
     let n = cache::next::next_step(c, key);
-    match load::step::fetched(c, n, arena, header, key) {
+    match cache::step::fetched(c, n, arena, header, key) {
         Request::Read(offset, len) => {
             let pending = pending_of(n, key);
             opened(e, pending, offset, len)
@@ -152,7 +152,7 @@ fn started(e: Engine, arena: &[u8]) -> Stepped
 }
 
 // A step in a state that has been tested: while a fetch is open it is repeated, and nothing changes.
-pub fn stepped(e: Engine, arena: &[u8]) -> Stepped
+pub(crate) fn stepped(e: Engine, arena: &[u8]) -> Stepped
     ensures { λ r. ⌜ r ≡ Steps.stepped e (now (arena .entry)) ⌝ }
 {
     let s = e.shared;

@@ -1,29 +1,29 @@
 // An engine before its pack is read, and number 12: the states that no list of calls leaves.
+use crate::Ahead;
 use crate::Changed;
+use crate::Due;
 use crate::Engine;
+use crate::Follower;
+use crate::MaybeFix;
 use crate::Phase;
+use crate::Places;
 use crate::Shared;
+use crate::Sight;
 use crate::Status;
 use crate::Stepped;
 use crate::Taken;
 use cache::Cache;
+use cache::MaybeKey;
 use cache::MaybeLoading;
 use cache::Pending;
-use candidates::Current;
-use follower::Ahead;
-use follower::Due;
-use follower::Follower;
-use follower::MaybeFix;
-use follower::Places;
-use follower::Sight;
+use matcher::Current;
 use matcher::Matcher;
 use pack::Header;
 use pack::TileKey;
-use pages::MaybeKey;
 ghost use mathlib.Core.Path.{_≡_};
 ghost use Rattle.engine.specs.State as State;
 
-pub fn no_header() -> Header
+pub(crate) fn no_header() -> Header
     ensures { λ r. ⌜ r ≡ State.noHeader ⌝ }
 {
     Header {
@@ -43,7 +43,7 @@ pub fn no_header() -> Header
 }
 
 // What is shared before the header is read.
-pub fn unread(c: Cache) -> Shared
+pub(crate) fn unread(c: Cache) -> Shared
     ensures { λ r. ⌜ r ≡ State.unread c ⌝ }
 {
     let header = no_header();
@@ -54,7 +54,7 @@ pub fn unread(c: Cache) -> Shared
     }
 }
 
-pub fn refused(e: Engine, number: u32) -> Stepped
+pub(crate) fn refused(e: Engine, number: u32) -> Stepped
     ensures { λ r. ⌜ r ≡ State.refused e number ⌝ }
 {
     Stepped {
@@ -63,7 +63,7 @@ pub fn refused(e: Engine, number: u32) -> Stepped
     }
 }
 
-pub fn unchanged(e: Engine, number: u32) -> Changed
+pub(crate) fn unchanged(e: Engine, number: u32) -> Changed
     ensures { λ r. ⌜ r ≡ State.unchanged e number ⌝ }
 {
     Changed {
@@ -73,7 +73,7 @@ pub fn unchanged(e: Engine, number: u32) -> Changed
 }
 
 // The engine with another follower.
-pub fn followed(e: Engine, f: Follower) -> Changed
+pub(crate) fn followed(e: Engine, f: Follower) -> Changed
     ensures { λ r. ⌜ r ≡ State.followed e f ⌝ }
 {
     let mut d = e;
@@ -85,7 +85,7 @@ pub fn followed(e: Engine, f: Follower) -> Changed
 }
 
 // Another pack: the cache cleared, the header unread, the follower reset.
-pub fn forgotten(e: Engine) -> Changed
+pub(crate) fn forgotten(e: Engine) -> Changed
     ensures { λ r. ⌜ r ≡ State.forgotten e ⌝ }
 {
     let before = e.shared;
@@ -93,7 +93,7 @@ pub fn forgotten(e: Engine) -> Changed
     let c = cache::state::cleared(old);
     let shared = unread(c);
     let f = e.follower;
-    let follower = follower::state::reset(f);
+    let follower = crate::follow::reset(f);
     let engine = Engine { shared, follower };
     Changed {
         answer: Taken::Done,
@@ -103,7 +103,7 @@ pub fn forgotten(e: Engine) -> Changed
 
 // ---- number 12
 
-pub fn is_ready(phase: Phase) -> bool
+pub(crate) fn is_ready(phase: Phase) -> bool
     ensures { λ r. ⌜ r ≡ State.isReady phase ⌝ }
 {
     match phase {
@@ -175,7 +175,7 @@ fn shared_ok(s: Shared, size: usize) -> bool
         return false;
     }
     let g = c.pages;
-    if size / pages::PAGE_BYTES < g.count {
+    if size / cache::PAGE_BYTES < g.count {
         return false;
     }
     let phase = s.phase;
@@ -309,7 +309,7 @@ fn matcher_ok(s: Shared, m: Matcher) -> bool
 }
 
 // Tiles that one match or road may ask for: more than the cache holds means that they evict each other.
-pub fn reload_limit(pages: usize) -> usize
+pub(crate) fn reload_limit(pages: usize) -> usize
     ensures { λ r. ⌜ r ≡ State.reloadLimit pages ⌝ }
 {
     if 96 < pages {
@@ -334,7 +334,7 @@ fn due_ok(s: Shared, due: Due) -> bool
 }
 
 // Every cause, over an arena of `size` bytes.
-pub fn engine_ok(e: Engine, size: usize) -> bool
+pub(crate) fn engine_ok(e: Engine, size: usize) -> bool
     ensures { λ r. ⌜ r ≡ State.engineOk e size ⌝ }
 {
     let s = e.shared;

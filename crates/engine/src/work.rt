@@ -1,31 +1,31 @@
 // The work of a step that needs no read: off the map, a match, a road, or nothing.
+use crate::Ahead;
+use crate::Due;
 use crate::Engine;
+use crate::Fix;
+use crate::Follower;
+use crate::MaybeFix;
+use crate::MaybeTime;
 use crate::Status;
 use crate::Stepped;
 use cache::Cache;
-use candidates::Current;
-use candidates::Matched;
-use follower::Ahead;
-use follower::Due;
-use follower::Fix;
-use follower::Follower;
-use follower::MaybeFix;
-use follower::MaybeTime;
+use cache::MaybeKey;
 use geo::Point;
-use junction::End;
+use matcher::Current;
+use matcher::Matched;
 use matcher::Matcher;
 use matcher::Updated;
 use pack::Header;
 use pack::Keyed;
 use pack::TileKey;
-use pages::MaybeKey;
+use predict::End;
 use predict::Outcome;
 use predict::Prediction;
 ghost use mathlib.Core.Path.{_≡_};
 ghost use Rattle.engine.specs.Work as Work;
 
 // One step more was counted, and nothing else.
-pub fn counted(f: Follower) -> Follower
+pub(crate) fn counted(f: Follower) -> Follower
     ensures { λ r. ⌜ r ≡ Work.counted f ⌝ }
 {
     let mut d = f;
@@ -34,7 +34,7 @@ pub fn counted(f: Follower) -> Follower
 }
 
 // The engine with this cache and this follower, and the answer.
-pub fn ended(e: Engine, c: Cache, f: Follower, answer: Status) -> Stepped
+pub(crate) fn ended(e: Engine, c: Cache, f: Follower, answer: Status) -> Stepped
     ensures { λ r. ⌜ r ≡ Work.ended e c f answer ⌝ }
 {
     let mut s = e.shared;
@@ -60,7 +60,7 @@ fn emptied(a: Ahead, at_ms: u64, end: End) -> Ahead
 {
     let matched = a.matched;
     if is_matched(matched) {
-        return follower::publish::without_match(a, at_ms, end);
+        return crate::publish::without_match(a, at_ms, end);
     }
     a
 }
@@ -115,7 +115,7 @@ fn is_other(found: Matched, published: Current) -> bool
 {
     match published {
         Current::Nothing => true,
-        Current::Is(m) => !candidates::score::is_on(m, found.tile, found.edge),
+        Current::Is(m) => !matcher::score::is_on(m, found.tile, found.edge),
     }
 }
 
@@ -261,7 +261,7 @@ fn published(f: Follower, a: Ahead, fix: Fix, found: Matched, p: Prediction) -> 
     let due = d.due;
     let done = road_done(due, fix.at_ms);
     d.due = done;
-    let ahead = follower::publish::with_match(a, fix.at_ms, found, p);
+    let ahead = crate::publish::with_match(a, fix.at_ms, found, p);
     d.ahead = ahead;
     d
 }
@@ -388,7 +388,7 @@ fn at_fix(e: Engine, arena: &[u8], f: Follower, fix: Fix) -> Stepped
 }
 
 // A step that needs no tile.
-pub fn worked(e: Engine, arena: &[u8]) -> Stepped
+pub(crate) fn worked(e: Engine, arena: &[u8]) -> Stepped
     ensures { λ r. ⌜ r ≡ Work.worked e (now (arena .entry)) ⌝ }
 {
     let before = e.follower;

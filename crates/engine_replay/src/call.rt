@@ -9,10 +9,10 @@ use cache_replay::call;
 use cache_replay::words;
 use engine::Changed;
 use engine::Engine;
+use engine::Fix;
 use engine::Status;
 use engine::Stepped;
 use engine::Taken;
-use follower::Fix;
 use match_replay::figures::float;
 
 fn of_status(answer: Status) -> Told {
@@ -81,7 +81,7 @@ fn other(s: State) -> Ended {
 
 // A new engine over the first pages of the arena, which alone are lent from then on.
 pub fn begin(s: State, record: &[u8], arena: &[u8]) -> Ended {
-    let size = (words::word(record, 1) as usize) * pages::PAGE_BYTES;
+    let size = (words::word(record, 1) as usize) * cache::PAGE_BYTES;
     let horizon = float(words::word(record, 2));
     let n = words::least(size, arena.len());
     let engine = Engine::new(words::part(arena, 0, n), horizon);

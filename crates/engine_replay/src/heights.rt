@@ -1,6 +1,6 @@
 // The heights of the published road, 512 numbers of 16 bits behind the words of an answer.
 use cache_replay::words;
-use follower::Ahead;
+use engine::Ahead;
 use predict::BEHIND_SAMPLES;
 use predict::MAX_SAMPLES;
 

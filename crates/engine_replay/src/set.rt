@@ -4,7 +4,7 @@ use crate::State;
 use crate::call::with_engine;
 use crate::tiles;
 use cache_replay::call;
-use follower::Follower;
+use engine::Follower;
 
 // When a page was last used; a page that is not there changes nothing.
 fn used(s: State, page: usize, age: u32) -> State {
@@ -12,7 +12,7 @@ fn used(s: State, page: usize, age: u32) -> State {
     let shared = e.shared;
     let mut c = shared.cache;
     let mut g = c.pages;
-    if page < pages::MAX_PAGES {
+    if page < cache::MAX_PAGES {
         g.used[page] = age;
     }
     c.pages = g;

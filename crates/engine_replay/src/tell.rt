@@ -5,20 +5,20 @@ use crate::heights;
 use cache::Pending;
 use cache_replay::Told;
 use cache_replay::words;
-use candidates::Current;
-use candidates::Heading;
+use engine::Ahead;
+use engine::Due;
+use engine::Follower;
+use engine::MaybeFix;
+use engine::MaybeTime;
 use engine::Phase;
 use engine::Shared;
-use follower::Ahead;
-use follower::Due;
-use follower::Follower;
-use follower::MaybeFix;
-use follower::MaybeTime;
-use follower::Sight;
-use junction::End;
+use engine::Sight;
 use match_replay::figures::pattern;
+use matcher::Current;
+use matcher::Heading;
 use num::cast::u32_of_i32;
 use pack::Header;
+use predict::End;
 
 fn flag(b: bool) -> u32 {
     if b {

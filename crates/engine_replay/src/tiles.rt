@@ -5,10 +5,10 @@ use crate::call::with_engine;
 use cache::Cache;
 use cache::Clearing;
 use cache::Lookup;
+use cache::Progress;
 use cache_replay::Told;
 use cache_replay::call;
 use cache_replay::words;
-use load::Progress;
 use pack::TileKey;
 
 fn of_lookup(answer: Lookup) -> Told {
@@ -78,7 +78,7 @@ pub fn load_from(s: State, arena: &mut [u8], key: TileKey, pack: &[u8]) -> Ended
     let shared = e.shared;
     let c = shared.cache;
     let header = shared.header;
-    let r = load::load_from(c, arena, header, key, pack);
+    let r = cache::load::load_from(c, arena, header, key, pack);
     let answer = r.answer;
     let after = r.cache;
     let told = of_progress(answer);

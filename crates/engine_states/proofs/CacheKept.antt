@@ -16,15 +16,15 @@ use Rattle.pack.specs.declared.Located.{Located}
 use Rattle.pack.specs.declared.Located.the-variants as Located
 use Rattle.pack.proofs.Laws as Pack
 use Rattle.pack.proofs.Laws.{and-left, and-right, clause}
-use Rattle.pages.specs.declared.Pages.{Pages}
-use Rattle.pages.specs.declared.victim.Found.{Found}
-use Rattle.pages.specs.declared.victim.Found.the-variants as Found
-use Rattle.pages.specs.Runs.{span, emptySlot, slotAt, blank, pageOk}
-use Rattle.pages.specs.Victim.{victim}
-use Rattle.pages.specs.Begin.{replaced, begunAt}
-use Rattle.pages.proofs.Below.{all-from}
-use Rattle.pages.proofs.EvictLaws.{evicted-count}
-use Rattle.pages.proofs.VictimLaws.{victim-is}
+use Rattle.cache.specs.declared.Pages.{Pages}
+use Rattle.cache.specs.declared.victim.Found.{Found}
+use Rattle.cache.specs.declared.victim.Found.the-variants as Found
+use Rattle.cache.specs.Runs.{span, emptySlot, slotAt, blank, pageOk}
+use Rattle.cache.specs.Victim.{victim}
+use Rattle.cache.specs.Begin.{replaced, begunAt}
+use Rattle.cache.proofs.Below.{all-from}
+use Rattle.cache.proofs.EvictLaws.{evicted-count}
+use Rattle.cache.proofs.VictimLaws.{victim-is}
 use Rattle.cache.specs.declared.Cache.{Cache}
 use Rattle.cache.specs.declared.Loading.{Loading}
 use Rattle.cache.specs.declared.MaybeLoading.{MaybeLoading}
@@ -40,9 +40,9 @@ use Rattle.cache.specs.Lookups.{landsOn, passes, lenAt, touched, nextRead, next
 use Rattle.cache.specs.State.{cleared, runsOk, ringOk, tileLoads, loadsOk, loadOk, isEntry, isChunk, wantsChunkOf, pendingFits, pendingOk, stateOk}
 use Rattle.cache.specs.Direct.{looked, Aged}
 use Rattle.cache.proofs.LookLaws.{looked-aged}
-use Rattle.load.specs.declared.Loaded.{Loaded}
-use Rattle.load.specs.Loads.{After, over, refused, done, more, chunkLen, withdrawn, moved, forgot, withoutRun, dropped, newLoad, beganAt, began, located, entryStep, put, readied, ended, further, chunkStep, stepped}
-use Rattle.load.proofs.FromLaws.{next-chunk}
+use Rattle.cache.specs.declared.Loaded.{Loaded}
+use Rattle.cache.specs.Loads.{After, over, refused, done, more, chunkLen, withdrawn, moved, forgot, withoutRun, dropped, newLoad, beganAt, began, located, entryStep, put, readied, ended, further, chunkStep, stepped}
+use Rattle.cache.proofs.FromLaws.{next-chunk}
 use Rattle.engine.specs.Deliver.{withPending}
 
 -- ---- the four causes, one by one

@@ -15,14 +15,14 @@ use Rattle.pack.specs.Grid.{inGrid, locateOf}
 use Rattle.pack.specs.declared.TileKey.{TileKey}
 use Rattle.pack.specs.declared.Header.{Header}
 use Rattle.pack.proofs.Laws.{and-left}
-use Rattle.pages.specs.declared.Pages.{Pages}
-use Rattle.pages.specs.Runs.{span, slotAt, Kind, bare, run, piece, kindOf, kindAt, isRun, blank, allBelow, Sound}
-use Rattle.pages.specs.Evict.{fill, evictedPage, evicted, headSlot}
-use Rattle.pages.specs.Victim.{bestOf}
-use Rattle.pages.specs.Begin.{replaced}
-use Rattle.pages.proofs.RunLaws.{span-pos, sound, sound-ok, inside}
-use Rattle.pages.proofs.EvictLaws.{sound-evicted, placed-head, sound-set}
-use Rattle.pages.proofs.BeginLaws.{sound-replaced}
+use Rattle.cache.specs.declared.Pages.{Pages}
+use Rattle.cache.specs.Runs.{span, slotAt, Kind, bare, run, piece, kindOf, kindAt, isRun, blank, allBelow, Sound}
+use Rattle.cache.specs.Evict.{fill, evictedPage, evicted, headSlot}
+use Rattle.cache.specs.Victim.{bestOf}
+use Rattle.cache.specs.Begin.{replaced}
+use Rattle.cache.proofs.RunLaws.{span-pos, sound, sound-ok, inside}
+use Rattle.cache.proofs.EvictLaws.{sound-evicted, placed-head, sound-set}
+use Rattle.cache.proofs.BeginLaws.{sound-replaced}
 use Rattle.cache.specs.declared.Cache.{Cache}
 use Rattle.cache.specs.declared.Loading.{Loading}
 use Rattle.cache.specs.declared.MaybeLoading.{MaybeLoading}
@@ -32,7 +32,7 @@ use Rattle.cache.specs.Search.{lowest}
 use Rattle.cache.specs.Keys.{holds, inRing, isReady, readyAt}
 use Rattle.cache.specs.Lookups.{landsOn, touched, nextStep}
 use Rattle.cache.specs.State.{tileLoads, loadsOk, stateOk}
-use Rattle.load.specs.Loads.{takes, moved, forgot, withoutRun, dropped, newLoad, began, entryStep, readySlot, withReady, readied, further, stepped}
+use Rattle.cache.specs.Loads.{takes, moved, forgot, withoutRun, dropped, newLoad, began, entryStep, readySlot, withReady, readied, further, stepped}
 use Rattle.engine_states.proofs.CacheKept.{ok-parts, ok-whole, withdrawn-fits, touched-ok, forgot-ok, Changes, step-keeps}
 
 -- ---- a state with its slots

@@ -11,7 +11,7 @@ use Rattle.pack.specs.declared.TileKey.{TileKey}
 use Rattle.cache.specs.Lookups.{nextStep}
 use Rattle.cache.specs.State.{stateOk}
 use Rattle.cache.specs.declared.Cache.{Cache}
-use Rattle.load.specs.Loads.{takes, stepped}
+use Rattle.cache.specs.Loads.{takes, stepped}
 use Rattle.engine.specs.Calls as Calls
 use Rattle.engine.specs.State.{engineOk}
 use Rattle.engine.specs.declared.Engine.{Engine}

@@ -22,12 +22,12 @@ use Rattle.pack.specs.declared.Located.{Located}
 use Rattle.pack.specs.declared.Located.the-variants as Located
 use Rattle.pack.specs.declared.TileKey.{TileKey}
 use Rattle.pack.proofs.Laws.{and-left, and-right, clause, parse-accepted}
-use Rattle.pages.specs.Begin.{begun}
-use Rattle.pages.specs.declared.MaybeKey.{MaybeKey}
-use Rattle.pages.specs.declared.MaybeKey.the-variants as MaybeKey
-use Rattle.pages.specs.declared.Pages.{Pages}
-use Rattle.pages.specs.declared.victim.Found as PageFound
-use Rattle.pages.specs.declared.victim.Found.the-variants as PageAt
+use Rattle.cache.specs.Begin.{begun}
+use Rattle.cache.specs.declared.MaybeKey.{MaybeKey}
+use Rattle.cache.specs.declared.MaybeKey.the-variants as MaybeKey
+use Rattle.cache.specs.declared.Pages.{Pages}
+use Rattle.cache.specs.declared.victim.Found as PageFound
+use Rattle.cache.specs.declared.victim.Found.the-variants as PageAt
 use Rattle.cache.specs.Direct.{look, looked, Aged}
 use Rattle.cache.specs.Keys.{sameKey}
 use Rattle.cache.specs.Lookups.{landsOn, passes, lenAt, touched, nextRead, nextAt, nextStep}
@@ -44,16 +44,16 @@ use Rattle.cache.specs.declared.look.Landing.the-variants as Landing
 use Rattle.cache.specs.declared.next.Next.{Next}
 use Rattle.cache.specs.declared.next.Next.the-variants as Next
 use Rattle.cache.proofs.LookLaws.{looked-aged}
-use Rattle.load.specs.Loads as Loads
-use Rattle.load.specs.Loads.{fetched, takes, withdrawn, moved, forgot, dropped, chunkLen, beganAt, began, located, entryStep, readied, further}
-use Rattle.load.specs.Loads.{chunkStep}
-use Rattle.load.specs.declared.Loaded.{Loaded}
-use Rattle.load.specs.declared.Progress.{Progress}
-use Rattle.load.specs.declared.Progress.the-variants as Progress
-use Rattle.load.specs.declared.Request.the-variants as Request
-use Rattle.candidates.specs.declared.Current.{Current}
-use Rattle.candidates.specs.declared.Current.the-variants as Current
-use Rattle.candidates.specs.declared.Matched.{Matched}
+use Rattle.cache.specs.Loads as Loads
+use Rattle.cache.specs.Loads.{fetched, takes, withdrawn, moved, forgot, dropped, chunkLen, beganAt, began, located, entryStep, readied, further}
+use Rattle.cache.specs.Loads.{chunkStep}
+use Rattle.cache.specs.declared.Loaded.{Loaded}
+use Rattle.cache.specs.declared.Progress.{Progress}
+use Rattle.cache.specs.declared.Progress.the-variants as Progress
+use Rattle.cache.specs.declared.Request.the-variants as Request
+use Rattle.matcher.specs.declared.Current.{Current}
+use Rattle.matcher.specs.declared.Current.the-variants as Current
+use Rattle.matcher.specs.declared.Matched.{Matched}
 use Rattle.matcher.specs.Gather as Gather
 use Rattle.matcher.specs.Gather.{Run, runOver, updated}
 use Rattle.matcher.specs.State.{countsOk}
@@ -67,16 +67,16 @@ use Rattle.predict.specs.Predict as Predict
 use Rattle.predict.specs.Predict.{predictOver, predictedIn}
 use Rattle.predict.specs.declared.Outcome as RoadOutcome
 use Rattle.predict.specs.declared.Outcome.the-variants as Road
-use Rattle.follower.specs.Fixes as Fixes
-use Rattle.follower.specs.Fixes.{placeOf}
-use Rattle.follower.specs.Publish as Publish
-use Rattle.follower.specs.Publish.{nothingAhead}
-use Rattle.follower.specs.State as Followers
-use Rattle.follower.specs.declared.Ahead.{Ahead}
-use Rattle.follower.specs.declared.Fix.{Fix}
-use Rattle.follower.specs.declared.Follower.{Follower}
-use Rattle.follower.specs.declared.MaybeFix.{MaybeFix}
-use Rattle.follower.specs.declared.MaybeFix.the-variants as MaybeFix
+use Rattle.engine.specs.Fixes as Fixes
+use Rattle.engine.specs.Fixes.{placeOf}
+use Rattle.engine.specs.Publish as Publish
+use Rattle.engine.specs.Publish.{nothingAhead}
+use Rattle.engine.specs.Follow as Followers
+use Rattle.engine.specs.declared.Ahead.{Ahead}
+use Rattle.engine.specs.declared.Fix.{Fix}
+use Rattle.engine.specs.declared.Follower.{Follower}
+use Rattle.engine.specs.declared.MaybeFix.{MaybeFix}
+use Rattle.engine.specs.declared.MaybeFix.the-variants as MaybeFix
 use Rattle.engine.specs.Calls as Calls
 use Rattle.engine.specs.Deliver.{After, withPending, withPhase, withFailures, sectorOf, headerFailed, headerParsed, headerCame, arrived}
 use Rattle.engine.specs.Deliver.{loadFailed, loadedBy, partCame, fitsHeader, needCameBy, deliveredBy, delivered}

@@ -12,10 +12,10 @@ use Rattle.pack.specs.Grid.{locateOf}
 use Rattle.pack.specs.Sector.{rules}
 use Rattle.pack.specs.declared.Header.{Header}
 use Rattle.pack.specs.declared.TileKey.{TileKey}
-use Rattle.pages.specs.Evict.{fill, evictedPage, evicted}
-use Rattle.pages.specs.Runs.{span, blank, allBelow}
-use Rattle.pages.specs.Victim.{bestOf}
-use Rattle.pages.specs.declared.MaybeKey.the-variants as MaybeKey
+use Rattle.cache.specs.Evict.{fill, evictedPage, evicted}
+use Rattle.cache.specs.Runs.{span, blank, allBelow}
+use Rattle.cache.specs.Victim.{bestOf}
+use Rattle.cache.specs.declared.MaybeKey.the-variants as MaybeKey
 use Rattle.geo.specs.Flat.{whole}
 use Rattle.cache.specs.Keys.{inRing, isReady, readyAt}
 use Rattle.cache.specs.Lookups.{landsOn, nextStep}
@@ -24,11 +24,11 @@ use Rattle.cache.specs.State.{tileLoads, stateOk}
 use Rattle.cache.specs.declared.Cache.{Cache}
 use Rattle.cache.specs.declared.MaybeLoading.the-variants as MaybeLoading
 use Rattle.cache.specs.declared.Pending.the-variants as Pending
-use Rattle.load.specs.Loads.{moved, dropped, began, entryStep}
+use Rattle.cache.specs.Loads.{moved, dropped, began, entryStep}
 use Rattle.matcher.specs.Calls as Matching
-use Rattle.follower.specs.Fixes.{nothingSeen}
-use Rattle.follower.specs.Publish.{nothingAhead}
-use Rattle.follower.specs.declared.MaybeTime.the-variants as MaybeTime
+use Rattle.engine.specs.Fixes.{nothingSeen}
+use Rattle.engine.specs.Publish.{nothingAhead}
+use Rattle.engine.specs.declared.MaybeTime.the-variants as MaybeTime
 use Rattle.engine.specs.Calls as Calls
 use Rattle.engine.specs.Deliver.{partCame, delivered}
 use Rattle.engine.specs.State.{sharedOk, placesOk, engineOk}

@@ -23,9 +23,9 @@ use Rattle.pack.specs.declared.Keyed.the-variants as Keyed
 use Rattle.pack.specs.declared.Range.{Range}
 use Rattle.pack.specs.declared.Range.the-variants as Range
 use Rattle.pack.specs.declared.TileKey.{TileKey}
-use Rattle.pages.specs.declared.MaybeKey.{MaybeKey}
-use Rattle.pages.specs.declared.MaybeKey.the-variants as MaybeKey
-use Rattle.pages.specs.declared.Slot.{Slot}
+use Rattle.cache.specs.declared.MaybeKey.{MaybeKey}
+use Rattle.cache.specs.declared.MaybeKey.the-variants as MaybeKey
+use Rattle.cache.specs.declared.Slot.{Slot}
 use Rattle.cache.specs.Direct.{look, Aged}
 use Rattle.cache.specs.Lookups.{passes, lenAt, nextStep}
 use Rattle.cache.specs.State as Caches
@@ -36,14 +36,14 @@ use Rattle.cache.specs.declared.Pending.{Pending}
 use Rattle.cache.specs.declared.Pending.the-variants as Pending
 use Rattle.cache.specs.declared.next.Next.{Next}
 use Rattle.cache.specs.declared.next.Next.the-variants as Next
-use Rattle.load.specs.Loads as Loads
-use Rattle.load.specs.Loads.{fetched, takes, forgot, chunkLen, put, chunkStep, packBytes}
-use Rattle.load.specs.declared.Progress.{Progress}
-use Rattle.load.specs.declared.Progress.the-variants as Progress
-use Rattle.load.specs.declared.Request.the-variants as Request
-use Rattle.candidates.specs.declared.Current.{Current}
-use Rattle.candidates.specs.declared.Current.the-variants as Current
-use Rattle.candidates.specs.declared.Matched.{Matched}
+use Rattle.cache.specs.Loads as Loads
+use Rattle.cache.specs.Loads.{fetched, takes, forgot, chunkLen, put, chunkStep, packBytes}
+use Rattle.cache.specs.declared.Progress.{Progress}
+use Rattle.cache.specs.declared.Progress.the-variants as Progress
+use Rattle.cache.specs.declared.Request.the-variants as Request
+use Rattle.matcher.specs.declared.Current.{Current}
+use Rattle.matcher.specs.declared.Current.the-variants as Current
+use Rattle.matcher.specs.declared.Matched.{Matched}
 use Rattle.matcher.specs.Gather.{Run, runOver, updated}
 use Rattle.matcher.specs.declared.Outcome as MatchOutcome
 use Rattle.matcher.specs.declared.Outcome.the-variants as Found
@@ -52,11 +52,11 @@ use Rattle.predict.specs.Predict as Predict
 use Rattle.predict.specs.Predict.{predictOver, predictedIn}
 use Rattle.predict.specs.declared.Outcome as RoadOutcome
 use Rattle.predict.specs.declared.Outcome.the-variants as Road
-use Rattle.follower.specs.Fixes.{placeOf}
-use Rattle.follower.specs.declared.Fix.{Fix}
-use Rattle.follower.specs.declared.Follower.{Follower}
-use Rattle.follower.specs.declared.MaybeFix.{MaybeFix}
-use Rattle.follower.specs.declared.MaybeFix.the-variants as MaybeFix
+use Rattle.engine.specs.Fixes.{placeOf}
+use Rattle.engine.specs.declared.Fix.{Fix}
+use Rattle.engine.specs.declared.Follower.{Follower}
+use Rattle.engine.specs.declared.MaybeFix.{MaybeFix}
+use Rattle.engine.specs.declared.MaybeFix.the-variants as MaybeFix
 use Rattle.engine.specs.Calls as Calls
 use Rattle.engine.specs.Deliver.{After, withPending, sectorOf, headerFailed, headerParsed, headerCame, arrived, loadFailed, loadedBy}
 use Rattle.engine.specs.Deliver.{partCame, fitsHeader, needCameBy, deliveredBy, delivered}

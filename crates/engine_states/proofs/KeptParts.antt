@@ -11,24 +11,24 @@ use Rattle.pack.specs.Grid.{inGrid}
 use Rattle.pack.specs.declared.Header.{Header}
 use Rattle.pack.specs.declared.TileKey.{TileKey}
 use Rattle.pack.proofs.Laws.{and-left, and-right, clause}
-use Rattle.pages.specs.declared.MaybeKey.{MaybeKey}
-use Rattle.pages.specs.declared.MaybeKey.the-variants as MaybeKey
+use Rattle.cache.specs.declared.MaybeKey.{MaybeKey}
+use Rattle.cache.specs.declared.MaybeKey.the-variants as MaybeKey
 use Rattle.cache.specs.State.{stateOk, arenaOk}
 use Rattle.cache.specs.declared.Cache.{Cache}
 use Rattle.cache.specs.declared.Pending.{Pending}
 use Rattle.cache.specs.declared.Pending.the-variants as Pending
-use Rattle.candidates.specs.declared.Current.{Current}
-use Rattle.candidates.specs.declared.Current.the-variants as Current
-use Rattle.candidates.specs.declared.Matched.{Matched}
+use Rattle.matcher.specs.declared.Current.{Current}
+use Rattle.matcher.specs.declared.Current.the-variants as Current
+use Rattle.matcher.specs.declared.Matched.{Matched}
 use Rattle.matcher.specs.Calls as Matching
 use Rattle.matcher.specs.State.{countsOk, edgeOk}
 use Rattle.matcher.specs.declared.Matcher.{Matcher}
-use Rattle.junction.specs.declared.End.{End}
+use Rattle.predict.specs.declared.End.{End}
 use Rattle.predict.specs.declared.Prediction.{Prediction}
-use Rattle.follower.specs.Publish.{withoutMatch, withMatch}
-use Rattle.follower.specs.declared.Ahead.{Ahead}
-use Rattle.follower.specs.declared.Fix.{Fix}
-use Rattle.follower.specs.declared.Follower.{Follower}
+use Rattle.engine.specs.Publish.{withoutMatch, withMatch}
+use Rattle.engine.specs.declared.Ahead.{Ahead}
+use Rattle.engine.specs.declared.Fix.{Fix}
+use Rattle.engine.specs.declared.Follower.{Follower}
 use Rattle.engine.specs.Deliver.{failing, needless}
 use Rattle.engine.specs.State.{headerOk, sharedOk, heldOk, needOk, matchedOk, pendingOk, sightOk, aheadOk, failuresOk, matcherOk, reloadLimit}
 use Rattle.engine.specs.State.{dueOk, engineOk}

@@ -13,10 +13,10 @@ use Rattle.num.proofs.FoldLaws.{up-keeps}
 use Rattle.pack.specs.Grid.{inGrid}
 use Rattle.pack.specs.declared.Header.{Header}
 use Rattle.pack.specs.declared.TileKey.{TileKey}
-use Rattle.pages.specs.declared.MaybeKey.{MaybeKey}
-use Rattle.pages.specs.declared.MaybeKey.the-variants as MaybeKey
-use Rattle.pages.specs.declared.victim.Found.{Found}
-use Rattle.pages.specs.declared.victim.Found.the-variants as Found
+use Rattle.cache.specs.declared.MaybeKey.{MaybeKey}
+use Rattle.cache.specs.declared.MaybeKey.the-variants as MaybeKey
+use Rattle.cache.specs.declared.victim.Found.{Found}
+use Rattle.cache.specs.declared.victim.Found.the-variants as Found
 use Rattle.tile.specs.Layout.{edgesOf}
 use Rattle.tile.specs.Parse.{accepts}
 use Rattle.tile.proofs.Within.{key-is}
@@ -28,16 +28,16 @@ use Rattle.cache.specs.declared.Cache.{Cache}
 use Rattle.cache.specs.declared.look.Landing.{Landing}
 use Rattle.cache.specs.declared.look.Landing.the-variants as Landing
 use Rattle.cache.proofs.LookLaws.{passes-accepted}
-use Rattle.candidates.specs.Keeping.{candidateIn}
-use Rattle.candidates.specs.Within.{Within, AllKept}
-use Rattle.candidates.specs.declared.Candidate.{Candidate}
-use Rattle.candidates.specs.declared.Current.{Current}
-use Rattle.candidates.specs.declared.Current.the-variants as Current
-use Rattle.candidates.specs.declared.Heading.{Heading}
-use Rattle.candidates.specs.declared.Kept.{Kept}
-use Rattle.candidates.specs.declared.Matched.{Matched}
-use Rattle.candidates.specs.declared.Query.{Query}
-use Rattle.candidates.proofs.WithinLaws.{KeptGood, none-good, search-all}
+use Rattle.matcher.specs.Keeping.{candidateIn}
+use Rattle.matcher.specs.Within.{Within, AllKept}
+use Rattle.matcher.specs.declared.Candidate.{Candidate}
+use Rattle.matcher.specs.declared.Current.{Current}
+use Rattle.matcher.specs.declared.Current.the-variants as Current
+use Rattle.matcher.specs.declared.Heading.{Heading}
+use Rattle.matcher.specs.declared.Kept.{Kept}
+use Rattle.matcher.specs.declared.Matched.{Matched}
+use Rattle.matcher.specs.declared.Query.{Query}
+use Rattle.matcher.proofs.ScanWithin.{KeptGood, none-good, search-all}
 use Rattle.matcher.specs.Choose.{leastOf, sameEdge, keptAt, beaten, contestedBy, contested, held, keptBy, chosenBy, pastBy, pastNode}
 use Rattle.matcher.specs.Gather.{Run, lookStep, keyStep, runStep, noRun, runTo, outcome, matchingBy, queryOf, runOver, updateOver}
 use Rattle.matcher.specs.Near.{keyAt, nearOf}

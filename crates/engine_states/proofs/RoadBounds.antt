@@ -23,8 +23,8 @@ use Rattle.pack.specs.declared.Keyed.{Keyed}
 use Rattle.pack.specs.declared.Keyed.the-variants as Keyed
 use Rattle.pack.specs.declared.TileKey.{TileKey}
 use Rattle.pack.proofs.Laws.{row-below, col-below, checked-in-grid}
-use Rattle.pages.specs.Runs.{span}
-use Rattle.pages.proofs.Below.{below-or, same-or}
+use Rattle.cache.specs.Runs.{span}
+use Rattle.cache.proofs.Below.{below-or, same-or}
 use Rattle.tile.specs.Layout as Layout
 use Rattle.tile.specs.Readers.{nodeAt}
 use Rattle.tile.specs.declared.Edge.{Edge}
@@ -33,44 +33,44 @@ use Rattle.tile.specs.declared.Found.the-variants as Found
 use Rattle.geo.specs.Flat.{whole}
 use Rattle.geo.specs.declared.Point.{Point}
 use Rattle.cache.specs.Direct.{Look, ready, missing, absent, stale}
-use Rattle.candidates.specs.Score.{sameId}
-use Rattle.candidates.specs.declared.Forward.{Forward}
-use Rattle.candidates.specs.declared.Forward.the-variants as Forward
-use Rattle.candidates.specs.declared.Matched.{Matched}
-use Rattle.samples.specs.Samples.{Pushed, sampleAt, pushFrom, pushed}
-use Rattle.samples.specs.declared.Mark.{Mark}
-use Rattle.ways.specs.Choose.{noChoice, noChoices, choiceIn, push, pickStep, noPick, pickTo, pick}
-use Rattle.ways.specs.Outgoing.{lastOf}
-use Rattle.ways.specs.Twins.{noTwin}
-use Rattle.ways.specs.declared.Choice.{Choice}
-use Rattle.ways.specs.declared.Choices.{Choices}
-use Rattle.ways.specs.declared.choose.Picked.{Picked}
-use Rattle.ways.specs.declared.outgoing.Leg.{Leg}
-use Rattle.ways.specs.declared.twins.Twin.{Twin}
-use Rattle.ways.specs.declared.twins.TwinList.{TwinList}
-use Rattle.ages.specs.Reader.{Reader, plain}
-use Rattle.track.specs.Ridden.{Backs, Written, backStep, backNext, backsTo, backs, lastSample, noMark, ridden}
-use Rattle.track.specs.Start.{startOk}
-use Rattle.track.specs.Vertex as Vertex
-use Rattle.track.specs.Vertex.{Along, stepOf, passed, advanced, vertexStep, vertices, toEnd}
-use Rattle.track.specs.declared.Track.{Track}
-use Rattle.track.specs.declared.Trip.{Trip}
-use Rattle.track.specs.declared.ridden.Back.{Back}
-use Rattle.track.specs.declared.ridden.Behind.{Behind}
-use Rattle.junction.specs.Consider.{choiceOf, isWayOn, considerStep, considerTo, consider}
-use Rattle.junction.specs.Cross.{Ways, considerBy, twinLook, twinKey, goingOver, stepOver, crossTo, crossOver}
-use Rattle.junction.specs.Decide.{lowered, decide}
-use Rattle.junction.specs.Meets.{meet, budget}
-use Rattle.junction.specs.declared.Arrival.{Arrival}
-use Rattle.junction.specs.declared.Decision.{Decision}
-use Rattle.junction.specs.declared.End.the-variants as End
-use Rattle.junction.specs.declared.Ending.{Ending}
-use Rattle.junction.specs.declared.Ending.the-variants as Ending
-use Rattle.junction.specs.declared.Visited.{Visited}
-use Rattle.walk.specs.Walk.{withEnding, moved, reached, taken, onRoad, throughEdge, withEntry, entered, isRound, turned, incomingOf, nodeOf}
-use Rattle.walk.specs.Walk.{arrivalOf, nextLook, Run, takenBy, decidedOver, onwardBy, onwardOver, waysOver, crossedOver, goesOn, legOf, along}
-use Rattle.walk.specs.Walk.{driven, edgeLook, edgeStep, walkTo}
-use Rattle.walk.specs.declared.Walk.{Walk}
+use Rattle.matcher.specs.Score.{sameId}
+use Rattle.matcher.specs.declared.Forward.{Forward}
+use Rattle.matcher.specs.declared.Forward.the-variants as Forward
+use Rattle.matcher.specs.declared.Matched.{Matched}
+use Rattle.predict.specs.Samples.{Pushed, sampleAt, pushFrom, pushed}
+use Rattle.predict.specs.declared.Mark.{Mark}
+use Rattle.predict.specs.Choose.{noChoice, noChoices, choiceIn, push, pickStep, noPick, pickTo, pick}
+use Rattle.predict.specs.Outgoing.{lastOf}
+use Rattle.predict.specs.Twins.{noTwin}
+use Rattle.predict.specs.declared.Choice.{Choice}
+use Rattle.predict.specs.declared.Choices.{Choices}
+use Rattle.predict.specs.declared.choose.Picked.{Picked}
+use Rattle.predict.specs.declared.outgoing.Leg.{Leg}
+use Rattle.predict.specs.declared.twins.Twin.{Twin}
+use Rattle.predict.specs.declared.twins.TwinList.{TwinList}
+use Rattle.cache.specs.Reader.{Reader, plain}
+use Rattle.predict.specs.Ridden.{Backs, Written, backStep, backNext, backsTo, backs, lastSample, noMark, ridden}
+use Rattle.predict.specs.Start.{startOk}
+use Rattle.predict.specs.Vertex as Vertex
+use Rattle.predict.specs.Vertex.{Along, stepOf, passed, advanced, vertexStep, vertices, toEnd}
+use Rattle.predict.specs.declared.Track.{Track}
+use Rattle.predict.specs.declared.Trip.{Trip}
+use Rattle.predict.specs.declared.ridden.Back.{Back}
+use Rattle.predict.specs.declared.ridden.Behind.{Behind}
+use Rattle.predict.specs.Consider.{choiceOf, isWayOn, considerStep, considerTo, consider}
+use Rattle.predict.specs.Cross.{Ways, considerBy, twinLook, twinKey, goingOver, stepOver, crossTo, crossOver}
+use Rattle.predict.specs.Decide.{lowered, decide}
+use Rattle.predict.specs.Meets.{meet, budget}
+use Rattle.predict.specs.declared.Arrival.{Arrival}
+use Rattle.predict.specs.declared.Decision.{Decision}
+use Rattle.predict.specs.declared.End.the-variants as End
+use Rattle.predict.specs.declared.Ending.{Ending}
+use Rattle.predict.specs.declared.Ending.the-variants as Ending
+use Rattle.predict.specs.declared.Visited.{Visited}
+use Rattle.predict.specs.Walk.{withEnding, moved, reached, taken, onRoad, throughEdge, withEntry, entered, isRound, turned, incomingOf, nodeOf}
+use Rattle.predict.specs.Walk.{arrivalOf, nextLook, Run, takenBy, decidedOver, onwardBy, onwardOver, waysOver, crossedOver, goesOn, legOf, along}
+use Rattle.predict.specs.Walk.{driven, edgeLook, edgeStep, walkTo}
+use Rattle.predict.specs.declared.Walk.{Walk}
 use Rattle.predict.specs.Predict.{walkFrom, prediction, outcomeBy, outcome, Forecast, tripOf, roadOver, startLook, directedOver, forecastOver}
 use Rattle.predict.specs.Predict.{predictOver}
 use Rattle.predict.specs.declared.Outcome.{Outcome}

@@ -21,21 +21,21 @@ use Rattle.angle.specs.declared.Degrees.the-variants as Degrees
 use Rattle.angle.proofs.Arc.{arc-most}
 use Rattle.pack.specs.Grid.{isPoint}
 use Rattle.pack.proofs.Laws.{and-left, and-right}
-use Rattle.pages.specs.declared.victim.Found.{Found}
-use Rattle.pages.specs.declared.victim.Found.the-variants as Found
-use Rattle.pages.proofs.Below.{below-or, same-or}
+use Rattle.cache.specs.declared.victim.Found.{Found}
+use Rattle.cache.specs.declared.victim.Found.the-variants as Found
+use Rattle.cache.proofs.Below.{below-or, same-or}
 use Rattle.geo.specs.Flat.{whole, isHeading, bearingOf, figureOf}
 use Rattle.geo.specs.declared.Point.{Point}
 use Rattle.geo.proofs.Settled.{Spans, round-spans}
 use Rattle.cache.specs.Search.{lowest, isFound}
 use Rattle.cache.proofs.SearchLaws.{lowest-none}
-use Rattle.candidates.specs.declared.Heading.{Heading}
-use Rattle.candidates.specs.declared.Heading.the-variants as Heading
+use Rattle.matcher.specs.declared.Heading.{Heading}
+use Rattle.matcher.specs.declared.Heading.the-variants as Heading
 use Rattle.matcher.specs.State.{headingOk}
-use Rattle.follower.specs.Fixes.{noPoint, placeAt, shifted, push, movedFrom, placeOf, courseBy, courseOf, seen}
-use Rattle.follower.specs.declared.Fix.{Fix}
-use Rattle.follower.specs.declared.Places.{Places}
-use Rattle.follower.specs.declared.Sight.{Sight}
+use Rattle.engine.specs.Fixes.{noPoint, placeAt, shifted, push, movedFrom, placeOf, courseBy, courseOf, seen}
+use Rattle.engine.specs.declared.Fix.{Fix}
+use Rattle.engine.specs.declared.Places.{Places}
+use Rattle.engine.specs.declared.Sight.{Sight}
 use Rattle.engine.specs.State.{fixOk, placesOk, sightOk}
 
 pub both : (a b : Bool) → a ≡ true → b ≡ true → (a && b) ≡ true

@@ -9,7 +9,7 @@ use cache_replay::Session;
 use cache_replay::Stepped;
 use cache_replay::Told;
 use cache_replay::words;
-use candidates::Current;
+use matcher::Current;
 use matcher::Matcher;
 use matcher::NearKeys;
 

@@ -1,10 +1,10 @@
 // The kinds that set up matchers.
 use crate::figures::float;
 use cache_replay::words;
-use candidates::Current;
-use candidates::Forward;
-use candidates::Matched;
 use matcher::Challenger;
+use matcher::Current;
+use matcher::Forward;
+use matcher::Matched;
 use matcher::Matcher;
 use pack::TileKey;
 use tile::TileId;

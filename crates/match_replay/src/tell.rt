@@ -3,15 +3,15 @@ use crate::Ended;
 use crate::State;
 use crate::Step;
 use crate::figures::pattern;
+use cache::Pages;
 use cache_replay::words;
-use candidates::Current;
-use candidates::Forward;
-use candidates::Matched;
 use matcher::Challenger;
+use matcher::Current;
+use matcher::Forward;
+use matcher::Matched;
 use matcher::Matcher;
 use matcher::NearKeys;
 use num::cast::u32_of_i32;
-use pages::Pages;
 use tile::TileId;
 
 fn direction(forward: Forward) -> u32 {
@@ -43,7 +43,7 @@ pub fn sum(g: Pages) -> u32 {
 
 fn ages(g: Pages, out: &mut [u8]) {
     let mut i = 0;
-    while i < pages::MAX_PAGES {
+    while i < cache::MAX_PAGES {
         words::put(out, i, g.used[i]);
         i += 1;
     }

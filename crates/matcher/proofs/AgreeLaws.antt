@@ -5,12 +5,12 @@ use mathlib.Core.Path.{_≡_, refl, sym}
 use mathlib.Core.Bool.{true, true≢false}
 use native.Mathlib.Omega.{arith}
 use Rattle.pack.specs.declared.TileKey.{TileKey}
-use Rattle.pages.specs.declared.MaybeKey.{MaybeKey}
-use Rattle.pages.specs.declared.MaybeKey.the-variants as MaybeKey
+use Rattle.cache.specs.declared.MaybeKey.{MaybeKey}
+use Rattle.cache.specs.declared.MaybeKey.the-variants as MaybeKey
 use Rattle.cache.specs.Direct.{Look, ready, missing, absent, stale, settled, Agree}
-use Rattle.candidates.specs.declared.Heading.{Heading}
-use Rattle.candidates.specs.declared.Kept.{Kept}
-use Rattle.candidates.specs.declared.Query.{Query}
+use Rattle.matcher.specs.declared.Heading.{Heading}
+use Rattle.matcher.specs.declared.Kept.{Kept}
+use Rattle.matcher.specs.declared.Query.{Query}
 use Rattle.num.proofs.FoldLaws.{up-agrees}
 use Rattle.matcher.specs.declared.Matcher.{Matcher}
 use Rattle.matcher.specs.declared.NearKeys.{NearKeys}

@@ -8,15 +8,15 @@ use lib.Ieee.{binary32, add, le}
 use borrow.Author.Tests.{ltb-true}
 use Rattle.geo.specs.Flat.{whole}
 use Rattle.pack.proofs.Laws.{and-left}
-use Rattle.pages.specs.declared.victim.Found.{Found}
-use Rattle.pages.specs.declared.victim.Found.the-variants as Found
+use Rattle.cache.specs.declared.victim.Found.{Found}
+use Rattle.cache.specs.declared.victim.Found.the-variants as Found
 use Rattle.cache.proofs.SearchLaws.{lowest-at}
-use Rattle.candidates.specs.Keeping.{candidateIn}
-use Rattle.candidates.specs.declared.Candidate.{Candidate}
-use Rattle.candidates.specs.declared.Kept.{Kept}
-use Rattle.candidates.specs.declared.Matched.{Matched}
-use Rattle.candidates.specs.declared.Current.{Current}
-use Rattle.candidates.specs.declared.Current.the-variants as Current
+use Rattle.matcher.specs.Keeping.{candidateIn}
+use Rattle.matcher.specs.declared.Candidate.{Candidate}
+use Rattle.matcher.specs.declared.Kept.{Kept}
+use Rattle.matcher.specs.declared.Matched.{Matched}
+use Rattle.matcher.specs.declared.Current.{Current}
+use Rattle.matcher.specs.declared.Current.the-variants as Current
 use Rattle.num.proofs.FoldLaws.{up-keeps}
 use Rattle.matcher.specs.declared.Challenger.{Challenger}
 use Rattle.matcher.specs.declared.choose.Which.{Which}

@@ -8,8 +8,8 @@ use mathlib.Core.List.{List}
 use borrow.Author.Tests.{le-leb}
 use lib.ListN.{length}
 use Rattle.pack.specs.declared.TileKey.{TileKey}
-use Rattle.pages.specs.declared.MaybeKey.{MaybeKey}
-use Rattle.pages.specs.declared.MaybeKey.the-variants as MaybeKey
+use Rattle.cache.specs.declared.MaybeKey.{MaybeKey}
+use Rattle.cache.specs.declared.MaybeKey.the-variants as MaybeKey
 use Rattle.cache.specs.declared.Cache.{Cache}
 use Rattle.cache.specs.declared.look.Landing.{Landing}
 use Rattle.cache.specs.declared.look.Landing.the-variants as Landing
@@ -17,8 +17,8 @@ use Rattle.cache.specs.Lookups.{landsOn, runBytes, passes, lenAt, gotReady, got
 use Rattle.cache.specs.Direct.{Look, lookAt, look, looked}
 use Rattle.cache.proofs.LookLaws.{looked-look, passes-inside}
 use Rattle.num.proofs.FoldLaws.{up-start, up-turn}
-use Rattle.candidates.specs.Keeping.{noneKept}
-use Rattle.candidates.specs.declared.Query.{Query}
+use Rattle.matcher.specs.Keeping.{noneKept}
+use Rattle.matcher.specs.declared.Query.{Query}
 use Rattle.matcher.specs.declared.gather.Ending.{Ending}
 use Rattle.matcher.specs.declared.gather.Ending.the-variants as Ending
 use Rattle.matcher.specs.declared.NearKeys.{NearKeys}

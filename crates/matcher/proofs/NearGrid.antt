@@ -15,9 +15,9 @@ use Rattle.pack.specs.declared.TileKey.{TileKey}
 use Rattle.pack.specs.declared.Keyed.{Keyed}
 use Rattle.pack.specs.declared.Keyed.the-variants as Keyed
 use Rattle.pack.proofs.Laws.{checked-in-grid}
-use Rattle.pages.proofs.Below.{below-or, same-or}
-use Rattle.pages.specs.declared.MaybeKey.{MaybeKey}
-use Rattle.pages.specs.declared.MaybeKey.the-variants as MaybeKey
+use Rattle.cache.proofs.Below.{below-or, same-or}
+use Rattle.cache.specs.declared.MaybeKey.{MaybeKey}
+use Rattle.cache.specs.declared.MaybeKey.the-variants as MaybeKey
 use Rattle.geo.specs.declared.Point.{Point}
 use Rattle.matcher.specs.declared.NearKey.{NearKey}
 use Rattle.matcher.specs.declared.NearKeys.{NearKeys}

@@ -11,24 +11,24 @@ use lib.Ieee.{Float}
 use Rattle.pack.specs.Grid.{inGrid}
 use Rattle.pack.specs.declared.Header.{Header}
 use Rattle.pack.specs.declared.TileKey.{TileKey}
-use Rattle.pages.specs.declared.MaybeKey.{MaybeKey}
-use Rattle.pages.specs.declared.MaybeKey.the-variants as MaybeKey
-use Rattle.pages.specs.declared.victim.Found.{Found}
-use Rattle.pages.specs.declared.victim.Found.the-variants as Found
+use Rattle.cache.specs.declared.MaybeKey.{MaybeKey}
+use Rattle.cache.specs.declared.MaybeKey.the-variants as MaybeKey
+use Rattle.cache.specs.declared.victim.Found.{Found}
+use Rattle.cache.specs.declared.victim.Found.the-variants as Found
 use Rattle.tile.proofs.Within.{key-is}
 use Rattle.cache.specs.Direct.{Look, ready, missing, absent, stale}
-use Rattle.candidates.specs.Within.{Within, AllKept}
-use Rattle.candidates.specs.Keeping.{candidateIn}
-use Rattle.candidates.specs.declared.Candidate.{Candidate}
-use Rattle.candidates.specs.declared.Kept.{Kept}
-use Rattle.candidates.specs.declared.Matched.{Matched}
-use Rattle.candidates.specs.declared.Query.{Query}
-use Rattle.candidates.specs.declared.Current.{Current}
-use Rattle.candidates.specs.declared.Current.the-variants as Current
-use Rattle.candidates.specs.declared.Forward.{Forward}
-use Rattle.candidates.specs.declared.Heading.{Heading}
+use Rattle.matcher.specs.Within.{Within, AllKept}
+use Rattle.matcher.specs.Keeping.{candidateIn}
+use Rattle.matcher.specs.declared.Candidate.{Candidate}
+use Rattle.matcher.specs.declared.Kept.{Kept}
+use Rattle.matcher.specs.declared.Matched.{Matched}
+use Rattle.matcher.specs.declared.Query.{Query}
+use Rattle.matcher.specs.declared.Current.{Current}
+use Rattle.matcher.specs.declared.Current.the-variants as Current
+use Rattle.matcher.specs.declared.Forward.{Forward}
+use Rattle.matcher.specs.declared.Heading.{Heading}
 use Rattle.num.proofs.FoldLaws.{up-keeps}
-use Rattle.candidates.proofs.WithinLaws.{KeptGood, none-good, search-all}
+use Rattle.matcher.proofs.ScanWithin.{KeptGood, none-good, search-all}
 use Rattle.matcher.specs.declared.Matcher.{Matcher}
 use Rattle.matcher.specs.declared.NearKeys.{NearKeys}
 use Rattle.matcher.specs.declared.Outcome.{Outcome}

@@ -10,9 +10,9 @@ use Rattle.pack.specs.declared.Header.{Header}
 use Rattle.geo.specs.declared.Point.{Point}
 use Rattle.geo.specs.Flat.{whole}
 use Rattle.cache.specs.declared.Cache.{Cache}
-use Rattle.candidates.specs.declared.Heading.{Heading}
-use Rattle.candidates.specs.declared.Current.{Current}
-use Rattle.candidates.specs.declared.Current.the-variants as Current
+use Rattle.matcher.specs.declared.Heading.{Heading}
+use Rattle.matcher.specs.declared.Current.{Current}
+use Rattle.matcher.specs.declared.Current.the-variants as Current
 use Rattle.matcher.specs.declared.Answer.the-variants as Answer
 use Rattle.matcher.specs.declared.Challenger.the-variants as Challenger
 use Rattle.matcher.specs.declared.CurrentRead.{CurrentRead}

@@ -6,17 +6,17 @@ use lib.Ieee.{Float, binary32, add, le}
 use Rattle.num.specs.Order.{totalCmp}
 use Rattle.tile.specs.declared.TileId.{TileId}
 use Rattle.geo.specs.Flat.{whole}
-use Rattle.pages.specs.declared.victim.Found.{Found}
-use Rattle.pages.specs.declared.victim.Found.the-variants as Found
+use Rattle.cache.specs.declared.victim.Found.{Found}
+use Rattle.cache.specs.declared.victim.Found.the-variants as Found
 use Rattle.cache.specs.Search.{lowest}
 use Rattle.num.specs.Fold.{upTo}
-use Rattle.candidates.specs.Keeping.{candidateIn, isLess}
-use Rattle.candidates.specs.Score.{sameId, isOn}
-use Rattle.candidates.specs.declared.Candidate.{Candidate}
-use Rattle.candidates.specs.declared.Kept.{Kept}
-use Rattle.candidates.specs.declared.Matched.{Matched}
-use Rattle.candidates.specs.declared.Current.{Current}
-use Rattle.candidates.specs.declared.Current.the-variants as Current
+use Rattle.matcher.specs.Keeping.{candidateIn, isLess}
+use Rattle.matcher.specs.Score.{sameId, isOn}
+use Rattle.matcher.specs.declared.Candidate.{Candidate}
+use Rattle.matcher.specs.declared.Kept.{Kept}
+use Rattle.matcher.specs.declared.Matched.{Matched}
+use Rattle.matcher.specs.declared.Current.{Current}
+use Rattle.matcher.specs.declared.Current.the-variants as Current
 use Rattle.matcher.specs.declared.Challenger.{Challenger}
 use Rattle.matcher.specs.declared.Challenger.the-variants as Challenger
 use Rattle.matcher.specs.declared.choose.Which.{Which}

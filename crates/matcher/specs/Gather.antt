@@ -8,8 +8,8 @@ use lib.Dec.{leb}
 use lib.ListN.{length}
 use Rattle.pack.specs.declared.TileKey.{TileKey}
 use Rattle.pack.specs.declared.Header.{Header}
-use Rattle.pages.specs.declared.MaybeKey.{MaybeKey}
-use Rattle.pages.specs.declared.MaybeKey.the-variants as MaybeKey
+use Rattle.cache.specs.declared.MaybeKey.{MaybeKey}
+use Rattle.cache.specs.declared.MaybeKey.the-variants as MaybeKey
 use Rattle.geo.specs.declared.Point.{Point}
 use Rattle.cache.specs.declared.Cache.{Cache}
 use Rattle.cache.specs.declared.Got.{Got}
@@ -18,13 +18,13 @@ use Rattle.cache.specs.declared.Lookup.the-variants as Lookup
 use Rattle.cache.specs.Lookups.{runBytes, got}
 use Rattle.cache.specs.Direct.{Look, ready, missing, absent, stale, look, looked}
 use Rattle.num.specs.Fold.{upTo}
-use Rattle.candidates.specs.Keeping.{noneKept}
-use Rattle.candidates.specs.Tile.{search}
-use Rattle.candidates.specs.declared.Kept.{Kept}
-use Rattle.candidates.specs.declared.Query.{Query}
-use Rattle.candidates.specs.declared.Current.{Current}
-use Rattle.candidates.specs.declared.Current.the-variants as Current
-use Rattle.candidates.specs.declared.Heading.{Heading}
+use Rattle.matcher.specs.Keeping.{noneKept}
+use Rattle.matcher.specs.Tile.{search}
+use Rattle.matcher.specs.declared.Kept.{Kept}
+use Rattle.matcher.specs.declared.Query.{Query}
+use Rattle.matcher.specs.declared.Current.{Current}
+use Rattle.matcher.specs.declared.Current.the-variants as Current
+use Rattle.matcher.specs.declared.Heading.{Heading}
 use Rattle.matcher.specs.declared.Matcher.{Matcher}
 use Rattle.matcher.specs.declared.NearKeys.{NearKeys}
 use Rattle.matcher.specs.declared.Outcome.{Outcome}

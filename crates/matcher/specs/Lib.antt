@@ -1,3 +1,9 @@
+-- The candidates of a tile: the scan of an edge's points, its cost, the eight that are kept, the tile's edges, and what a match relies on.
+pub mod Scan
+pub mod Score
+pub mod Keeping
+pub mod Tile
+pub mod Within
 -- The matcher: the tiles around a fix, which candidate is chosen, the match made of it, number 12, a match over a lookup, and the public functions.
 pub mod Near
 pub mod Choose

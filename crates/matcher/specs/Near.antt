@@ -14,8 +14,8 @@ use Rattle.pack.specs.declared.Keyed.the-variants as Keyed
 use Rattle.geo.specs.declared.Point.{Point}
 use Rattle.cache.specs.Search.{lowest, isFound}
 use Rattle.cache.specs.Keys.{holds}
-use Rattle.pages.specs.declared.MaybeKey.{MaybeKey}
-use Rattle.pages.specs.declared.MaybeKey.the-variants as MaybeKey
+use Rattle.cache.specs.declared.MaybeKey.{MaybeKey}
+use Rattle.cache.specs.declared.MaybeKey.the-variants as MaybeKey
 use Rattle.matcher.specs.declared.NearKey.{NearKey}
 use Rattle.matcher.specs.declared.NearKeys.{NearKeys}
 

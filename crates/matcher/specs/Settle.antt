@@ -7,20 +7,20 @@ use lib.IntN.{ℤ}
 use lib.Ieee.{Float, binary32, inf, ofBits, toUnsigned, sub, mul, div}
 use Rattle.num.specs.Order as Order
 use Rattle.geo.specs.Flat.{whole}
-use Rattle.pages.specs.declared.victim.Found.{Found}
-use Rattle.pages.specs.declared.victim.Found.the-variants as Found
+use Rattle.cache.specs.declared.victim.Found.{Found}
+use Rattle.cache.specs.declared.victim.Found.the-variants as Found
 use Rattle.num.specs.Fold.{upTo}
-use Rattle.candidates.specs.Keeping.{candidateIn}
-use Rattle.candidates.specs.Score.{isOn}
-use Rattle.candidates.specs.declared.Candidate.{Candidate}
-use Rattle.candidates.specs.declared.Kept.{Kept}
-use Rattle.candidates.specs.declared.Matched.{Matched}
-use Rattle.candidates.specs.declared.Current.{Current}
-use Rattle.candidates.specs.declared.Current.the-variants as Current
-use Rattle.candidates.specs.declared.Forward.{Forward}
-use Rattle.candidates.specs.declared.Forward.the-variants as Forward
-use Rattle.candidates.specs.declared.Heading.{Heading}
-use Rattle.candidates.specs.declared.Heading.the-variants as Heading
+use Rattle.matcher.specs.Keeping.{candidateIn}
+use Rattle.matcher.specs.Score.{isOn}
+use Rattle.matcher.specs.declared.Candidate.{Candidate}
+use Rattle.matcher.specs.declared.Kept.{Kept}
+use Rattle.matcher.specs.declared.Matched.{Matched}
+use Rattle.matcher.specs.declared.Current.{Current}
+use Rattle.matcher.specs.declared.Current.the-variants as Current
+use Rattle.matcher.specs.declared.Forward.{Forward}
+use Rattle.matcher.specs.declared.Forward.the-variants as Forward
+use Rattle.matcher.specs.declared.Heading.{Heading}
+use Rattle.matcher.specs.declared.Heading.the-variants as Heading
 use Rattle.matcher.specs.declared.Challenger.the-variants as Challenger
 use Rattle.matcher.specs.declared.Matcher.{Matcher}
 use Rattle.matcher.specs.declared.choose.Which.the-variants as Which

@@ -8,10 +8,10 @@ use Rattle.pack.specs.declared.Header.{Header}
 use Rattle.geo.specs.Flat.{isHeading}
 use Rattle.cache.specs.State.{cacheOk}
 use Rattle.cache.specs.declared.Cache.{Cache}
-use Rattle.candidates.specs.declared.Current.{Current}
-use Rattle.candidates.specs.declared.Current.the-variants as Current
-use Rattle.candidates.specs.declared.Heading.{Heading}
-use Rattle.candidates.specs.declared.Heading.the-variants as Heading
+use Rattle.matcher.specs.declared.Current.{Current}
+use Rattle.matcher.specs.declared.Current.the-variants as Current
+use Rattle.matcher.specs.declared.Heading.{Heading}
+use Rattle.matcher.specs.declared.Heading.the-variants as Heading
 use Rattle.matcher.specs.declared.Challenger.{Challenger}
 use Rattle.matcher.specs.declared.Challenger.the-variants as Challenger
 use Rattle.matcher.specs.declared.Matcher.{Matcher}

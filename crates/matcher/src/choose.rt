@@ -1,13 +1,13 @@
 // Which candidate the match goes to: the cheapest, unless hysteresis holds the current edge, and past its end the road that goes on.
+use crate::Candidate;
 use crate::Challenger;
-use candidates::Candidate;
-use candidates::Current;
-use candidates::Kept;
-use candidates::Matched;
+use crate::Current;
+use crate::Kept;
+use crate::Matched;
+use cache::victim::Found;
 use num::order::Ordering;
-use pages::victim::Found;
 ghost use mathlib.Core.Path.{_≡_};
-ghost use Rattle.candidates.specs.Keeping as Keeping;
+ghost use Rattle.matcher.specs.Keeping as Keeping;
 ghost use Rattle.matcher.specs.Choose as Choose;
 
 // Which candidates are looked at: all, or those on which the road goes on past a node, up to a cost.
@@ -17,7 +17,7 @@ pub enum Which {
 }
 
 // The cheapest so far, and its cost.
-pub struct Least {
+pub(crate) struct Least {
     pub at: Found,
     pub cost: f32,
 }
@@ -90,7 +90,7 @@ fn least_step(l: Least, n: usize, i: usize, c: Candidate, which: Which) -> Least
 }
 
 // The cheapest of those looked at.
-pub fn least_of(k: Kept, which: Which) -> Found
+pub(crate) fn least_of(k: Kept, which: Which) -> Found
     ensures { λ r. ⌜ r ≡ Choose.leastOf k which ⌝ }
 {
     let n = k.len;
@@ -107,20 +107,20 @@ pub fn least_of(k: Kept, which: Which) -> Found
     l.at
 }
 
-pub fn candidate_in(k: Kept, i: usize) -> Candidate
+pub(crate) fn candidate_in(k: Kept, i: usize) -> Candidate
     ensures { λ r. ⌜ r ≡ Keeping.candidateIn k i ⌝ }
 {
     if i < 8 {
         return k.v[i];
     }
-    candidates::keep::no_candidate()
+    crate::keep::no_candidate()
 }
 
 // Whether a candidate is the edge of a match.
-pub fn same_edge(c: Candidate, m: Matched) -> bool
+pub(crate) fn same_edge(c: Candidate, m: Matched) -> bool
     ensures { λ r. ⌜ r ≡ Choose.sameEdge c m ⌝ }
 {
-    candidates::score::is_on(c.found, m.tile, m.edge)
+    crate::score::is_on(c.found, m.tile, m.edge)
 }
 
 // The first candidate on the edge of a match.
@@ -150,7 +150,7 @@ fn beaten(challenger: Challenger, top: Candidate) -> u8
         Challenger::Nothing => 1,
         Challenger::Is(tile, edge, count) => {
             let found = top.found;
-            if !candidates::score::same_id(tile, found.tile) {
+            if !crate::score::same_id(tile, found.tile) {
                 return 1;
             }
             if edge != found.edge {
@@ -210,7 +210,7 @@ fn held(top: Candidate, kept: Candidate, m: Matched, challenger: Challenger) -> 
 }
 
 // The cheapest, or the edge already matched.
-pub fn chosen_by(current: Current, k: Kept, top: Candidate, challenger: Challenger) -> Choice
+pub(crate) fn chosen_by(current: Current, k: Kept, top: Candidate, challenger: Challenger) -> Choice
     ensures { λ r. ⌜ r ≡ Choose.chosenBy current k top challenger ⌝ }
 {
     match current {
@@ -229,7 +229,7 @@ pub fn chosen_by(current: Current, k: Kept, top: Candidate, challenger: Challeng
 }
 
 // Past the end of the edge the road goes on along one joined to it, if the rider is beside one and riding along it.
-pub fn past_node(choice: Choice, k: Kept) -> Choice
+pub(crate) fn past_node(choice: Choice, k: Kept) -> Choice
     ensures { λ r. ⌜ r ≡ Choose.pastNode choice k ⌝ }
 {
     let chosen = choice.chosen;

@@ -1,19 +1,19 @@
 // The candidates of the tiles around a fix, each tile by a lookup, and the match made of them.
+use crate::Current;
+use crate::Heading;
+use crate::Kept;
 use crate::Matcher;
 use crate::NearKeys;
 use crate::Outcome;
+use crate::Query;
 use crate::Updated;
 use cache::Cache;
 use cache::Got;
 use cache::Lookup;
-use candidates::Current;
-use candidates::Heading;
-use candidates::Kept;
-use candidates::Query;
+use cache::MaybeKey;
 use geo::Point;
 use pack::Header;
 use pack::TileKey;
-use pages::MaybeKey;
 ghost use mathlib.Core.Path.{_≡_};
 ghost use Prim.Native.Nat.{_≤_, _+_, _*_};
 ghost use lib.ListN.{length};
@@ -27,7 +27,7 @@ pub enum Ending {
 }
 
 // The candidates so far, the cache with clock and ages as the lookups left them, and how they ended.
-pub struct Gathered {
+pub(crate) struct Gathered {
     pub kept: Kept,
     pub cache: Cache,
     pub end: Ending,
@@ -37,10 +37,10 @@ pub struct Gathered {
 fn run_bytes(arena: &[u8], first: usize, len: usize) -> &[u8]
     ensures { λ r. ⌜ now r ≡ Gather.bytesOf (now (arena .entry)) first len ⌝ }
 {
-    if arena.len() / pages::PAGE_BYTES < first {
+    if arena.len() / cache::PAGE_BYTES < first {
         return &arena[..0];
     }
-    let at = first * pages::PAGE_BYTES;
+    let at = first * cache::PAGE_BYTES;
     if arena.len() - at < len {
         return &arena[..0];
     }
@@ -67,7 +67,7 @@ fn gathered_with(g: Gathered, got: Got, arena: &[u8], q: Query, key: TileKey) ->
             end: Ending::Stale,
         },
         Lookup::Ready(first, len) => {
-            let more = candidates::search(kept, q, run_bytes(arena, first, len));
+            let more = crate::search(kept, q, run_bytes(arena, first, len));
             Gathered {
                 kept: more,
                 cache,
@@ -102,7 +102,7 @@ fn gather(c: Cache, arena: &[u8], q: Query, near: NearKeys) -> Gathered
     ensures { λ r. ⌜ r ≡ Gather.gathered c (now (arena .entry)) q near ⌝ }
 {
     let mut g = Gathered {
-        kept: candidates::keep::none_kept(),
+        kept: crate::keep::none_kept(),
         cache: c,
         end: Ending::All,
     };

@@ -1,11 +1,11 @@
 // The tiles that a search around a fix needs: its own, and each neighbour within reach of the shared boundary.
 use crate::NearKey;
 use crate::NearKeys;
+use cache::MaybeKey;
 use geo::Point;
 use pack::Header;
 use pack::Keyed;
 use pack::TileKey;
-use pages::MaybeKey;
 ghost use mathlib.Core.Path.{_≡_};
 ghost use lib.IntN.{ℤ};
 ghost use Rattle.matcher.specs.Near as Near;
@@ -98,7 +98,7 @@ fn around(header: Header, fix: Point, key: TileKey) -> NearKeys
 }
 
 // The tiles around a point, none where it lies off the grid.
-pub fn near_of(header: Header, fix: Point) -> NearKeys
+pub(crate) fn near_of(header: Header, fix: Point) -> NearKeys
     ensures { λ r. ⌜ r ≡ Near.nearOf header fix ⌝ }
 {
     match pack::grid::key_of(header, fix.lat, fix.lon) {

@@ -1,15 +1,15 @@
 // The match that is made of the candidate chosen: its confidence, its direction, and the metres ridden; or, with no candidate, a miss.
+use crate::Candidate;
 use crate::Challenger;
+use crate::Current;
+use crate::Forward;
+use crate::Heading;
+use crate::Kept;
+use crate::Matched;
 use crate::Matcher;
 use crate::choose::Choice;
 use crate::choose::Which;
-use candidates::Candidate;
-use candidates::Current;
-use candidates::Forward;
-use candidates::Heading;
-use candidates::Kept;
-use candidates::Matched;
-use pages::victim::Found;
+use cache::victim::Found;
 ghost use mathlib.Core.Path.{_≡_};
 ghost use Rattle.matcher.specs.Settle as Settle;
 
@@ -111,7 +111,7 @@ fn direction(found: Matched, previous: Current) -> Forward
             Current::Nothing => Forward::Unknown,
             Current::Is(p) => {
                 let was = p.forward;
-                if candidates::score::is_on(p, found.tile, found.edge) {
+                if crate::score::is_on(p, found.tile, found.edge) {
                     return was;
                 }
                 Forward::Unknown
@@ -141,7 +141,7 @@ fn same_run(previous: Current, found: Matched, forward: Forward) -> bool
         Current::Nothing => false,
         Current::Is(p) => {
             let was = p.forward;
-            if candidates::score::is_on(p, found.tile, found.edge) {
+            if crate::score::is_on(p, found.tile, found.edge) {
                 return goes_on(was, forward);
             }
             false
@@ -241,7 +241,7 @@ fn missed(m: Matcher) -> Matcher
 }
 
 // The matcher after a search.
-pub fn matched(m: Matcher, k: Kept, heading: Heading) -> Matcher
+pub(crate) fn matched(m: Matcher, k: Kept, heading: Heading) -> Matcher
     ensures { λ r. ⌜ r ≡ Settle.matched m k heading ⌝ }
 {
     match crate::choose::least_of(k, Which::All) {

@@ -1,11 +1,11 @@
 // Number 12 for a matcher, and the refusals of a call.
 use crate::Challenger;
+use crate::Current;
+use crate::Heading;
 use crate::Matcher;
 use crate::Outcome;
 use crate::Updated;
 use cache::Cache;
-use candidates::Current;
-use candidates::Heading;
 use pack::Header;
 ghost use mathlib.Core.Path.{_≡_};
 ghost use Rattle.matcher.specs.State as State;
@@ -64,7 +64,7 @@ fn key_ok(current: Current, header: Header) -> bool
 }
 
 // The causes of number 12 in a call that is given matcher, cache, header and an arena of `size` bytes.
-pub fn call_ok(m: Matcher, c: Cache, header: Header, size: usize) -> bool
+pub(crate) fn call_ok(m: Matcher, c: Cache, header: Header, size: usize) -> bool
     ensures { λ r. ⌜ r ≡ State.callOk m c header size ⌝ }
 {
     if !cache::state::cache_ok(c, header, size) {
@@ -87,7 +87,7 @@ pub fn heading_ok(heading: Heading) -> bool
     }
 }
 
-pub fn refused(m: Matcher, c: Cache, number: u32) -> Updated
+pub(crate) fn refused(m: Matcher, c: Cache, number: u32) -> Updated
     ensures { λ r. ⌜ r ≡ State.refused m c number ⌝ }
 {
     Updated {

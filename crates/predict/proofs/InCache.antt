@@ -10,11 +10,11 @@ use Rattle.pack.specs.declared.Header.{Header}
 use Rattle.pack.specs.declared.TileKey.{TileKey}
 use Rattle.cache.specs.declared.Cache.{Cache}
 use Rattle.cache.specs.Direct.{looked}
-use Rattle.ages.specs.declared.Carried.{Carried}
-use Rattle.ages.specs.Ages.{carriedOf}
-use Rattle.ages.specs.Reader.{inCache, Stands}
-use Rattle.candidates.specs.declared.Forward.the-variants as Forward
-use Rattle.candidates.specs.declared.Matched.{Matched}
+use Rattle.cache.specs.declared.Carried.{Carried}
+use Rattle.cache.specs.Ages.{carriedOf}
+use Rattle.cache.specs.Reader.{inCache, Stands}
+use Rattle.matcher.specs.declared.Forward.the-variants as Forward
+use Rattle.matcher.specs.declared.Matched.{Matched}
 use Rattle.predict.specs.Predict.{Forecast, startOver, forecastOver, After, cacheAfter, predictedIn, afterOf, fromStart}
 use Rattle.predict.proofs.RoadLaws.{AlikeForecast, forecast-in-cache}
 

@@ -1,3 +1,32 @@
+-- Laws of the samples, for their proofs.
+-- SampleLiterals: the figures that the code writes as literals. Signed: a difference of two i32 fits 64 bits. SampleTurns: the turns of `pushed`. Lent: what
+-- the walks of `push` and `push_on` share.
+mod Lent
+pub mod SampleLiterals
+pub mod Signed
+pub mod SampleTurns
+-- Laws of the ways on from a junction, for their proofs.
+-- CostLiterals: the figures that the code writes as literals. WayLaws: a place of a list that is there, and a pair of tests that fails.
+pub mod CostLiterals
+pub mod WayLaws
+-- Laws of the track, for its proofs and for callers to cite.
+-- TrackLaws: what stands past the points passed last, and the highest number that has a property, looked for downward. Shift: a list whose places
+-- take the next one's. Turns: a loop whose step does nothing any more. VertexLaws, BackLaws: the points of a leg one after the other, ahead and
+-- back.
+pub mod TrackLaws
+pub mod Shift
+pub mod Turns
+pub mod VertexLaws
+pub mod BackLaws
+-- Laws of a junction, for callers to cite. CrossLaws: its lookups by two readers, and by two looks that agree. ForkLaws: equal lowest costs.
+pub mod CrossLaws
+pub mod ForkLaws
+-- Laws of a walk, for its proofs and for callers to cite. Arms: what an arm of several variants knows. FollowLaws: the turns of `follow`.
+-- Looks: the lookups of the cache. WalkLaws: its edges one by one, by two readers, and by two looks that agree.
+pub mod Arms
+pub mod FollowLaws
+pub mod Looks
+pub mod WalkLaws
 -- Laws of the road ahead, for its proofs and for callers to cite. RoadLaws: by two readers, in the cache, and by two looks that agree.
 -- InCache: what the code answers. Literals: the figure that the code writes.
 pub mod RoadLaws

@@ -13,24 +13,24 @@ use Rattle.pack.specs.declared.TileKey.{TileKey}
 use Rattle.tile.specs.Layout as Layout
 use Rattle.cache.specs.declared.Cache.{Cache}
 use Rattle.cache.specs.Direct.{Look, ready, missing, absent, stale, look, settled, Agree}
-use Rattle.ages.specs.declared.Carried.{Carried}
-use Rattle.ages.specs.Ages.{carriedOf}
-use Rattle.ages.specs.Reader.{Reader, plain, inCache, Stands}
-use Rattle.ages.proofs.ReaderLaws.{stands-start, stands-at, stands-found}
-use Rattle.candidates.specs.declared.Forward.{Forward}
-use Rattle.candidates.specs.declared.Forward.the-variants as Forward
-use Rattle.candidates.specs.declared.Matched.{Matched}
-use Rattle.candidates.specs.Score.{sameId}
-use Rattle.track.specs.declared.Trip.{Trip}
-use Rattle.track.specs.declared.ridden.Behind.{Behind}
-use Rattle.track.specs.Start.{startOk}
-use Rattle.junction.specs.declared.Ending.{Ending}
-use Rattle.junction.specs.declared.Ending.the-variants as Ending
-use Rattle.junction.specs.Meets.{budget}
-use Rattle.junction.proofs.CrossLaws.{isSettled}
-use Rattle.walk.specs.declared.Walk.{Walk}
-use Rattle.walk.specs.Walk.{Run}
-use Rattle.walk.proofs.WalkLaws.{AlikeRun, walk-simulates, walk-agrees}
+use Rattle.cache.specs.declared.Carried.{Carried}
+use Rattle.cache.specs.Ages.{carriedOf}
+use Rattle.cache.specs.Reader.{Reader, plain, inCache, Stands}
+use Rattle.cache.proofs.ReaderLaws.{stands-start, stands-at, stands-found}
+use Rattle.matcher.specs.declared.Forward.{Forward}
+use Rattle.matcher.specs.declared.Forward.the-variants as Forward
+use Rattle.matcher.specs.declared.Matched.{Matched}
+use Rattle.matcher.specs.Score.{sameId}
+use Rattle.predict.specs.declared.Trip.{Trip}
+use Rattle.predict.specs.declared.ridden.Behind.{Behind}
+use Rattle.predict.specs.Start.{startOk}
+use Rattle.predict.specs.declared.Ending.{Ending}
+use Rattle.predict.specs.declared.Ending.the-variants as Ending
+use Rattle.predict.specs.Meets.{budget}
+use Rattle.predict.proofs.CrossLaws.{isSettled}
+use Rattle.predict.specs.declared.Walk.{Walk}
+use Rattle.predict.specs.Walk.{Run}
+use Rattle.predict.proofs.WalkLaws.{AlikeRun, walk-simulates, walk-agrees}
 use Rattle.predict.specs.declared.Outcome.{Outcome}
 use Rattle.predict.specs.declared.Outcome.the-variants as Outcome
 use Rattle.predict.specs.Predict.{outcomeBy, outcome, Forecast, forecastOf, tripOf}

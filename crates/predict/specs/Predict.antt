@@ -20,30 +20,30 @@ use Rattle.geo.specs.Flat.{whole}
 use Rattle.cache.specs.declared.Cache.{Cache}
 use Rattle.cache.specs.State.{cacheOk}
 use Rattle.cache.specs.Direct.{Look, ready, missing, absent, stale, look, looked}
-use Rattle.ages.specs.declared.Carried.{Carried}
-use Rattle.ages.specs.Ages.{carriedOf, aged}
-use Rattle.ages.specs.Reader.{Reader, plain, inCache}
-use Rattle.candidates.specs.declared.Forward.{Forward}
-use Rattle.candidates.specs.declared.Forward.the-variants as Forward
-use Rattle.candidates.specs.declared.Heading.the-variants as Heading
-use Rattle.candidates.specs.declared.Matched.{Matched}
-use Rattle.candidates.specs.Score.{sameId}
-use Rattle.samples.specs.declared.Mark.{Mark}
-use Rattle.samples.specs.Samples.{pushed}
-use Rattle.ways.specs.declared.outgoing.Leg.{Leg}
-use Rattle.track.specs.declared.Trip.{Trip}
-use Rattle.track.specs.declared.ridden.Behind.{Behind}
-use Rattle.track.specs.Start.{startOk, firstOf, place}
-use Rattle.track.specs.Incoming.{first}
-use Rattle.track.specs.Ridden as Ridden
-use Rattle.junction.specs.declared.End.{End}
-use Rattle.junction.specs.declared.End.the-variants as End
-use Rattle.junction.specs.declared.Ending.{Ending}
-use Rattle.junction.specs.declared.Ending.the-variants as Ending
-use Rattle.junction.specs.Meets.{nothingMet, budget}
-use Rattle.junction.specs.Visits.{nothingVisited}
-use Rattle.walk.specs.declared.Walk.{Walk}
-use Rattle.walk.specs.Walk.{Run, walkOver}
+use Rattle.cache.specs.declared.Carried.{Carried}
+use Rattle.cache.specs.Ages.{carriedOf, aged}
+use Rattle.cache.specs.Reader.{Reader, plain, inCache}
+use Rattle.matcher.specs.declared.Forward.{Forward}
+use Rattle.matcher.specs.declared.Forward.the-variants as Forward
+use Rattle.matcher.specs.declared.Heading.the-variants as Heading
+use Rattle.matcher.specs.declared.Matched.{Matched}
+use Rattle.matcher.specs.Score.{sameId}
+use Rattle.predict.specs.declared.Mark.{Mark}
+use Rattle.predict.specs.Samples.{pushed}
+use Rattle.predict.specs.declared.outgoing.Leg.{Leg}
+use Rattle.predict.specs.declared.Trip.{Trip}
+use Rattle.predict.specs.declared.ridden.Behind.{Behind}
+use Rattle.predict.specs.Start.{startOk, firstOf, place}
+use Rattle.predict.specs.Incoming.{first}
+use Rattle.predict.specs.Ridden as Ridden
+use Rattle.predict.specs.declared.End.{End}
+use Rattle.predict.specs.declared.End.the-variants as End
+use Rattle.predict.specs.declared.Ending.{Ending}
+use Rattle.predict.specs.declared.Ending.the-variants as Ending
+use Rattle.predict.specs.Meets.{nothingMet, budget}
+use Rattle.predict.specs.Visits.{nothingVisited}
+use Rattle.predict.specs.declared.Walk.{Walk}
+use Rattle.predict.specs.Walk.{Run, walkOver}
 use Rattle.predict.specs.declared.Outcome.{Outcome}
 use Rattle.predict.specs.declared.Outcome.the-variants as Outcome
 use Rattle.predict.specs.declared.Predicted.{Predicted}

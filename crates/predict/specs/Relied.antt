@@ -9,7 +9,7 @@ use lib.Ieee.{Float}
 use Rattle.pack.specs.declared.Header.{Header}
 use Rattle.pack.specs.declared.TileKey.{TileKey}
 use Rattle.cache.specs.Direct.{Look, Agree}
-use Rattle.candidates.specs.declared.Matched.{Matched}
+use Rattle.matcher.specs.declared.Matched.{Matched}
 use Rattle.predict.specs.declared.Outcome.{Outcome}
 use Rattle.predict.specs.declared.Outcome.the-variants as Outcome
 use Rattle.predict.specs.Predict.{predictOver}

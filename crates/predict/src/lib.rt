@@ -1,17 +1,188 @@
 // The most likely road ahead, and its elevation every 20 m: the Rust's predict.rs.
 //
-// From the matched point the walk follows the edge in the travel direction (crates `track` and `walk`). At a junction it scores every way on
-// (crates `ways` and `junction`), and stops where two are about as likely. Each decision lowers the confidence a little, more when it was
-// close.
+// From the matched point the walk follows the edge in the travel direction. At a junction it scores every way on, and stops where two are
+// about as likely. Each decision lowers the confidence a little, more when it was close.
+//
+// `samples` has the heights, with the mark and the heights lent side by side; `start`, `vertex`, `incoming` and `ridden` move along one edge
+// and look no tile up; `twins`, `outgoing`, `cost` and `choose` have the ways on from a junction, `visits`, `meets`, `consider`, `cross` and
+// `decide` the one that is taken; `turn`, `enter` and `follow` go from edge to edge up to the horizon; `road` is the whole.
+pub mod choose;
+mod consider;
+mod cost;
+mod cross;
+mod decide;
+mod enter;
+mod follow;
+mod incoming;
+mod meets;
+pub mod outgoing;
+pub mod ridden;
 pub mod road;
+mod samples;
+mod start;
+mod turn;
+pub mod twins;
+mod vertex;
+mod visits;
 
+use crate::cost::Bound;
+use crate::cost::Road;
 use cache::Cache;
-use candidates::Matched;
-use junction::End;
+use cache::Carried;
+use cache::MaybeKey;
+use geo::Point;
+use matcher::Heading;
+use matcher::Matched;
 use pack::Header;
 use pack::TileKey;
-ghost use mathlib.Core.Path.{_≡_};
 ghost use Rattle.predict.specs.Predict as Predict;
+ghost use mathlib.Core.Path.{_≡_};
+
+// How many samples are written, and the last road point: its distance, and its height in decimetres.
+pub struct Mark {
+    pub len: usize,
+    pub distance: f32,
+    pub z: i32,
+}
+
+// An edge of a tile, and the direction in which it is followed.
+pub(crate) struct Way {
+    pub tile: TileKey,
+    pub edge: u16,
+    pub forward: bool,
+}
+
+pub struct Choice {
+    pub way: Way,
+    pub cost: f32,
+}
+
+// The choices of a junction, at most twelve, and how many they are.
+pub struct Choices {
+    pub v: [Choice; 12],
+    pub len: usize,
+}
+
+// What a road ahead is worked out for: the map, how far, and the rider's height in decimetres.
+pub struct Trip {
+    pub header: Header,
+    pub horizon_m: f32,
+    pub z_dm: i32,
+}
+
+// A point passed, and how far along the road it lies.
+pub(crate) struct Passed {
+    pub point: Point,
+    pub distance: f32,
+}
+
+// The points passed last, at most sixteen, the oldest first, and how many they are.
+pub(crate) struct History {
+    pub v: [Passed; 16],
+    pub len: usize,
+}
+
+// How far the road has been followed. It is over at the horizon, or with the last sample.
+pub struct Track {
+    pub here: Point,
+    pub distance: f32,
+    pub mark: Mark,
+    pub history: History,
+    pub over: bool,
+}
+
+// Why the road ahead stops where it does.
+pub enum End {
+    // The full horizon was followed.
+    Horizon,
+    // Two ways ahead are about as likely: the road splits here.
+    Fork,
+    // The road ends.
+    DeadEnd,
+    // The road leaves the pack.
+    MapEdge,
+    // Too many close decisions, or no travel direction yet.
+    Uncertain,
+    // The road ahead touches more tiles than the cache holds.
+    Memory,
+}
+
+// How a walk stands: it goes on; the road stops; a tile that is not loaded; a ready run that no longer passes.
+pub enum Ending {
+    Going,
+    Stops(End),
+    Need(TileKey),
+    Stale,
+}
+
+// An edge that was followed.
+pub(crate) struct Followed {
+    pub tile: MaybeKey,
+    pub edge: u16,
+}
+
+// The edges followed last, and the place that the next one takes.
+pub struct Visited {
+    pub v: [Followed; 128],
+    pub next: usize,
+}
+
+// A tile that the road touches.
+pub(crate) struct MetTile {
+    pub key: MaybeKey,
+}
+
+// They, how many they are, and the pages that they take.
+pub(crate) struct Met {
+    pub v: [MetTile; 96],
+    pub len: usize,
+    pub pages: usize,
+}
+
+// How the walk comes to a junction: the way it came by, the heading that turns are judged by, and the road that it follows.
+pub struct Arrival {
+    pub header: Header,
+    pub way: Way,
+    pub bound: Bound,
+    pub road: Road,
+}
+
+// The ways on, whether one may lie off the map, and how the lookups of the tiles that share the node ended.
+pub(crate) struct Crossing {
+    pub choices: Choices,
+    pub blocked: bool,
+    pub ending: Ending,
+    pub carried: Carried,
+}
+
+// The way that is taken, and how sure the road is after it.
+pub struct Decision {
+    pub ending: Ending,
+    pub way: Way,
+    pub confidence: f32,
+}
+
+// A walk before an edge: the way it takes, and the number of the first point along it that lies ahead; how far it has come; the edges and
+// tiles behind it; the heading with which a roundabout was entered, and that of the approach to one; the road that it prefers; how sure it is;
+// and whether it goes on.
+pub struct Walk {
+    pub way: Way,
+    pub from: u32,
+    pub track: Track,
+    pub visited: Visited,
+    pub met: Met,
+    pub entry: Heading,
+    pub approach: f32,
+    pub road: Road,
+    pub confidence: f32,
+    pub ending: Ending,
+}
+
+// A walk, and what its lookups carry.
+pub(crate) struct Step {
+    pub walk: Walk,
+    pub carried: Carried,
+}
 
 // Samples for 10 km, both ends included.
 pub const MAX_SAMPLES: usize = 501;

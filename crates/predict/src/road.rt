@@ -1,31 +1,31 @@
 // The road ahead of a start, once the state and the start's key have passed.
+use crate::End;
+use crate::Ending;
+use crate::Mark;
 use crate::Outcome;
 use crate::Predicted;
 use crate::Prediction;
-use ages::Carried;
+use crate::Step;
+use crate::Track;
+use crate::Trip;
+use crate::Walk;
+use crate::Way;
+use crate::cost::Road;
+use crate::outgoing::Leg;
+use crate::ridden::Behind;
 use cache::Cache;
+use cache::Carried;
 use cache::Lookup;
-use candidates::Forward;
-use candidates::Heading;
-use candidates::Matched;
 use geo::Point;
-use junction::End;
-use junction::Ending;
+use matcher::Forward;
+use matcher::Heading;
+use matcher::Matched;
 use pack::Header;
-use samples::Mark;
 use tile::Edge;
-use track::Track;
-use track::Trip;
-use track::ridden::Behind;
-use walk::Step;
-use walk::Walk;
-use ways::Way;
-use ways::cost::Road;
-use ways::outgoing::Leg;
 ghost use mathlib.Core.Path.{_≡_};
 ghost use Rattle.predict.specs.Predict as Predict;
 
-pub fn refused(c: Cache, number: u32) -> Predicted
+pub(crate) fn refused(c: Cache, number: u32) -> Predicted
     ensures { λ r. ⌜ r ≡ Predict.refused c number ⌝ }
 {
     Predicted {
@@ -90,11 +90,11 @@ fn closed(c: Cache, carried: Carried, answer: Outcome) -> Predicted
             if number == 12 {
                 return refused(c, 12);
             }
-            let d = ages::aged(c, carried);
+            let d = cache::ages::aged(c, carried);
             Predicted { answer, cache: d }
         }
         Outcome::Road(_) | Outcome::Need(_) | Outcome::Rematch => {
-            let d = ages::aged(c, carried);
+            let d = cache::ages::aged(c, carried);
             Predicted { answer, cache: d }
         }
     }
@@ -121,7 +121,7 @@ fn walk_from(start: Matched, leg: Leg, here: Point, mark: Mark) -> Walk
         edge: start.edge,
         forward: leg.forward,
     };
-    let history = track::incoming::first(here);
+    let history = crate::incoming::first(here);
     let t = Track {
         here,
         distance: 0.0,
@@ -134,11 +134,11 @@ fn walk_from(start: Matched, leg: Leg, here: Point, mark: Mark) -> Walk
         group: edge.group,
         flags: edge.flags,
     };
-    let visited = junction::visits::nothing_visited();
-    let met = junction::meets::nothing_met();
+    let visited = crate::visits::nothing_visited();
+    let met = crate::meets::nothing_met();
     Walk {
         way,
-        from: track::start::first_of(leg, start.segment),
+        from: crate::start::first_of(leg, start.segment),
         track: t,
         visited,
         met,
@@ -183,19 +183,19 @@ fn road_of(
     let header = trip.header;
     let head = tile::read::head(bytes);
     let edge = tile::raw::edge(bytes, start.edge);
-    let here = track::start::place(header, bytes, edge, start);
+    let here = crate::start::place(header, bytes, edge, start);
     let back = leg_of(header, start, edge, !forward);
-    let b = track::ridden::ridden(trip, back, bytes, head.lon_um, start, here, behind);
+    let b = crate::ridden::ridden(trip, back, bytes, head.lon_um, start, here, behind);
     let none = no_mark();
-    let mark = samples::push_on(none, samples, 0.0, 0);
+    let mark = crate::samples::push_on(none, samples, 0.0, 0);
     let leg = leg_of(header, start, edge, forward);
     let w = walk_from(start, leg, here, mark);
     let g = c.pages;
-    let s = walk::follow::follow(
+    let s = crate::follow::follow(
         c,
         arena,
         trip,
-        junction::meets::budget(g.count),
+        crate::meets::budget(g.count),
         w,
         carried,
         samples,
@@ -223,10 +223,10 @@ fn from_tile(
     ensures { λ r. ⌜ now (behind .exit) ≡ Predict.fromTile c (now (arena .entry)) trip start forward carried (now (bytes .entry)) (now (samples .entry)) (now (behind .entry)) .behind ⌝ }
 {
     let id = tile::read::id(bytes);
-    if !candidates::score::same_id(id, start.tile) {
+    if !matcher::score::same_id(id, start.tile) {
         return closed(c, carried, Outcome::Rematch);
     }
-    if !track::start::start_ok(bytes, start) {
+    if !crate::start::start_ok(bytes, start) {
         return closed(c, carried, Outcome::Refused(10));
     }
     road_of(
@@ -259,8 +259,8 @@ fn from_start(
 {
     let id = start.tile;
     let key = id.key;
-    let none = ages::carried_of(c);
-    let hit = ages::look_up(c, arena, header.tile, none, key);
+    let none = cache::ages::carried_of(c);
+    let hit = cache::ages::look_up(c, arena, header.tile, none, key);
     let answer = hit.answer;
     let carried = hit.carried;
     match answer {
@@ -273,7 +273,7 @@ fn from_start(
                 horizon_m,
                 z_dm: start.z_dm,
             };
-            let bytes = ages::run_bytes(arena, first, len);
+            let bytes = cache::ages::run_bytes(arena, first, len);
             from_tile(
                 c,
                 arena,

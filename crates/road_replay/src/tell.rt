@@ -2,10 +2,10 @@
 use crate::Ended;
 use crate::Heights;
 use cache_replay::words;
-use junction::End;
 use match_replay::State;
 use match_replay::figures::pattern;
 use predict::BEHIND_SAMPLES;
+use predict::End;
 use predict::MAX_SAMPLES;
 use predict::Prediction;
 

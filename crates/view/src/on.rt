@@ -12,10 +12,10 @@ pub fn run<'a>(arena: &'a [u8], first: usize, len: usize) -> &'a [u8]
     ensures { λ r. ⌜ now r ≡ Lookups.runBytes (now (arena .entry)) first len ⌝ }
 {
     let end = arena.len();
-    if end / pages::PAGE_BYTES < first {
+    if end / cache::PAGE_BYTES < first {
         return &arena[end..];
     }
-    let at = first * pages::PAGE_BYTES;
+    let at = first * cache::PAGE_BYTES;
     if end - at < len {
         return &arena[at..];
     }

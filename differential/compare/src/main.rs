@@ -33,7 +33,15 @@ mod random;
 mod road;
 mod tally;
 
-use std::{env, process::ExitCode};
+use std::{
+    env,
+    process::ExitCode,
+    sync::{
+        Mutex,
+        atomic::{AtomicUsize, Ordering},
+    },
+    thread,
+};
 use tally::Tally;
 
 /// How much is compared.
@@ -80,11 +88,36 @@ const FULL: Scale = Scale {
     engines: 4_000,
 };
 
+/// Every part, on as many threads as there are processors where a part takes one itself: each
+/// thread takes the next part that is left. The tallies come in the parts' order.
 fn compare(scale: &Scale) -> Vec<Tally> {
-    let leaves = [numbers::compare(scale), crc::compare(scale), angles::compare(scale)];
-    let rest = [format_and_geometry(scale), cache::compare(scale), matching::compare(scale)];
-    let last = [road::compare(scale), engine::compare(scale), drive::compare()];
-    leaves.into_iter().chain(rest).chain(last).flatten().collect()
+    let parts: [fn(&Scale) -> Vec<Tally>; 9] = [
+        numbers::compare,
+        engine::compare,
+        matching::compare,
+        road::compare,
+        cache::compare,
+        format_and_geometry,
+        crc::compare,
+        angles::compare,
+        |_| drive::compare(),
+    ];
+    let next = AtomicUsize::new(0);
+    let done = Mutex::new(parts.map(|_| Vec::new()));
+    let workers = thread::available_parallelism().map_or(1, usize::from) as u64 / scale.threads;
+    thread::scope(|all| {
+        for _ in 0..workers.max(1) {
+            all.spawn(|| {
+                loop {
+                    let at = next.fetch_add(1, Ordering::Relaxed);
+                    let Some(part) = parts.get(at) else { break };
+                    let tallies = part(scale);
+                    done.lock().unwrap()[at] = tallies;
+                }
+            });
+        }
+    });
+    done.into_inner().unwrap().into_iter().flatten().collect()
 }
 
 fn format_and_geometry(scale: &Scale) -> Vec<Tally> {

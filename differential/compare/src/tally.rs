@@ -31,7 +31,6 @@ impl Tally {
         step: impl Fn(&mut Self, &mut Random, u64) + Sync,
     ) -> Self {
         let start = Instant::now();
-        eprint!("{name} .. ");
         let part = &|k: u64| {
             let (mut tally, mut random) = (Self::new(name), Random(k));
             let range = total * k / scale.threads..total * (k + 1) / scale.threads;
@@ -42,7 +41,7 @@ impl Tally {
             let parts: Vec<_> = (0..scale.threads).map(|k| scope.spawn(move || part(k))).collect();
             parts.into_iter().map(|part| part.join().unwrap()).fold(Self::new(name), Self::add)
         });
-        eprintln!("{:.1} s", start.elapsed().as_secs_f64());
+        eprintln!("{name} .. {:.1} s", start.elapsed().as_secs_f64());
         tally
     }
 

@@ -3,7 +3,7 @@ use Prim.Native.Nat.{ℕ, _≤_, _-_}
 use mathlib.Core.Path.{_≡_, sym, _∙_}
 use native.Mathlib.Omega.{arith}
 use borrow.Author.Needs.{needs}
-use Rattle.pages.specs.declared.victim.Found.the-variants as Found
+use Rattle.cache.specs.declared.victim.Found.the-variants as Found
 use Rattle.cache.specs.Keys.{holds, keyAt, inRing}
 use Rattle.cache.specs.Search.{lowest}
 use Rattle.cache.proofs.SearchLaws.{lowest-start, lowest-hit, lowest-miss}

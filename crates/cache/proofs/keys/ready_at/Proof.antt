@@ -8,9 +8,9 @@ use native.Mathlib.Omega.{arith}
 use lib.ListN.{length, length-map, List·getD-eq-default}
 use borrow.Author.Needs.{needs}
 use Rattle.pack.specs.declared.TileKey.{TileKey}
-use Rattle.pages.specs.declared.Slot.{Slot}
-use Rattle.pages.specs.declared.victim.Found.the-variants as Found
-use Rattle.pages.specs.Runs.{emptySlot, slotAt}
+use Rattle.cache.specs.declared.Slot.{Slot}
+use Rattle.cache.specs.declared.victim.Found.the-variants as Found
+use Rattle.cache.specs.Runs.{emptySlot, slotAt}
 use Rattle.cache.specs.Keys.{isReady, readyAt}
 use Rattle.cache.specs.Search.{lowest}
 use Rattle.cache.proofs.SearchLaws.{lowest-start, lowest-hit, lowest-miss, lowest-past}

@@ -8,11 +8,11 @@ use borrow.Author.Needs.{needs}
 use borrow.Author.Tests.{not-true, not-false, le-leb, lt-leb}
 use Rattle.pack.proofs.Signed.{got}
 use Rattle.pack.specs.Grid.{isPoint}
-use Rattle.pages.specs.declared.victim.Found.the-variants as Found
+use Rattle.cache.specs.declared.victim.Found.the-variants as Found
 use Rattle.cache.specs.Search.{lowest}
 use Rattle.cache.proofs.SearchLaws.{lowest-start, lowest-hit, lowest-miss}
-use Rattle.follower.specs.Fixes.{placeAt}
-use Rattle.follower.specs.declared.Places.{Places}
+use Rattle.engine.specs.Fixes.{placeAt}
+use Rattle.engine.specs.declared.Places.{Places}
 use Rattle.engine.specs.State.{placesOk}
 use Rattle.engine.proofs.state.places_ok.Statement.{statement}
 use Rattle.engine.proofs.state.places_ok.Tie as tie

@@ -4,8 +4,8 @@ use mathlib.Core.Path.{_≡_, sym, _∙_}
 use native.Mathlib.Omega.{arith}
 use lib.ListN.{length, length-map, List·getD-eq-default}
 use borrow.Author.Needs.{needs}
-use Rattle.candidates.specs.Keeping.{noCandidate}
-use Rattle.candidates.proofs.KeepLaws.{at-any}
+use Rattle.matcher.specs.Keeping.{noCandidate}
+use Rattle.matcher.proofs.KeepLaws.{at-any}
 use Rattle.matcher.proofs.choose.candidate_in.Statement.{statement}
 use Rattle.matcher.proofs.choose.candidate_in.Tie as tie
 

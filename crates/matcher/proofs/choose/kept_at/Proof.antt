@@ -8,11 +8,11 @@ use lib.Dec.{ltb}
 use lib.ListN.{length, length-map}
 use borrow.Author.Needs.{needs}
 use borrow.Author.Tests.{lt-ltb, le-ltb}
-use Rattle.pages.specs.declared.victim.Found.the-variants as Found
+use Rattle.cache.specs.declared.victim.Found.the-variants as Found
 use Rattle.cache.specs.Search.{lowest}
 use Rattle.cache.proofs.SearchLaws.{lowest-start, lowest-hit, lowest-miss, lowest-past}
-use Rattle.candidates.specs.Keeping.{noCandidate, candidateIn}
-use Rattle.candidates.proofs.KeepLaws.{at-any}
+use Rattle.matcher.specs.Keeping.{noCandidate, candidateIn}
+use Rattle.matcher.proofs.KeepLaws.{at-any}
 use Rattle.matcher.specs.Choose.{sameEdge, keptAt}
 use Rattle.matcher.proofs.choose.kept_at.Statement.{statement}
 use Rattle.matcher.proofs.choose.kept_at.Tie as tie

@@ -8,8 +8,8 @@ use borrow.Author.Needs.{needs}
 use Rattle.num.specs.Fold.{upTo}
 use Rattle.num.proofs.FoldLaws.{up-start, up-turn}
 use Rattle.geo.proofs.Literals.{literal-0}
-use Rattle.candidates.specs.Keeping.{noCandidate, candidateIn}
-use Rattle.candidates.proofs.KeepLaws.{at-any}
+use Rattle.matcher.specs.Keeping.{noCandidate, candidateIn}
+use Rattle.matcher.proofs.KeepLaws.{at-any}
 use Rattle.matcher.specs.declared.choose.Least.{Least}
 use Rattle.matcher.specs.Choose.{leastStep, leastTo}
 use Rattle.matcher.proofs.choose.least_of.Statement.{statement}

@@ -6,8 +6,8 @@ use mathlib.Core.List.{List}
 use native.Mathlib.Omega.{arith}
 use borrow.Author.Needs.{needs}
 use Rattle.cache.specs.Direct.{look}
-use Rattle.pages.specs.declared.MaybeKey.the-variants as MaybeKey
-use Rattle.candidates.specs.declared.Query.{Query}
+use Rattle.cache.specs.declared.MaybeKey.the-variants as MaybeKey
+use Rattle.matcher.specs.declared.Query.{Query}
 use Rattle.matcher.specs.declared.gather.Ending.{Ending}
 use Rattle.matcher.specs.declared.gather.Ending.the-variants as Ending
 use Rattle.matcher.specs.declared.gather.Gathered.{Gathered}

@@ -2,7 +2,7 @@
 use mathlib.Core.Path.{sym, ap, _∙_}
 use borrow.Author.Needs.{needs}
 use Rattle.cache.specs.declared.Got.{Got}
-use Rattle.pages.specs.declared.MaybeKey.the-variants as MaybeKey
+use Rattle.cache.specs.declared.MaybeKey.the-variants as MaybeKey
 use Rattle.matcher.specs.declared.gather.Ending.{Ending}
 use Rattle.matcher.specs.Gather.{gatheredWith, gatherBy}
 use Rattle.matcher.proofs.gather.gather_step.Statement.{statement}

@@ -8,7 +8,7 @@ use Rattle.pack.specs.declared.Header.{Header}
 use Rattle.geo.specs.declared.Point.{Point}
 use Rattle.cache.specs.declared.Cache.{Cache}
 use Rattle.cache.specs.Direct.{look, looked}
-use Rattle.candidates.specs.declared.Heading.{Heading}
+use Rattle.matcher.specs.declared.Heading.{Heading}
 use Rattle.matcher.specs.declared.Matcher.{Matcher}
 use Rattle.matcher.specs.declared.Outcome.the-variants as Outcome
 use Rattle.matcher.specs.declared.Updated.{Updated}

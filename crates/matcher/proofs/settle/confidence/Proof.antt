@@ -1,6 +1,6 @@
 -- `matcher::settle::confidence` meets its contract: by the answers of the callees, with the literals read as whole numbers. Assumes nothing.
 use Rattle.geo.proofs.Literals.{literal-0, literal-1}
-use Rattle.candidates.proofs.Literals.{literal-40}
+use Rattle.matcher.proofs.ScoreLiterals.{literal-40}
 use Rattle.matcher.specs.Settle.{confidence}
 use Rattle.matcher.proofs.Literals.{literal-2, literal-100}
 use Rattle.matcher.proofs.settle.confidence.Statement.{statement}

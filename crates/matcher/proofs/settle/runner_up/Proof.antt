@@ -6,8 +6,8 @@ use native.Mathlib.Omega.{arith}
 use lib.ListN.{length, length-map}
 use borrow.Author.Needs.{needs}
 use Rattle.num.proofs.FoldLaws.{up-start, up-turn}
-use Rattle.candidates.specs.Keeping.{noCandidate}
-use Rattle.candidates.proofs.KeepLaws.{at-any}
+use Rattle.matcher.specs.Keeping.{noCandidate}
+use Rattle.matcher.proofs.KeepLaws.{at-any}
 use Rattle.matcher.specs.Settle.{runnerTo}
 use Rattle.matcher.proofs.Literals.{infinite}
 use Rattle.matcher.proofs.settle.runner_up.Statement.{statement}

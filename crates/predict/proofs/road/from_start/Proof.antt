@@ -4,8 +4,8 @@ use mir.Syntax.{w32}
 use denote.Ref.{now}
 use borrow.Author.Needs.{needs}
 use Rattle.pack.proofs.Signed.{got}
-use Rattle.ages.specs.Ages.{carriedOf}
-use Rattle.walk.proofs.Looks.{look-carried}
+use Rattle.cache.specs.Ages.{carriedOf}
+use Rattle.predict.proofs.Looks.{look-carried}
 use Rattle.predict.specs.Predict.{fromTile, fromStart}
 use Rattle.predict.proofs.road.from_start.Statement.{statement}
 use Rattle.predict.proofs.road.from_start.Tie as tie

@@ -2,7 +2,7 @@
 -- number. Assumes nothing.
 use borrow.Author.Needs.{needs}
 use Rattle.geo.proofs.Literals.{literal-0}
-use Rattle.walk.specs.Walk.{follow}
+use Rattle.predict.specs.Walk.{follow}
 use Rattle.predict.specs.Predict.{roadOver, roadOf}
 use Rattle.predict.proofs.road.road_of.Statement.{statement}
 use Rattle.predict.proofs.road.road_of.Tie as tie

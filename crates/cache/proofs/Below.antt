@@ -1,0 +1,71 @@
+-- Cases on two numbers, and the laws of `allBelow`: of no number, of one more, of one that misses, of all, and both ways between the
+-- test and each number. Assumes nothing.
+use Prim.Native.Nat.{ℕ, zero, suc, _+_, _<_, _≤_}
+use mathlib.Core.Path.{_≡_, refl, sym, ap, _∙_}
+use mathlib.Core.Bool.{Bool, true, false, _&&_, true≢false}
+use mathlib.Core.Logic.{_⊎_, inl, inr, ⊎-elim}
+use native.Mathlib.Numerals.{add-one}
+use native.Mathlib.Omega.{arith}
+use lib.Dec.{ltb, eqb}
+use borrow.Author.Tests.{ltb-true, ltb-false, eqb-true, eqb-false}
+use Rattle.cache.specs.Runs.{allBelow}
+
+-- ---- cases
+
+pub below-or : (a b : ℕ) → (a < b) ⊎ (b ≤ a)
+below-or a b = by (ltb a b) refl
+  where
+    by : (t : Bool) → ltb a b ≡ t → (a < b) ⊎ (b ≤ a)
+    by true e = inl (ltb-true a b e)
+    by false e = inr (ltb-false a b e)
+
+pub same-or : (a b : ℕ) → (a ≡ b) ⊎ (a ≡ b → ⊥)
+same-or a b = by (eqb a b) refl
+  where
+    by : (t : Bool) → eqb a b ≡ t → (a ≡ b) ⊎ (a ≡ b → ⊥)
+    by true e = inl (eqb-true a b e)
+    by false e = inr (eqb-false a b e)
+
+pub and-left : (a b : Bool) → (a && b) ≡ true → a ≡ true
+and-left true b e = refl
+and-left false b e = absurd (true≢false (sym e))
+
+pub and-right : (a b : Bool) → (a && b) ≡ true → b ≡ true
+and-right true b e = e
+and-right false b e = absurd (true≢false (sym e))
+
+-- ---- every number below
+
+module _ (p : ℕ → Bool) where
+  pub all-none : allBelow p 0 ≡ true
+  unfolding allBelow
+  all-none = refl
+
+  pub all-more : (i : ℕ) → allBelow p i ≡ true → p i ≡ true → allBelow p (i + 1) ≡ true
+  unfolding allBelow
+  all-more i h t = rw (add-one, h, t)
+
+  pub all-at : (i n : ℕ) → i < n → allBelow p n ≡ true → p i ≡ true
+  unfolding allBelow
+  all-at i zero h e = absurd (omega arith)
+  all-at i (suc n) h e =
+      ⊎-elim
+      (λ q. ap p q ∙ and-right (allBelow p n) (p n) e)
+      (λ q. all-at i n (omega (arith, q)) (and-left (allBelow p n) (p n) e))
+      (same-or i n)
+
+  -- each below n has it
+  pub all-from : (n : ℕ) → ((i : ℕ) → i < n → p i ≡ true) → allBelow p n ≡ true
+  unfolding allBelow
+  all-from zero f = refl
+  all-from (suc n) f = rw (all-from n (λ (i : ℕ) (h : i < n). f i (omega arith)), f n (omega arith))
+
+  pub all-miss : (i n : ℕ) → i < n → p i ≡ false → allBelow p n ≡ false
+  all-miss i n h t = by (allBelow p n) refl
+    where
+      by : (b : Bool) → allBelow p n ≡ b → b ≡ false
+      by true e = absurd (true≢false (sym (all-at i n h e) ∙ t))
+      by false e = refl
+
+  pub all-end : (i n : ℕ) → i ≡ n → allBelow p i ≡ true → true ≡ allBelow p n
+  all-end i n q e = sym (rw q at e)

@@ -1,0 +1,128 @@
+// The run of pages to replace: the one whose most recently used page is least recently used, the lowest start among equals.
+use crate::Pages;
+ghost use mathlib.Core.Path.{_≡_};
+ghost use Prim.Native.Nat.{_+_, _≤_};
+ghost use lib.ListN.{getD};
+ghost use Rattle.cache.specs.Victim as Victim;
+
+// The first page of a run to replace, or none.
+pub enum Found {
+    Nothing,
+    At(usize),
+}
+
+// The best start so far, and the age of its youngest page.
+pub(crate) struct Best {
+    pub at: usize,
+    pub age: u32,
+}
+
+// The age of each page, taken once: the loops over the starts then read a small array and copy no state.
+struct Ages {
+    v: [u32; crate::MAX_PAGES],
+}
+
+// What the clock has moved since `then`, wrapping.
+fn since(now: u32, then: u32) -> u32
+    ensures { λ r. ⌜ r ≡ Victim.since now then ⌝ }
+{
+    if now < then {
+        return now + (4294967295 - then) + 1;
+    }
+    now - then
+}
+
+fn used_at(g: Pages, i: usize) -> u32
+    ensures { λ r. ⌜ r ≡ getD (g .used) i 0 ⌝ }
+{
+    if i < crate::MAX_PAGES {
+        return g.used[i];
+    }
+    0
+}
+
+// How long ago the run that page `p` is of was used; an empty page counts as oldest.
+pub(crate) fn age(g: Pages, p: usize) -> u32
+    ensures { λ r. ⌜ r ≡ Victim.age g p ⌝ }
+{
+    let s = crate::runs::slot_at(g, p);
+    let h = crate::evict::head_of(s, p);
+    let t = crate::runs::slot_at(g, h);
+    if crate::runs::is_run(t) {
+        let u = used_at(g, h);
+        return since(g.clock, u);
+    }
+    4294967295
+}
+
+fn lesser(a: u32, b: u32) -> u32
+    ensures { λ r. ⌜ r ≡ Victim.lesser a b ⌝ }
+{
+    if a < b {
+        return a;
+    }
+    b
+}
+
+// The older of the best start so far and the start `at`; the former where they are as old.
+fn better(b: Best, at: usize, age: u32) -> Best
+    ensures { λ r. ⌜ r ≡ Victim.better b at age ⌝ }
+{
+    if b.age < age {
+        return Best { at, age };
+    }
+    b
+}
+
+fn ages_of(g: Pages) -> Ages
+    ensures { λ r. ⌜ Victim.Aged g (r .v) 96 ⌝ }
+{
+    let v = [0u32; crate::MAX_PAGES];
+    let mut d = Ages { v };
+    let mut i = 0;
+    while i < crate::MAX_PAGES {
+        d.v[i] = age(g, i);
+        i += 1;
+    }
+    d
+}
+
+// The age of the most recently used of `n` pages from `start` on.
+fn youngest(v: &[u32; crate::MAX_PAGES], start: usize, n: usize) -> u32
+    requires { ⌜ start + n ≤ 96 ⌝ }
+    ensures { λ r. ⌜ r ≡ Victim.youngestIn (now (v .entry)) n start ⌝ }
+{
+    let mut low: u32 = 4294967295;
+    let mut i = 0;
+    while i < n {
+        let at = start + i;
+        low = lesser(v[at], low);
+        i += 1;
+    }
+    low
+}
+
+// The first of the `pages` consecutive pages whose most recently used tile is the least recently used; empty pages count as oldest.
+// None where the count is less than that, or more than there are slots.
+pub(crate) fn victim(g: Pages, pages: usize) -> Found
+    ensures { λ r. ⌜ r ≡ Victim.victim g pages ⌝ }
+{
+    if crate::MAX_PAGES < g.count {
+        return Found::Nothing;
+    }
+    if g.count < pages {
+        return Found::Nothing;
+    }
+    let last = g.count - pages;
+    let ages = ages_of(g);
+    let v = ages.v;
+    let first = youngest(&v, 0, pages);
+    let mut b = Best { at: 0, age: first };
+    let mut i = 0;
+    while i < last {
+        i += 1;
+        let a = youngest(&v, i, pages);
+        b = better(b, i, a);
+    }
+    Found::At(b.at)
+}

@@ -1,0 +1,307 @@
+-- `predict::follow::follow` meets its contract. The edge loop's invariant: the walk is the definition's over as many edges; that of the loop over
+-- an edge's points: the track is the definition's over as many points, and not over. The ways out: the edges have run out, the walk ended on
+-- an edge, or it came to its horizon. Assumes nothing.
+use Prim.Native.Nat.{ℕ, _+_, _-_, _≤_}
+use mathlib.Core.Path.{_≡_, refl, sym, ap, _∙_}
+use mathlib.Core.Bool.{true, false}
+use native.Mathlib.Omega.{arith}
+use lib.ListN.{length}
+use denote.Ref.{now}
+use borrow.Author.Tests.{not-true, not-false}
+use borrow.Author.Needs.{needs}
+use Rattle.cache.specs.Reader.{inCache}
+use Rattle.predict.specs.Vertex.{vertices}
+use Rattle.predict.proofs.VertexLaws.{vertices-start}
+use Rattle.predict.specs.Walk.{walkTo}
+use Rattle.predict.proofs.WalkLaws.{walk-start}
+use Rattle.predict.proofs.FollowLaws.{
+  runOf,
+  alongOf,
+  points-start,
+  points-on,
+  points-over,
+  step-ended,
+  step-over,
+  step-on,
+  walk-on,
+  walk-whole,
+  follow-is,
+  reached-ends,
+}
+use Rattle.predict.proofs.follow.follow.Statement.{statement}
+use Rattle.predict.proofs.follow.follow.Tie as tie
+
+abbrev Inv-points : tie.InvT-points
+Inv-points c arena trip budget heights₀ header w₀ carried n bytes head leg last t₀ i₀ heights w t i =
+    (i₀ ≤ i)
+    × ((i - i₀ ≤ last + 1 - i₀)
+    × ((length heights ≡ length heights₀)
+    × ((w ≡ w₀)
+    × ((t .over ≡ false) × (alongOf t heights ≡ vertices trip leg bytes (head .«lon_um») i₀ (alongOf t₀ heights₀) (i - i₀))))))
+
+abbrev μ-points : tie.MeasureT-points
+μ-points c arena trip budget heights₀ header w₀ carried n bytes head leg last t₀ i₀ heights w t i = last + 1 - i
+
+abbrev Inv-edges : tie.InvT-edges
+Inv-edges c arena trip budget heights₀ header w₀ carried₀ n₀ heights w carried n =
+    (n ≤ 2000)
+    × ((length heights ≡ length heights₀)
+    × (runOf w carried heights ≡ walkTo (inCache c arena (trip .header .tile)) trip budget (runOf w₀ carried₀ heights₀) n))
+
+abbrev μ-edges : tie.MeasureT-edges
+μ-edges c arena trip budget heights₀ header w₀ carried₀ n₀ heights w carried n = 2000 - n
+
+edges-holds : tie.Need-edges-holds Inv-points μ-points Inv-edges μ-edges
+edges-holds c =
+    let args = c .before .before .args in (
+      omega arith,
+      (
+        refl,
+        sym
+            (walk-start (inCache (args .c) (now (args .arena)) (args .trip .header .tile)) (args .trip) (args .budget)
+            (runOf (args .start) (args .first) (now (args .heights)))),
+      ),
+    )
+
+enter-requires : tie.Need-enter-requires Inv-points μ-points Inv-edges μ-edges
+enter-requires c κs = tt
+
+goes-on-requires : tie.Need-goes-on-requires Inv-points μ-points Inv-edges μ-edges
+goes-on-requires c κs = tt
+
+run-bytes-requires : tie.Need-run-bytes-requires Inv-points μ-points Inv-edges μ-edges
+run-bytes-requires c κs = tt
+
+head-requires : tie.Need-head-requires Inv-points μ-points Inv-edges μ-edges
+head-requires c κs = tt
+
+leg-of-requires : tie.Need-leg-of-requires Inv-points μ-points Inv-edges μ-edges
+leg-of-requires c κs = tt
+
+cast-last : tie.Need-cast-last Inv-points μ-points Inv-edges μ-edges
+cast-last c = search needs
+
+add-last : tie.Need-add-last Inv-points μ-points Inv-edges μ-edges
+add-last c = search needs
+
+reached-requires : tie.Need-reached-requires Inv-points μ-points Inv-edges μ-edges
+reached-requires c κs = tt
+
+points-holds : tie.Need-points-holds Inv-points μ-points Inv-edges μ-edges
+points-holds c =
+    let w = c .before .before .before .before .before .before .before .before .before .before .before .enter .result .walk in (
+      omega arith,
+      (
+        omega arith,
+        (
+          refl,
+          (
+            refl,
+            (
+              c .if2 .left,
+              points-start (c .before .before .before .before .before .before .before .before .before .before .before .before .before .before .before .before .args .trip) (c .before .before .before .before .leg-of .result) (now (c .before .before .before .before .before .before .run-bytes .result)) (c .before .before .before .before .before .head .result .«lon_um») (w .from)
+                  (alongOf (w .track) (c .before .before .before .before .before .before .before .before .before .before .before .before .before .edges .heights)),
+            ),
+          ),
+        ),
+      ),
+    )
+
+advance-requires : tie.Need-advance-requires Inv-points μ-points Inv-edges μ-edges
+advance-requires c κs = tt
+
+reached-requires-2 : tie.Need-reached-requires-2 Inv-points μ-points Inv-edges μ-edges
+reached-requires-2 c κs = tt
+
+add-i : tie.Need-add-i Inv-points μ-points Inv-edges μ-edges
+add-i c = omega (arith, c .before .before .before .before .points-test .taken, c .before .before .before .before .before .before .before .before .struct-known)
+
+points-less : tie.Need-points-less Inv-points μ-points Inv-edges μ-edges
+points-less c = omega (arith, c .before .before .before .before .points-test .taken)
+
+points-again : tie.Need-points-again Inv-points μ-points Inv-edges μ-edges
+points-again c =
+    let args = c .before .before .before .before .before .before .before .before .before .before .before .before .before .before .before .before .before .before .before .before .before .before .args in
+    let points = c .before .before .before .before .before .points in
+    let walk = c .before .before .before .before .before .before .before .before .before .before .before .before .before .before .before .before .before .enter .result .walk in
+    let advance = c .before .before .advance in (
+      omega (arith, points .inv .0),
+      (
+        omega (arith, points .inv .0, c .before .before .before .before .points-test .taken),
+        (
+          advance .kept .1 .1 .1 .1 .1 .1 .0 ∙ points .inv .1 .1 .0,
+          (
+            points .inv .1 .1 .1 .0,
+            (
+              c .if3 .left,
+              points-on (args .trip) (c .before .before .before .before .before .before .before .before .before .before .leg-of .result) (now (c .before .before .before .before .before .before .before .before .before .before .before .before .run-bytes .result)) (c .before .before .before .before .before .before .before .before .before .before .before .head .result .«lon_um») (walk .from)
+                  (alongOf (walk .track) (c .before .before .before .before .before .before .before .before .before .before .before .before .before .before .before .before .before .before .before .edges .heights)) (points .i) (points .t) (points .heights) (points .inv .0) (points .inv .1 .1 .1 .1 .0)
+                  (points .inv .1 .1 .1 .1 .1) (advance .result) (advance .last .1 .1 .1 .1 .1 .1 .0) (advance .ensures .0) (advance .ensures .1),
+            ),
+          ),
+        ),
+      ),
+    )
+
+moved-requires : tie.Need-moved-requires Inv-points μ-points Inv-edges μ-edges
+moved-requires c κs = tt
+
+crossed-requires : tie.Need-crossed-requires Inv-points μ-points Inv-edges μ-edges
+crossed-requires c κs = tt
+
+add-n : tie.Need-add-n Inv-points μ-points Inv-edges μ-edges
+add-n c = omega (arith, c .before .before .before .before .before .before .before .before .before .before .before .before .before .before .before .before .before .before .edges-test .taken)
+
+edges-less : tie.Need-edges-less Inv-points μ-points Inv-edges μ-edges
+edges-less c = omega (arith, c .before .before .before .before .before .before .before .before .before .before .before .before .before .before .before .before .before .before .edges-test .taken)
+
+edges-again : tie.Need-edges-again Inv-points μ-points Inv-edges μ-edges
+edges-again c =
+    let args = c .before .before .before .before .before .before .before .before .before .before .before .before .before .before .before .before .before .before .before .before .before .before .args in
+    let edges = c .before .before .before .before .before .before .before .before .before .before .before .before .before .before .before .before .before .before .before .edges in
+    let points = c .before .before .before .before .before .points in
+    let entered = c .before .before .before .before .before .before .before .before .before .before .before .before .before .before .before .before .before .enter in
+    let walk = entered .result .walk in
+    let run = c .before .before .before .before .before .before .before .before .before .before .before .before .run-bytes in
+    let head = c .before .before .before .before .before .before .before .before .before .before .before .head in
+    let leg = c .before .before .before .before .before .before .before .before .before .before .leg-of in
+    let goes = sym (c .before .before .before .before .before .before .before .before .before .before .before .before .before .before .goes-on .ensures) ∙ not-false _ (c .before .before .before .before .before .before .before .before .before .before .before .before .before .if1 .left) in
+    let all : points .i - walk .from ≡ leg .result .edge .vertices + 1 + 1 - walk .from =
+    omega (arith, points .inv .0, points .inv .1 .0, c .before .before .before .before .points-test .left)
+    in
+    let end =
+    ap (vertices (args .trip) (leg .result) (now (run .result)) (head .result .«lon_um») (walk .from) (alongOf (walk .track) (edges .heights))) all
+    in (
+      omega (arith, c .before .before .before .before .before .before .before .before .before .before .before .before .before .before .before .before .before .before .edges-test .taken),
+      (
+        points .inv .1 .1 .0 ∙ edges .inv .1 .0,
+        walk-on (args .c) (now (args .arena)) (args .trip) (args .budget) (runOf (args .start) (args .first) (now (args .heights)))
+            (runOf (edges .w) (edges .carried) (edges .heights))
+            (runOf (c .before .before .crossed .result .walk) (c .before .before .crossed .result .carried) (points .heights)) (edges .n) (edges .inv .1 .1)
+            (step-on (args .c) (now (args .arena)) (args .trip) (args .budget) (edges .w) (edges .carried) (edges .heights) (entered .result)
+            (entered .ensures) goes (now (run .result)) (run .ensures) (head .result) (head .ensures) (leg .result) (leg .ensures)
+            (alongOf (points .t) (points .heights)) (sym (points .inv .1 .1 .1 .1 .1 ∙ end)) (points .w) (c .before .before .before .moved .result) (c .before .before .crossed .result)
+            (points .inv .1 .1 .1 .0) (c .before .before .before .moved .ensures) (c .before .before .crossed .ensures) (points .inv .1 .1 .1 .1 .0)),
+      ),
+    )
+
+same-length : tie.Need-same-length Inv-points μ-points Inv-edges μ-edges
+same-length c = c .before .edges .inv .1 .0
+
+returns : tie.Need-returns Inv-points μ-points Inv-edges μ-edges
+returns c =
+    let args = c .before .before .before .before .args in
+    let edges = c .before .edges in
+    let all : edges .n ≡ 2000 = omega (arith, edges .inv .0, c .edges-test .left) in
+    follow-is (args .c) (now (args .arena)) (args .trip) (args .budget) (args .start) (args .first) (now (args .heights))
+    (runOf (edges .w) (edges .carried) (edges .heights)) (rw all at (edges .inv .1 .1))
+
+same-length-2 : tie.Need-same-length-2 Inv-points μ-points Inv-edges μ-edges
+same-length-2 c = c .before .before .before .before .before .before .edges .inv .1 .0
+
+returns-2 : tie.Need-returns-2 Inv-points μ-points Inv-edges μ-edges
+returns-2 c =
+    let args = c .before .before .before .before .before .before .before .before .before .args in
+    let edges = c .before .before .before .before .before .before .edges in
+    let entered = c .before .before .before .before .enter in
+    let e = entered .result in
+    let ends = sym (c .before .goes-on .ensures) ∙ not-true _ (c .if1 .taken) in
+    follow-is (args .c) (now (args .arena)) (args .trip) (args .budget) (args .start) (args .first) (now (args .heights))
+    (runOf (e .walk) (e .carried) (edges .heights))
+    (walk-whole (args .c) (now (args .arena)) (args .trip) (args .budget) (runOf (args .start) (args .first) (now (args .heights)))
+    (runOf (edges .w) (edges .carried) (edges .heights)) (runOf (e .walk) (e .carried) (edges .heights)) (edges .n) (edges .inv .1 .1)
+    (step-ended (args .c) (now (args .arena)) (args .trip) (args .budget) (edges .w) (edges .carried) (edges .heights) e (entered .ensures) ends)
+    ends (c .before .before .before .before .before .edges-test .taken))
+
+same-length-3 : tie.Need-same-length-3 Inv-points μ-points Inv-edges μ-edges
+same-length-3 c = c .before .before .before .before .before .before .before .before .before .before .before .before .before .before .edges .inv .1 .0
+
+returns-3 : tie.Need-returns-3 Inv-points μ-points Inv-edges μ-edges
+returns-3 c =
+    let args = c .before .before .before .before .before .before .before .before .before .before .before .before .before .before .before .before .before .args in
+    let edges = c .before .before .before .before .before .before .before .before .before .before .before .before .before .before .edges in
+    let entered = c .before .before .before .before .before .before .before .before .before .before .before .before .enter in
+    let e = entered .result in
+    let run = c .before .before .before .before .before .before .before .run-bytes in
+    let head = c .before .before .before .before .before .before .head in
+    let leg = c .before .before .before .before .before .leg-of in
+    let goes = sym (c .before .before .before .before .before .before .before .before .before .goes-on .ensures) ∙ not-false _ (c .before .before .before .before .before .before .before .before .if1 .left) in
+    let first = alongOf (e .walk .track) (edges .heights) in
+    follow-is (args .c) (now (args .arena)) (args .trip) (args .budget) (args .start) (args .first) (now (args .heights))
+    (runOf (c .reached .result) (e .carried) (edges .heights))
+    (walk-whole (args .c) (now (args .arena)) (args .trip) (args .budget) (runOf (args .start) (args .first) (now (args .heights)))
+    (runOf (edges .w) (edges .carried) (edges .heights)) (runOf (c .reached .result) (e .carried) (edges .heights)) (edges .n) (edges .inv .1 .1)
+    (step-over (args .c) (now (args .arena)) (args .trip) (args .budget) (edges .w) (edges .carried) (edges .heights) e (entered .ensures) goes
+    (now (run .result)) (run .ensures) (head .result) (head .ensures) (leg .result) (leg .ensures) first
+    (points-over (args .trip) (leg .result) (now (run .result)) (head .result .«lon_um») (e .walk .from) first first 0
+    (leg .result .edge .vertices + 1 + 1 - e .walk .from)
+    (sym (vertices-start (args .trip) (leg .result) (now (run .result)) (head .result .«lon_um») (e .walk .from) first)) (c .before .if2 .taken)
+    (omega arith)) (e .walk) (c .reached .result) refl (c .reached .ensures) (c .before .if2 .taken))
+    (reached-ends (c .reached .result) (e .walk) (e .walk .track) (c .reached .ensures)) (c .before .before .before .before .before .before .before .before .before .before .before .before .before .edges-test .taken))
+
+same-length-4 : tie.Need-same-length-4 Inv-points μ-points Inv-edges μ-edges
+same-length-4 c = c .before .before .before .advance .kept .1 .1 .1 .1 .1 .1 .0 ∙ c .before .before .before .before .before .before .points .inv .1 .1 .0 ∙ c .before .before .before .before .before .before .before .before .before .before .before .before .before .before .before .before .before .before .before .before .edges .inv .1 .0
+
+returns-4 : tie.Need-returns-4 Inv-points μ-points Inv-edges μ-edges
+returns-4 c =
+    let args = c .before .before .before .before .before .before .before .before .before .before .before .before .before .before .before .before .before .before .before .before .before .before .before .args in
+    let edges = c .before .before .before .before .before .before .before .before .before .before .before .before .before .before .before .before .before .before .before .before .edges in
+    let points = c .before .before .before .before .before .before .points in
+    let entered = c .before .before .before .before .before .before .before .before .before .before .before .before .before .before .before .before .before .before .enter in
+    let e = entered .result in
+    let run = c .before .before .before .before .before .before .before .before .before .before .before .before .before .run-bytes in
+    let head = c .before .before .before .before .before .before .before .before .before .before .before .before .head in
+    let leg = c .before .before .before .before .before .before .before .before .before .before .before .leg-of in
+    let advance = c .before .before .before .advance in
+    let heights = advance .last .1 .1 .1 .1 .1 .1 .0 in
+    let goes = sym (c .before .before .before .before .before .before .before .before .before .before .before .before .before .before .before .goes-on .ensures) ∙ not-false _ (c .before .before .before .before .before .before .before .before .before .before .before .before .before .before .if1 .left) in
+    let first = alongOf (e .walk .track) (edges .heights) in
+    follow-is (args .c) (now (args .arena)) (args .trip) (args .budget) (args .start) (args .first) (now (args .heights))
+    (runOf (c .reached2 .result) (e .carried) heights)
+    (walk-whole (args .c) (now (args .arena)) (args .trip) (args .budget) (runOf (args .start) (args .first) (now (args .heights)))
+    (runOf (edges .w) (edges .carried) (edges .heights)) (runOf (c .reached2 .result) (e .carried) heights) (edges .n) (edges .inv .1 .1)
+    (step-over (args .c) (now (args .arena)) (args .trip) (args .budget) (edges .w) (edges .carried) (edges .heights) e (entered .ensures) goes
+    (now (run .result)) (run .ensures) (head .result) (head .ensures) (leg .result) (leg .ensures) (alongOf (advance .result) heights)
+    (points-over (args .trip) (leg .result) (now (run .result)) (head .result .«lon_um») (e .walk .from) first (alongOf (advance .result) heights)
+    (points .i + 1 - e .walk .from) (leg .result .edge .vertices + 1 + 1 - e .walk .from)
+    (points-on (args .trip) (leg .result) (now (run .result)) (head .result .«lon_um») (e .walk .from) first (points .i) (points .t) (points .heights)
+    (points .inv .0) (points .inv .1 .1 .1 .1 .0) (points .inv .1 .1 .1 .1 .1) (advance .result) heights (advance .ensures .0) (advance .ensures .1))
+    (c .before .if3 .taken) (omega (arith, c .before .before .before .before .before .points-test .taken))) (points .w) (c .reached2 .result) (points .inv .1 .1 .1 .0) (c .reached2 .ensures)
+    (c .before .if3 .taken)) (reached-ends (c .reached2 .result) (points .w) (advance .result) (c .reached2 .ensures)) (c .before .before .before .before .before .before .before .before .before .before .before .before .before .before .before .before .before .before .before .edges-test .taken))
+
+pub follow-spec : {M : Type 1} → statement M
+follow-spec =
+    tie.close
+    (tie.spec
+    Inv-points
+    μ-points
+    Inv-edges
+    μ-edges
+    edges-holds
+    enter-requires
+    goes-on-requires
+    run-bytes-requires
+    head-requires
+    leg-of-requires
+    cast-last
+    add-last
+    reached-requires
+    points-holds
+    advance-requires
+    reached-requires-2
+    add-i
+    points-less
+    points-again
+    moved-requires
+    crossed-requires
+    add-n
+    edges-less
+    edges-again
+    same-length
+    returns
+    same-length-2
+    returns-2
+    same-length-3
+    returns-3
+    same-length-4
+    returns-4)

@@ -1,0 +1,41 @@
+-- `predict::turn::decided` meets its contract: each return by whether there is a way on; what its lookup gives is what the reader gives.
+-- Assumes nothing.
+use denote.Ref.{now}
+use borrow.Author.Needs.{needs}
+use Rattle.cache.specs.Reader.{inCache}
+use Rattle.predict.specs.Walk.{taken, decided}
+use Rattle.predict.proofs.Arms.{ended}
+use Rattle.predict.proofs.Looks.{look-carried, taken-ended}
+use Rattle.predict.proofs.turn.decided.Statement.{statement}
+use Rattle.predict.proofs.turn.decided.Tie as tie
+
+taken-requires : tie.Need-taken-requires
+taken-requires c κs = tt
+
+enum-told : tie.Need-enum-told
+enum-told c = search needs
+
+look-up-requires : tie.Need-look-up-requires
+look-up-requires c κs = tt
+
+next-by-requires : tie.Need-next-by-requires
+next-by-requires c κs = tt
+
+returns : tie.Need-returns
+unfolding decided taken
+returns c =
+    let decide = c .before .before .before .before .before .before in
+    let args = decide .before .before .args in
+    rw (c .next-by .ensures, c .before .look-up .ensures, decide .taken .ensures, c .before .before .before .before .enum-told .given .1)
+    (rw (look-carried (args .c) (now (args .arena)) (args .size) (args .carried) (args .d .way .tile)))
+
+returns-2 : tie.Need-returns-2
+unfolding decided
+returns-2 c =
+    let args = c .before .before .before .args in
+    rw (c .before .taken .ensures, taken-ended (inCache (args .c) (now (args .arena)) (args .size)) (args .d .ending) (ended (args .d .ending) (c .match .keys2)) _ _)
+
+pub decided-spec : {M : Type 1} → statement M
+decided-spec =
+    tie.close
+    (tie.spec taken-requires enum-told look-up-requires next-by-requires returns returns-2)

@@ -1,0 +1,101 @@
+-- `predict::vertex::advance` meets its contract: each return by its test and the answers of its callees. Assumes nothing.
+use borrow.Author.Needs.{needs}
+use mir.Facts.{toZ-ofZ}
+use mir.Syntax.{w32}
+use Rattle.predict.proofs.Signed.{sf, got}
+use Rattle.predict.specs.Vertex.{advanced}
+use Rattle.predict.proofs.vertex.advance.Statement.{statement}
+use Rattle.predict.proofs.vertex.advance.Tie as tie
+
+node-at-requires : tie.Need-node-at-requires
+node-at-requires c κs = tt
+
+point-requires : tie.Need-point-requires
+point-requires c κs = tt
+
+z-dm-requires : tie.Need-z-dm-requires
+z-dm-requires c κs = tt
+
+less-requires : tie.Need-less-requires
+less-requires c κs = tt
+
+step-of-requires : tie.Need-step-of-requires
+step-of-requires c κs = tt
+
+reach-requires : tie.Need-reach-requires
+reach-requires c κs = tt
+
+same-length : tie.Need-same-length
+same-length c = search needs
+
+returns : tie.Need-returns
+unfolding advanced
+returns c =
+    let tested = c .before .before .before in
+    let step = tested .before .before .before in
+    let less = step .before in
+    let height = less .before .before in
+    let point = height .before in
+    let node = point .before in
+    let trip = node .before .before .args .trip in
+    let rider = toZ-ofZ (sf w32 (trip .«z_dm») (less .before .struct-told .given .1 .1 .0 .1)) in
+    let far = rw (step .step-of .ensures, point .point .ensures, node .node-at .ensures) at (tested .if1 .taken) in
+    let goes =
+    rw (
+      got w32 (less .less .ok),
+      less .less .ensures,
+      got w32 (height .z-dm .ok),
+      height .z-dm .ensures,
+      rider,
+      step .step-of .ensures,
+      point .point .ensures,
+      node .node-at .ensures,
+    ) at (c .before .reach .ensures) in
+    (rw far (goes .0), rw far (goes .1))
+
+pass-requires : tie.Need-pass-requires
+pass-requires c κs = tt
+
+same-length-2 : tie.Need-same-length-2
+same-length-2 c = search needs
+
+returns-2 : tie.Need-returns-2
+unfolding advanced
+returns-2 c =
+    let tested = c .before .before .before in
+    let step = tested .before .before .before in
+    let less = step .before in
+    let height = less .before .before in
+    let point = height .before in
+    let node = point .before in
+    let trip = node .before .before .args .trip in
+    let rider = toZ-ofZ (sf w32 (trip .«z_dm») (less .before .struct-told .given .1 .1 .0 .1)) in
+    let short = rw (step .step-of .ensures, point .point .ensures, node .node-at .ensures) at (tested .if1 .left) in
+    let goes =
+    rw (
+      got w32 (less .less .ok),
+      less .less .ensures,
+      got w32 (height .z-dm .ok),
+      height .z-dm .ensures,
+      rider,
+      step .step-of .ensures,
+      point .point .ensures,
+      node .node-at .ensures,
+    ) at (c .before .pass .ensures) in
+    (rw short (goes .0), rw short (goes .1))
+
+pub advance-spec : {M : Type 1} → statement M
+advance-spec =
+    tie.close
+    (tie.spec
+    node-at-requires
+    point-requires
+    z-dm-requires
+    less-requires
+    step-of-requires
+    reach-requires
+    same-length
+    returns
+    pass-requires
+    same-length-2
+    returns-2)

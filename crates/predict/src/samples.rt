@@ -1,0 +1,59 @@
+// An elevation every 20 m of road: `Sampler` of the Rust's predict.rs, with the mark and the heights lent side by side.
+use crate::Mark;
+ghost use mathlib.Core.Path.{_≡_};
+ghost use Rattle.predict.specs.Samples as Samples;
+
+// The distance of a sample.
+pub(crate) fn sample_at(i: usize) -> f32
+    ensures { λ r. ⌜ r ≡ Samples.sampleAt i ⌝ }
+{
+    num::convert::f32_of_usize(i) * 20.0
+}
+
+// The height at a distance between the last road point and the next, held to 16 bits.
+fn height_at(m: Mark, at: f32, distance: f32, z: i32) -> i16
+    ensures { λ r. ⌜ r ≡ Samples.heightAt m at distance z ⌝ }
+{
+    let span = distance - m.distance;
+    if span > 0.0 {
+        let rise = num::convert::f32_of_i64((z as i64) - (m.z as i64));
+        let value = num::convert::f32_of_i32(m.z) + rise * (at - m.distance) / span;
+        return num::cast::i16_of_f32(num::order::clamp(value, -32768.0, 32767.0));
+    }
+    num::cast::i16_of_f32(num::order::clamp(num::convert::f32_of_i32(z), -32768.0, 32767.0))
+}
+
+// The samples up to a road point written, as far as there is room, and the mark that stands at it: `push` on values.
+fn pushed(m: Mark, heights: &mut [i16], distance: f32, z: i32) -> Mark
+    ensures { λ r. ⌜ r ≡ Samples.pushed m (now (heights .entry)) distance z .mark ⌝ }
+    ensures { λ r. ⌜ now (heights .exit) ≡ Samples.pushed m (now (heights .entry)) distance z .heights ⌝ }
+{
+    let mut len = m.len;
+    while len < heights.len() {
+        let at = sample_at(len);
+        if at > distance {
+            return Mark { len, distance, z };
+        }
+        heights[len] = height_at(m, at, distance, z);
+        len += 1;
+    }
+    Mark { len, distance, z }
+}
+
+// The samples up to a road point written, as far as there is room; the mark is moved on to it.
+pub(crate) fn push(mark: &mut Mark, heights: &mut [i16], distance: f32, z: i32)
+    ensures { λ _. ⌜ now (mark .exit) ≡ Samples.pushed (now (mark .entry)) (now (heights .entry)) distance z .mark ⌝ }
+    ensures { λ _. ⌜ now (heights .exit) ≡ Samples.pushed (now (mark .entry)) (now (heights .entry)) distance z .heights ⌝ }
+{
+    *mark = pushed(*mark, heights, distance, z);
+}
+
+// One push on a mark that goes by value, for callers that keep it in their own state: it is put into a local and lent.
+pub(crate) fn push_on(m: Mark, heights: &mut [i16], distance: f32, z: i32) -> Mark
+    ensures { λ r. ⌜ r ≡ Samples.pushed m (now (heights .entry)) distance z .mark ⌝ }
+    ensures { λ r. ⌜ now (heights .exit) ≡ Samples.pushed m (now (heights .entry)) distance z .heights ⌝ }
+{
+    let mut mark = m;
+    push(&mut mark, heights, distance, z);
+    mark
+}

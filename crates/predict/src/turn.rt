@@ -1,0 +1,219 @@
+// From the end of an edge onto the next one.
+use crate::Arrival;
+use crate::Crossing;
+use crate::Decision;
+use crate::Ending;
+use crate::Step;
+use crate::Walk;
+use crate::cost::Bound;
+use crate::cost::Road;
+use crate::outgoing::Leg;
+use cache::Cache;
+use cache::Carried;
+use cache::Hit;
+use cache::Lookup;
+use matcher::Heading;
+use pack::Header;
+use tile::Edge;
+ghost use mathlib.Core.Path.{_≡_};
+ghost use Rattle.predict.specs.Walk as Walks;
+
+// The walk with another heading of entry and of approach.
+fn with_entry(w: Walk, entry: Heading, approach: f32) -> Walk
+    ensures { λ r. ⌜ r ≡ Walks.withEntry w entry approach ⌝ }
+{
+    let way = w.way;
+    let track = w.track;
+    let visited = w.visited;
+    let met = w.met;
+    let road = w.road;
+    let ending = w.ending;
+    Walk {
+        way,
+        from: w.from,
+        track,
+        visited,
+        met,
+        entry,
+        approach,
+        road,
+        confidence: w.confidence,
+        ending,
+    }
+}
+
+// The heading with which a roundabout was entered: on it, that of the approach, kept; off it, none.
+fn turned(w: Walk, edge: Edge, incoming: f32) -> Walk
+    ensures { λ r. ⌜ r ≡ Walks.turned w edge incoming ⌝ }
+{
+    let entry = w.entry;
+    if !edge.has(tile::flag::ROUNDABOUT) {
+        return with_entry(w, Heading::Nothing, incoming);
+    }
+    match entry {
+        Heading::Degrees(_) => w,
+        Heading::Nothing => with_entry(w, Heading::Degrees(w.approach), w.approach),
+    }
+}
+
+// The heading that turns are judged by: on a roundabout the one it was entered with.
+fn bound_of(entry: Heading, incoming: f32) -> Bound
+    ensures { λ r. ⌜ r ≡ Walks.boundOf entry incoming ⌝ }
+{
+    match entry {
+        Heading::Nothing => Bound {
+            heading: incoming,
+            round: false,
+        },
+        Heading::Degrees(d) => Bound {
+            heading: d,
+            round: true,
+        },
+    }
+}
+
+// The heading at the end of the edge.
+fn incoming_of(w: Walk, lon_um: u32) -> f32
+    ensures { λ r. ⌜ r ≡ Walks.incomingOf w «lon_um» ⌝ }
+{
+    let t = w.track;
+    let history = t.history;
+    let here = t.here;
+    crate::incoming::incoming(history, here, t.distance, lon_um, w.approach)
+}
+
+// The junction's node.
+fn node_of(leg: Leg) -> u16
+    ensures { λ r. ⌜ r ≡ Walks.nodeOf leg ⌝ }
+{
+    let edge = leg.edge;
+    if leg.forward {
+        return edge.to;
+    }
+    edge.from
+}
+
+// A roundabout belongs to no road: the one it was entered on stays the one to prefer when leaving it.
+fn road_of(road: Road, next: Edge) -> Road
+    ensures { λ r. ⌜ r ≡ Walks.roadOf road next ⌝ }
+{
+    if next.has(tile::flag::ROUNDABOUT) {
+        return road;
+    }
+    Road {
+        class: next.class,
+        group: next.group,
+        flags: next.flags,
+    }
+}
+
+// The way that was decided on.
+fn taken(w: Walk, d: Decision) -> Walk
+    ensures { λ r. ⌜ r ≡ Walks.taken w d ⌝ }
+{
+    let mut v = w;
+    let way = d.way;
+    let ending = d.ending;
+    v.way = way;
+    v.from = 1;
+    v.confidence = d.confidence;
+    crate::enter::with_ending(v, ending)
+}
+
+// What the lookup of the next edge's tile gives.
+fn next_by(w: Walk, hit: Hit, arena: &[u8]) -> Step
+    ensures { λ r. ⌜ r ≡ Walks.nextBy w hit (now (arena .entry)) ⌝ }
+{
+    let answer = hit.answer;
+    let carried = hit.carried;
+    let way = w.way;
+    let key = way.tile;
+    match answer {
+        Lookup::Ready(first, len) => {
+            let next = tile::raw::edge(cache::ages::run_bytes(arena, first, len), way.edge);
+            let old = w.road;
+            let road = road_of(old, next);
+            let mut d = w;
+            d.road = road;
+            Step { walk: d, carried }
+        }
+        Lookup::Refused(_) => {
+            let walk = crate::enter::with_ending(w, Ending::Stale);
+            Step { walk, carried }
+        }
+        Lookup::Missing | Lookup::Absent => {
+            let walk = crate::enter::with_ending(w, Ending::Need(key));
+            Step { walk, carried }
+        }
+    }
+}
+
+// On by the way that was decided on, if there is one.
+fn decided(c: Cache, arena: &[u8], size: u32, w: Walk, carried: Carried, d: Decision) -> Step
+    ensures { λ r. ⌜ r ≡ Walks.decided c (now (arena .entry)) size w carried d ⌝ }
+{
+    let ending = d.ending;
+    let v = taken(w, d);
+    match ending {
+        Ending::Going => {
+            let way = v.way;
+            let key = way.tile;
+            let hit = cache::ages::look_up(c, arena, size, carried, key);
+            next_by(v, hit, arena)
+        }
+        Ending::Stops(_) | Ending::Need(_) | Ending::Stale => Step { walk: v, carried },
+    }
+}
+
+// On from a junction whose ways on are known.
+fn onward(c: Cache, arena: &[u8], size: u32, w: Walk, x: Crossing) -> Step
+    ensures { λ r. ⌜ r ≡ Walks.onward c (now (arena .entry)) size w x ⌝ }
+{
+    let ending = x.ending;
+    let carried = x.carried;
+    match ending {
+        Ending::Going => {
+            let choices = x.choices;
+            let d = crate::decide::decide(choices, x.blocked, w.confidence);
+            decided(c, arena, size, w, carried, d)
+        }
+        Ending::Stops(_) | Ending::Need(_) | Ending::Stale => {
+            let walk = crate::enter::with_ending(w, ending);
+            Step { walk, carried }
+        }
+    }
+}
+// The junction at the end of the walk's edge.
+pub(crate) fn crossed(
+    c: Cache,
+    arena: &[u8],
+    header: Header,
+    w: Walk,
+    carried: Carried,
+    bytes: &[u8],
+    leg: Leg,
+) -> Step
+    ensures { λ r. ⌜ r ≡ Walks.crossed c (now (arena .entry)) header w carried (now (bytes .entry)) leg ⌝ }
+{
+    let head = tile::read::head(bytes);
+    let incoming = incoming_of(w, head.lon_um);
+    let d = turned(w, leg.edge, incoming);
+    let way = d.way;
+    let road = d.road;
+    let entry = d.entry;
+    let bound = bound_of(entry, incoming);
+    let arrival = Arrival {
+        header,
+        way,
+        bound,
+        road,
+    };
+    let visited = d.visited;
+    let node = node_of(leg);
+    let none = crate::choose::no_choices();
+    let choices = crate::consider::consider(none, arrival, visited, bytes, way.tile, node);
+    let at = tile::raw::node(bytes, node);
+    let twins = crate::twins::boundary_twins(at.x, at.y, (header.tile % 65536) as u16);
+    let x = crate::cross::cross(c, arena, arrival, visited, carried, choices, twins);
+    onward(c, arena, header.tile, d, x)
+}

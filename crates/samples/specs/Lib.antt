@@ -1,2 +1,0 @@
--- An elevation every 20 m of road.
-pub mod Samples

@@ -1,2 +1,0 @@
--- Following the road ahead.
-pub mod Walk
