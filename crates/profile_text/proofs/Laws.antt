@@ -1,7 +1,7 @@
 -- Laws of the text and of its writers. Texts that are put one behind the other are put as one: none, one byte, two texts, the next byte of a text
 -- (`append-none`, `append-one`, `append-more`, `append-next`), and what is put from 0 on is how the buffer begins (`whole`).
--- Numbers in decimal by their last digit (`decimal-one`, `decimal-more`), and how long they are (`decimal-some`, `length-decimal`, `number-ends`). Whole metres of 16 bits and how long
--- they are (`whole-metres-mag`, `length-metres`), a line (`length-line`), the lines of one sample more (`lines-more`), and samples by index (`length-samples`, `sample-at`). Assumes nothing.
+-- Numbers in decimal by their last digit (`decimal-one`, `decimal-more`), and how long they are (`decimal-some`, `length-decimal`, `number-ends`). How long whole
+-- metres of 16 bits are (`length-metres`), a line (`length-line`), the lines of one sample more (`lines-more`), and samples by index (`length-samples`, `sample-at`). Assumes nothing.
 use Prim.Native.Nat.{ℕ, zero, suc, _+_, _*_, _/_, _%_, _^_, _<_, _≤_}
 use mathlib.Core.Path.{_≡_, refl, sym, ap, _∙_}
 use mathlib.Core.List.{List, [], _∷_, _++_, append-assoc, append-nil}
@@ -12,12 +12,13 @@ use native.Mathlib.Omega.{arith}
 use lib.ListN.{length, take, drop, set, getD, length-append, take-append-drop}
 use lib.Seq.{take-suc, take-suc-set, drop-set-lt, drop-drop}
 use lib.Dec.{ltb}
-use lib.IntN.{ℤ, pos, negsuc, negℤ}
+use lib.IntN.{ℤ, pos, negsuc}
 use lib.Signed.{mag}
 use borrow.Author.Tests.{lt-ltb, le-ltb}
 use Rattle.num.specs.Cast.{signed16}
 use Rattle.profile_text.specs.Text.{digits, decimal, signed, wholeMetres, line, lines, samples}
 use Rattle.profile_text.specs.Appended.{Appended}
+use Rattle.profile_text.proofs.Rounding.{whole-metres-mag}
 
 -- ---- text put into a buffer
 
@@ -103,15 +104,7 @@ number-ends n h l = omega (arith, h .ends, length-decimal 4 n (omega arith))
 
 -- ---- whole metres, and a line
 
-pub whole-metres-mag : (z : ℤ) → mag z < 32768 → mag (wholeMetres z) < 3277
-whole-metres-mag (pos n) h = omega arith
-whole-metres-mag (negsuc n) h = minus (suc n / 10) (omega arith)
-  where
-    minus : (m : ℕ) → m < 3277 → mag (negℤ (pos m)) < 3277
-    minus zero l = omega arith
-    minus (suc m) l = omega arith
-
-length-signed : (z : ℤ) → mag z < 3277 → length (signed z) ≤ 5
+length-signed : (z : ℤ) → mag z < 3278 → length (signed z) ≤ 5
 length-signed (pos n) h = omega (arith, length-decimal 3 n (omega arith))
 length-signed (negsuc n) h = omega (arith, length-decimal 3 (suc n) (omega arith))
 

@@ -1,2 +1,3 @@
 -- The laws that the proofs of `profile_text` share.
 pub mod Laws
+pub mod Rounding

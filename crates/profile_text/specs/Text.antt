@@ -1,12 +1,12 @@
--- What the program `profile` prints, from the bytes of its input: document 01, "Program `profile`". Text is a list of ASCII codes.
+-- What the program `profile` prints, from the bytes of its input: document 01, "Program `profile`", with document 02's request 3. Text is a list of ASCII codes.
 -- Assumes nothing.
-use Prim.Native.Nat.{ℕ, zero, suc, _+_, _*_, _/_, _%_}
+use Prim.Native.Nat.{ℕ, zero, suc, _+_, _-_, _*_, _/_, _%_, _≤_}
+use mathlib.Core.Path.{_≡_}
 use mathlib.Core.Bool.{_&&_, cond}
 use mathlib.Core.List.{List, [], _∷_, _++_}
 use lib.Dec.{leb, ltb, eqb}
 use lib.ListN.{length}
-use lib.IntN.{ℤ, pos, negsuc}
-use lib.Signed.{quotZ}
+use lib.IntN.{ℤ, pos, negsuc, negℤ, natAbs, _-ℤ_, _*ℤ_}
 use Rattle.num.specs.Cast.{signed16}
 
 -- ---- numbers
@@ -25,11 +25,23 @@ abbrev pub signed : ℤ → List ℕ
 signed (pos n) = decimal n
 signed (negsuc n) = 45 ∷ decimal (suc n)
 
--- ---- lines
+-- ---- whole metres: document 02, request 3, "rounded to nearest, halves away from zero"
 
--- decimetres in whole metres, cut toward zero
+-- m is the whole number of metres nearest to z decimetres; of two as near it is the one further from zero
+pub record Rounded (z m : ℤ) : Type 0 where
+  pub near : (k : ℤ) → natAbs (z -ℤ pos 10 *ℤ m) ≤ natAbs (z -ℤ pos 10 *ℤ k)
+  pub tie : (k : ℤ) → natAbs (z -ℤ pos 10 *ℤ k) ≡ natAbs (z -ℤ pos 10 *ℤ m) → natAbs k ≤ natAbs m
+
+-- of the whole metres on either side of n decimetres the nearer, at a tie the greater
+abbrev pub nearer : ℕ → ℕ
+nearer n = cond (ltb (n - 10 * (n / 10)) (10 * (n / 10 + 1) - n)) (n / 10) (n / 10 + 1)
+
+-- the metres that are `Rounded`: `whole-metres-rounded` and `rounded-only` of proofs/Rounding
 abbrev pub wholeMetres : ℤ → ℤ
-wholeMetres z = quotZ z (pos 10)
+wholeMetres (pos n) = pos (nearer n)
+wholeMetres (negsuc n) = negℤ (pos (nearer (suc n)))
+
+-- ---- lines
 
 -- metres ahead, 20 a sample; a blank; the rise; a line end
 unfoldable pub line : ℕ → ℤ → List ℕ

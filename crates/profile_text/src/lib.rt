@@ -54,11 +54,20 @@ fn put_number(out: &mut [u8; 6026], at: usize, n: u32) -> usize
     put_bytes(out, at, &digits[first..])
 }
 
-// Decimetres in whole metres, cut toward zero.
+// Decimetres in whole metres, rounded to nearest, halves away from zero.
 pub fn whole_metres(dm: i16) -> i16
     ensures { λ r. ⌜ r ≡ Text.wholeMetres dm ⌝ }
 {
-    dm / 10
+    let cut = dm / 10;
+    // what was cut, with the sign of `dm`
+    let rest = dm % 10;
+    if 5 <= rest {
+        return cut + 1;
+    }
+    if rest <= -5 {
+        return cut - 1;
+    }
+    cut
 }
 
 // The sample at index i: bytes 2 i and 2 i + 1, the low one first.

@@ -3,6 +3,7 @@
 use crate::engine::packs;
 use crate::engine::sled::{self, Sled};
 use crate::matching::roads::{Grid, Place, Road};
+use crate::profile;
 use crate::random::Random;
 use crate::road::networks;
 use crate::tally::Tally;
@@ -57,12 +58,6 @@ fn line(number: usize, status: Status, a: &Ahead) -> String {
     format!("{number} {status} {matched} {} {end} {}\n", a.len, a.confidence)
 }
 
-fn table(a: &Ahead) -> String {
-    let rows = a.samples[..a.len].iter().enumerate();
-    let rows = rows.map(|(n, dm)| format!("{} {}\n", 20 * n, dm / 10));
-    ["distance rise\n".into()].into_iter().chain(rows).collect()
-}
-
 fn fix(line: &str) -> Option<Fix> {
     let words: Vec<&str> = line.split(' ').collect();
     let [lat, lon, at] = words[..] else {
@@ -107,7 +102,8 @@ fn text(pack: &[u8], drive: &str, every: u64) -> String {
             return out + "drive: the pack is refused, or eight reads of it failed\n";
         }
     }
-    out + &table(engine.ahead())
+    let a = engine.ahead();
+    out + &profile::table(&a.samples[..a.len])
 }
 
 /// Prints what the program prints for these files.

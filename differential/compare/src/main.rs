@@ -29,6 +29,7 @@ mod matching;
 mod numbers;
 mod packs;
 mod panics;
+mod profile;
 mod random;
 mod road;
 mod tally;
@@ -91,7 +92,7 @@ const FULL: Scale = Scale {
 /// Every part, on as many threads as there are processors where a part takes one itself: each
 /// thread takes the next part that is left. The tallies come in the parts' order.
 fn compare(scale: &Scale) -> Vec<Tally> {
-    let parts: [fn(&Scale) -> Vec<Tally>; 9] = [
+    let parts: [fn(&Scale) -> Vec<Tally>; 10] = [
         numbers::compare,
         engine::compare,
         matching::compare,
@@ -101,6 +102,7 @@ fn compare(scale: &Scale) -> Vec<Tally> {
         crc::compare,
         angles::compare,
         |_| drive::compare(),
+        |_| profile::compare(),
     ];
     let next = AtomicUsize::new(0);
     let done = Mutex::new(parts.map(|_| Vec::new()));
@@ -153,13 +155,16 @@ fn main() -> ExitCode {
         ["bench", "engine"] => engine::bench::run(),
         ["panics"] => panics::print(),
         ["gate", "drive"] => drive::compare(),
+        ["gate", "profile"] => profile::compare(),
         ["drive", pack, list] => drive::print(pack, list, "0"),
         ["drive", pack, list, every] => drive::print(pack, list, every),
+        ["profile"] => profile::print(None),
+        ["profile", file] => profile::print(Some(file)),
         ["sample", pack, list] => drive::write(pack, list),
         ["sample", pack, list, seed] => drive::write_any(pack, list, seed),
         _ => {
             eprintln!(
-                "usage: run [gate [cache | matching | road | engine | drive] | full [numbers [NAME] | format | cache | matching | road | engine] | bench [road | engine] | panics | list FILE | list_format FILE | list_cache FILE | list_matches FILE | list_roads FILE | list_engine FILE | drive PACK DRIVE [K] | sample PACK DRIVE [SEED]"
+                "usage: run [gate [cache | matching | road | engine | drive | profile] | full [numbers [NAME] | format | cache | matching | road | engine] | bench [road | engine] | panics | list FILE | list_format FILE | list_cache FILE | list_matches FILE | list_roads FILE | list_engine FILE | drive PACK DRIVE [K] | profile [FILE] | sample PACK DRIVE [SEED]"
             );
             return ExitCode::from(2);
         }
