@@ -1,13 +1,12 @@
--- Laws of the whole root: what it is, that it is the only one, and a turn of the loop that finds it two bits at a time. Assumes nothing.
+-- Laws of the whole root: what it is, that it is the only one, and how further digits of it are found from the remainder.
 use Prim.Native.Nat.{ℕ, zero, suc, _+_, _-_, _*_, _/_, _^_, _≤_, _<_}
 use mathlib.Core.Path.{_≡_, refl, sym, ap, _∙_}
+use mathlib.Core.Logic.{_⊎_, inl, inr}
 use mathlib.Core.Bool.{Bool, true, false, cond}
-use native.Mathlib.Nat.{mul-le-mul, pow-suc, le-antisymm, le-of-suc-le-suc, lt-of-not-le, lt-of-lt-of-le, div-le-self, div-eq-of-lt}
+use native.Mathlib.Nat.{mul-le-mul, mul-le-mul-left, mul-le-mul-right, mul-pos, pow-suc, le-antisymm, le-of-suc-le-suc, lt-of-not-le}
 use native.Mathlib.Omega.{arith}
-use lib.Count.{leadingZeros, leading-le, leading-length}
 use lib.Dec.{leb}
-use lib.Pow.{shr-shr, pow-mono}
-use lib.Bits.{bitAnd, and-mask}
+use lib.Pow.{pow-mono}
 use lib.Ieee.{size}
 use lib.Ieee.Digits.{size-lt}
 use borrow.Author.Tests.{leb-true, leb-false}
@@ -59,68 +58,120 @@ root-only n r h =
     let w : IsRoot n (wholeRoot n) = root-is n in
     le-antisymm (below n r (wholeRoot n) (h .0) (w .1)) (below n (wholeRoot n) r (w .0) (h .1))
 
--- ---- the loop: p the digits of x taken so far, r its root and m what is left over
+-- ---- root and remainder: r² + m is the number whose digits came so far
 
 abbrev pub Digits : ℕ → ℕ → ℕ → Type 0
-Digits p r m = (square r + m ≡ p) × (m ≤ 2 * r)
+Digits n r m = (square r + m ≡ n) × (m ≤ 2 * r)
 
-digits-up : (p r m d : ℕ) → d < 4 → Digits p r m → r * 2 * 2 < m * 4 + d → Digits (4 * p + d) (r * 2 + 1) (m * 4 + d - r * 2 * 2 - 1)
-digits-up p r m d h l t = (omega arith, omega arith)
+pub digits-root : (n r m : ℕ) → Digits n r m → r ≡ wholeRoot n
+digits-root n r m d = root-only n r (omega arith, omega arith)
 
-digits-no : (p r m d : ℕ) → d < 4 → Digits p r m → m * 4 + d ≤ r * 2 * 2 → Digits (4 * p + d) (r * 2) (m * 4 + d)
-digits-no p r m d h l t = (omega arith, omega arith)
+-- a root lies between those of two squares that its number lies between
+pub digits-in : (n r m low high : ℕ) → Digits n r m → square low ≤ n → n < square (high + 1) → (low ≤ r) × (r ≤ high)
+digits-in n r m low high d h l = (below n low r h (omega arith), below n r high (omega arith) l)
 
-pub digits-root : (x r m : ℕ) → Digits x r m → r ≡ wholeRoot x
-digits-root x r m h = root-only x r (omega arith, omega arith)
+-- what `root::below` gives
+abbrev pub Below : ℕ → ℕ → ℕ → Type 0
+Below a b d = ((a < b) × (d ≡ 1)) ⊎ ((b ≤ a) × (d ≡ 0))
 
--- what has been taken of a 64-bit x after i turns, and two bits more
-abbrev pub front : ℕ → ℕ → ℕ
-front x i = x / 2 ^ (64 - i * 2)
+-- ---- the first digits: the line from (64, 8) to (256, 16) lies below the root, by less than 1
 
-abbrev pub two : ℕ → ℕ → ℕ
-two x i = bitAnd (x / 2 ^ (62 - i * 2)) 3
+abbrev pub line : ℕ → ℕ
+line x = (x + 128) / 24
 
-front-next : (x i : ℕ) → i < 32 → front x (i + 1) ≡ 4 * front x i + two x i
-front-next x i h =
-    let y : ℕ = x / 2 ^ (62 - i * 2) in
-    let a : 64 - (i + 1) * 2 ≡ 62 - i * 2 = omega arith in
-    let b : 62 - i * 2 + 2 ≡ 64 - i * 2 = omega arith in
-    let q : y / 4 ≡ front x i = shr-shr x (62 - i * 2) 2 ∙ ap (λ (k : ℕ). x / 2 ^ k) b in
-    ap (λ (k : ℕ). x / 2 ^ k) a ∙ omega (arith, q, and-mask y 2)
+-- (i - 2)² + 8 is not below 0: the curve leaves the line by less than 1
+bend : (i : ℕ) → 4 * i ≤ 12 + i * i
+bend zero = omega arith
+bend (suc zero) = omega arith
+bend (suc (suc zero)) = omega arith
+bend (suc (suc (suc i))) = omega arith
 
-pub two-lt : (x i : ℕ) → two x i < 4
-two-lt x i = omega (arith, and-mask (x / 2 ^ (62 - i * 2)) 2)
+pub line-is : (x : ℕ) → 64 ≤ x → x < 256 → (square (line x) ≤ x) × ((x < square (line x + 2)) × (line x < 16))
+line-is x h l =
+    let i : ℕ = (x + 128) / 24 - 8 in
+    let e : (x + 128) / 24 ≡ 8 + i = omega arith in
+    let low : i * i ≤ 8 * i = mul-le-mul-right i (omega arith) in
+    (omega (arith, ap square e, low), (omega (arith, ap square e, bend i), omega arith))
 
--- a root of what a 64-bit number starts with is below 2 ^ 32
-root-fits : (x i r m : ℕ) → x < 2 ^ 64 → Digits (front x i) r m → r < 2 ^ 32
-root-fits x i r m h l =
-    let d : front x i ≤ x = div-le-self x (2 ^ (64 - i * 2)) in
-    let f : 2 ^ 32 ≤ r → ⊥ = λ g. absurd (omega (arith, mul-le-mul {n₁ = 2 ^ 32} {m₁ = 2 ^ 32} {n₂ = r} {m₂ = r} g g)) in
-    lt-of-not-le f
+-- the first root and remainder, where d is 1 if the line gives one too few
+pub first-is : (x d : ℕ) → 64 ≤ x → x < 256 → Below (line x * (line x + 2)) x d → (d ≤ 1) × (((line x + d) * (line x + d) ≤ x) × Digits x (line x + d) (x - (line x + d) * (line x + d)))
+first-is x d h l b = go (line x) (line-is x h l) d b
+  where
+    go : (w : ℕ) → (square w ≤ x) × ((x < square (w + 2)) × (w < 16)) → (d : ℕ) → Below (w * (w + 2)) x d
+        → (d ≤ 1) × (((w + d) * (w + d) ≤ x) × Digits x (w + d) (x - (w + d) * (w + d)))
+    go w k d (inl t) = rw (t .1) (omega arith, (omega arith, (omega arith, omega arith)))
+    go w k d (inr t) = rw (t .1) (omega arith, (omega arith, (omega arith, omega arith)))
 
--- the loop's invariant, its start, and its two turns
-abbrev pub Good : ℕ → ℕ → ℕ → ℕ → Type 0
-Good x i r m = (i ≤ 32) × ((r < 2 ^ 32) × Digits (front x i) r m)
+-- ---- further digits: the number's next come as h and l, both below b; the remainder with h, divided by twice the root, is q, and u is left
 
-good : (x i r m : ℕ) → x < 2 ^ 64 → i ≤ 32 → Digits (front x i) r m → Good x i r m
-good x i r m h l d = (l, (root-fits x i r m h d, d))
+-- what `root::longer` asks for
+abbrev pub Step : ℕ → ℕ → ℕ → ℕ → ℕ → Type 0
+Step r m b h l = (m ≤ 2 * r) × ((r < 8192) × ((b ≤ 4096) × ((b ≤ r) × ((h < b) × (l < b)))))
 
--- it starts at the first digits that are not all zero: nothing is taken before them
-pub good-start : (x : ℕ) → x < 2 ^ 64 → Good x (leadingZeros 64 x / 2) 0 0
-good-start x h =
-    let i : ℕ = leadingZeros 64 x / 2 in
-    let l = leading-length 64 x h in
-    let shorter : 2 ^ l .0 ≤ 2 ^ (64 - i * 2) = pow-mono (omega (arith, l .1)) in
-    let none : front x i ≡ 0 = div-eq-of-lt (lt-of-lt-of-le (l .2) shorter) in
-    good x i 0 0 h (omega (arith, leading-le 64 x)) (sym none, omega arith)
+-- every number of the step has at most 28 digits
+pub record Bounds (r m b l q u : ℕ) : Type 0 where
+  pub rest : m * b ≤ 2 ^ 26
+  pub whole : r * b ≤ 2 ^ 25
+  pub some : 0 < r * b
+  pub next : q ≤ b
+  pub taken : q * q ≤ r * b
+  pub left : u * b + l < r * 2 * b
 
-pub good-up : (x i r m w s : ℕ) → x < 2 ^ 64 → i < 32 → Good x i r m → r * 2 * 2 < m * 4 + two x i → w ≡ r * 2 + 1 → s ≡ m * 4 + two x i - r * 2 * 2 - 1
-    → Good x (i + 1) w s
-good-up x i r m w s h l g t p q =
-    rw (p, q) (good x (i + 1) (r * 2 + 1) (m * 4 + two x i - r * 2 * 2 - 1) h (omega arith)
-    (rw (front-next x i l) (digits-up (front x i) r m (two x i) (two-lt x i) (g .1 .1) t)))
+-- the number with its further digits
+abbrev pub grown : ℕ → ℕ → ℕ → ℕ → ℕ → ℕ
+grown r m b h l = (square r + m) * (b * b) + h * b + l
 
-pub good-no : (x i r m w s : ℕ) → x < 2 ^ 64 → i < 32 → Good x i r m → m * 4 + two x i ≤ r * 2 * 2 → w ≡ r * 2 → s ≡ m * 4 + two x i → Good x (i + 1) w s
-good-no x i r m w s h l g t p q =
-    rw (p, q) (good x (i + 1) (r * 2) (m * 4 + two x i) h (omega arith)
-    (rw (front-next x i l) (digits-no (front x i) r m (two x i) (two-lt x i) (g .1 .1) t)))
+-- its root and remainder, where d is 1 for one too many
+pub record Longer (r m b h l q u d : ℕ) : Type 0 where
+  pub most : d ≤ 1
+  pub extra : d * ((r * b + q) * 2 - 1) ≤ 2 ^ 27
+  pub enough : q * q ≤ u * b + l + d * ((r * b + q) * 2 - 1)
+  pub digits : Digits (grown r m b h l) (r * b + q - d) (u * b + l + d * ((r * b + q) * 2 - 1) - q * q)
+
+moved : (n r m r' m' : ℕ) → r' ≡ r → m' ≡ m → Digits n r m → Digits n r' m'
+moved n r m r' m' e f d = rw (e, f) d
+
+module _ (r m b h l q u : ℕ) (s : Step r m b h l) (parted : r * 2 * q + u ≡ m * b + h) (less : u < r * 2) where
+  pub bounds : Bounds r m b l q u
+  bounds =
+      let wide : m * b ≤ 2 * r * b = mul-le-mul-right b (s .0) in
+      let f : suc b ≤ q → ⊥ = λ g. absurd (omega (arith, wide, mul-le-mul-left (r * 2) g)) in
+      let t : q ≤ b = le-of-suc-le-suc (lt-of-not-le f) in
+      record {
+        rest = omega (arith, mul-le-mul {n₁ = m} {m₁ = b} {n₂ = 2 ^ 14} {m₂ = 2 ^ 12} (omega arith) (omega arith));
+        whole = omega (arith, mul-le-mul {n₁ = r} {m₁ = b} {n₂ = 2 ^ 13} {m₂ = 2 ^ 12} (omega arith) (omega arith));
+        some = mul-pos {m = r} {n = b} (omega arith) (omega arith);
+        next = t;
+        taken = omega (arith, mul-le-mul t t, mul-le-mul-right b (s .1 .1 .1 .0));
+        left = omega (arith, mul-le-mul-right {m = suc u} {n = r * 2} b less);
+      }
+
+  as-found : q * q ≤ u * b + l → Digits (grown r m b h l) (r * b + q) (u * b + l - q * q)
+  as-found t = (omega (arith, ap (λ (x : ℕ). x * b) parted), omega (arith, bounds .left))
+
+  one-less : u * b + l < q * q → Digits (grown r m b h l) (r * b + q - 1) (u * b + l + ((r * b + q) * 2 - 1) - q * q)
+  one-less t =
+      let k : Bounds r m b l q u = bounds in
+      let w : ℕ = r * b + q - 1 in
+      let e : w + 1 ≡ r * b + q = omega arith in
+      (omega (arith, ap (λ (x : ℕ). x * b) parted, ap square e), omega arith)
+
+  pub longer-is : (d : ℕ) → Below (u * b + l) (q * q) d → Longer r m b h l q u d
+  longer-is d (inl t) =
+      let k : Bounds r m b l q u = bounds in
+      let w : ℕ = (r * b + q) * 2 - 1 in
+      let e : d * ((r * b + q) * 2 - 1) ≡ w = ap (λ (x : ℕ). x * ((r * b + q) * 2 - 1)) (t .1) ∙ omega arith in
+      record {
+        most = omega arith;
+        extra = omega arith;
+        enough = omega arith;
+        digits = moved (grown r m b h l) (r * b + q - 1) (u * b + l + w - q * q) _ _ (omega arith) (omega arith) (one-less (t .0));
+      }
+  longer-is d (inr t) =
+      let e : d * ((r * b + q) * 2 - 1) ≡ 0 = ap (λ (x : ℕ). x * ((r * b + q) * 2 - 1)) (t .1) ∙ omega arith in
+      record {
+        most = omega arith;
+        extra = omega arith;
+        enough = omega arith;
+        digits = moved (grown r m b h l) (r * b + q) (u * b + l - q * q) _ _ (omega arith) (omega arith) (as-found (t .0));
+      }

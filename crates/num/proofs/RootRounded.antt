@@ -105,13 +105,13 @@ root-of (fin false (suc m) e) n g h =
 
 -- ---- a number m of fewer than 25 digits, scaled to 49 or 50
 
--- how many digits a 64-bit m has
+-- how many digits a 32-bit m has
 abbrev pub digitsOf : ℕ → ℕ
-digitsOf m = 64 - leadingZeros 64 m
+digitsOf m = 32 - leadingZeros 32 m
 
 pub digits-are : (m : ℕ) → m < 16777216 → (digitsOf m ≤ 24) × ((m < 2 ^ digitsOf m) × (2 ^ digitsOf m ≤ 2 * m + 1))
 digits-are m h =
-    let l = leading-length 64 m (omega arith) in
+    let l = leading-length 32 m (omega arith) in
     let e : l .0 ≡ digitsOf m = omega (arith, l .1) in
     let a : m < 2 ^ digitsOf m = subst (λ (k : ℕ). m < 2 ^ k) e (l .2) in
     let b : 2 ^ digitsOf m ≤ 2 * m + 1 = subst (λ (k : ℕ). 2 ^ k ≤ 2 * m + 1) e (l .3) in
@@ -167,6 +167,20 @@ wide-at m (suc n) d h g l a b = go d h
 
 pub wide-is : (m n t : ℕ) → 0 < m → n ≤ 24 → m < 2 ^ n → 2 ^ n ≤ 2 * m + 1 → (2 ^ 48 ≤ wideOf m n t) × ((wideOf m n t + 2 ^ 26 ≤ 2 ^ 50) × (wideOf m n t % 2 ≡ 0))
 wide-is m n t g l a b = wide-at m n (t % 2) (omega arith) g l a b
+
+-- the last 24 of those digits are zeros: the others are a number of 25 or 26 digits
+abbrev pub topOf : ℕ → ℕ → ℕ → ℕ
+topOf m n t = m * 2 ^ (25 - n + t % 2)
+
+pub wide-top : (m n t : ℕ) → n ≤ 24 → topOf m n t * 2 ^ 24 ≡ wideOf m n t
+wide-top m n t l =
+    let e : 25 - n + t % 2 + 24 ≡ shiftOf n t = omega arith in
+    mul-assoc m (2 ^ (25 - n + t % 2)) (2 ^ 24) ∙ ap (λ (x : ℕ). m * x) (sym (pow-add 2 (25 - n + t % 2) 24) ∙ ap (λ (k : ℕ). 2 ^ k) e)
+
+pub top-is : (m n t : ℕ) → 0 < m → n ≤ 24 → m < 2 ^ n → 2 ^ n ≤ 2 * m + 1 → (2 ^ 24 ≤ topOf m n t) × (topOf m n t < 2 ^ 26)
+top-is m n t g l a b =
+    let w : (2 ^ 48 ≤ wideOf m n t) × ((wideOf m n t + 2 ^ 26 ≤ 2 ^ 50) × (wideOf m n t % 2 ≡ 0)) = wide-is m n t g l a b in
+    (omega (arith, wide-top m n t l, w .0), omega (arith, wide-top m n t l, w .1 .0))
 
 half-is : (w : ℕ) → 2 ^ 48 ≤ w → w + 2 ^ 26 ≤ 2 ^ 50 → (2 ^ 23 ≤ half w) × (half w < 2 ^ 24)
 half-is w h l =

@@ -7,12 +7,6 @@ use borrow.Author.Needs.{needs}
 use Rattle.num.proofs.root.root_bits.Statement.{statement}
 use Rattle.num.proofs.root.root_bits.Tie as tie
 
-cast-field : tie.Need-cast-field
-cast-field c = search needs
-
-cast-low : tie.Need-cast-low
-cast-low c = search needs
-
 rounded-requires : tie.Need-rounded-requires
 rounded-requires c κs = search needs
 
@@ -40,8 +34,6 @@ pub root-bits-spec : {M : Type 1} → statement M
 root-bits-spec =
     tie.close
     (tie.spec
-    cast-field
-    cast-low
     rounded-requires
     returns
     add-rounded
