@@ -91,6 +91,10 @@ uint32_t terrain_length(float east, float north, float *out);
 uint32_t terrain_turn(float from, float to, float *out);
 uint32_t terrain_project(float p_east, float p_north, float a_east, float a_north, float b_east, float b_north, float out[2]);
 
+/* An edge of a tile and a segment of it, which joins the edge's points of its number and the next, that meets the transect from one point to another, touching
+ * included; none where no segment does. Which one is named where several meet it is open: 12, 8 for an end, 9 for the key, 4 for the tile's bytes. */
+uint32_t terrain_crossing(int32_t lat, int32_t lon, int32_t to_lat, int32_t to_lon, const uint32_t header[13], uint16_t row, uint16_t col, const uint8_t *bytes, size_t len, uint32_t out[2]);
+
 /* ---- Scripts of calls.
  * docs/REPLAY.md has their format. Arena and out must not overlap each other or anything else that is lent. */
 

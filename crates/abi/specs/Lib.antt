@@ -2,3 +2,4 @@
 pub mod Answers
 pub mod Figures
 pub mod Format
+pub mod Transects

@@ -2,6 +2,7 @@
 mod figures;
 mod format;
 mod replay;
+mod transect;
 
 ghost use mathlib.Core.Path.{_≡_};
 ghost use lib.IntN.{pos};

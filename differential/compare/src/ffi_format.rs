@@ -113,3 +113,33 @@ pub fn pack_read(pack: &[u8], offset: u64, len: usize) -> u32 {
     // SAFETY: pointer and length are the slice's; the function only reads.
     unsafe { terrain_pack_read(pack.as_ptr(), pack.len(), offset, len) }
 }
+
+/// An edge and a segment that meets the transect from the first point to the second.
+pub fn crossing(
+    first: [i32; 2],
+    second: [i32; 2],
+    header: &Words,
+    key: [u16; 2],
+    bytes: &[u8],
+) -> Answer<2> {
+    unsafe extern "C" {
+        fn terrain_crossing(
+            lat: i32,
+            lon: i32,
+            to_lat: i32,
+            to_lon: i32,
+            header: &Words,
+            row: u16,
+            col: u16,
+            at: *const u8,
+            len: usize,
+            out: *mut u32,
+        ) -> u32;
+    }
+    let ([lat, lon], [to_lat, to_lon], [row, col]) = (first, second, key);
+    let (at, len) = (bytes.as_ptr(), bytes.len());
+    // SAFETY: as above; pointer and length are the slice's.
+    lent(|out| unsafe {
+        terrain_crossing(lat, lon, to_lat, to_lon, header, row, col, at, len, out)
+    })
+}

@@ -15,6 +15,7 @@ mod angles;
 mod bench;
 mod cache;
 mod crc;
+mod crossing;
 mod drive;
 mod engine;
 mod expected;
@@ -56,6 +57,8 @@ pub struct Scale {
     crc_len: u64,
     /// What the numbers of headers, tiles and packs go by.
     packs: u64,
+    /// Tiles that transects are laid about.
+    crossings: u64,
     /// What the numbers of scripts go by.
     cache: u64,
     /// Networks that are ridden on.
@@ -72,6 +75,7 @@ const GATE: Scale = Scale {
     random: 10_000_000,
     crc_len: 512,
     packs: 1_000,
+    crossings: 50_000,
     cache: 200,
     matches: 2_000,
     roads: 1_000,
@@ -83,6 +87,7 @@ const FULL: Scale = Scale {
     random: 50_000_000,
     crc_len: 4_096,
     packs: 20_000,
+    crossings: 1_000_000,
     cache: 8_000,
     matches: 20_000,
     roads: 10_000,
@@ -92,7 +97,7 @@ const FULL: Scale = Scale {
 /// Every part, on as many threads as there are processors where a part takes one itself: each
 /// thread takes the next part that is left. The tallies come in the parts' order.
 fn compare(scale: &Scale) -> Vec<Tally> {
-    let parts: [fn(&Scale) -> Vec<Tally>; 10] = [
+    let parts: [fn(&Scale) -> Vec<Tally>; 11] = [
         numbers::compare,
         engine::compare,
         matching::compare,
@@ -101,6 +106,7 @@ fn compare(scale: &Scale) -> Vec<Tally> {
         format_and_geometry,
         crc::compare,
         angles::compare,
+        crossing::compare,
         |_| drive::compare(),
         |_| profile::compare(),
     ];
@@ -136,6 +142,8 @@ fn main() -> ExitCode {
         ["full", "format"] => {
             crc::compare(&FULL).into_iter().chain(format_and_geometry(&FULL)).collect()
         }
+        ["gate", "crossing"] => crossing::compare(&GATE),
+        ["full", "crossing"] => crossing::compare(&FULL),
         ["gate", "cache"] => cache::compare(&GATE),
         ["full", "cache"] => cache::compare(&FULL),
         ["gate", "matching"] => matching::compare(&GATE),
@@ -164,7 +172,7 @@ fn main() -> ExitCode {
         ["sample", pack, list, seed] => drive::write_any(pack, list, seed),
         _ => {
             eprintln!(
-                "usage: run [gate [cache | matching | road | engine | drive | profile] | full [numbers [NAME] | format | cache | matching | road | engine] | bench [road | engine] | panics | list FILE | list_format FILE | list_cache FILE | list_matches FILE | list_roads FILE | list_engine FILE | drive PACK DRIVE [K] | profile [FILE] | sample PACK DRIVE [SEED]"
+                "usage: run [gate [crossing | cache | matching | road | engine | drive | profile] | full [numbers [NAME] | format | crossing | cache | matching | road | engine] | bench [road | engine] | panics | list FILE | list_format FILE | list_cache FILE | list_matches FILE | list_roads FILE | list_engine FILE | drive PACK DRIVE [K] | profile [FILE] | sample PACK DRIVE [SEED]"
             );
             return ExitCode::from(2);
         }
