@@ -238,7 +238,7 @@ sound-set g i v f b r k l = record {
     here : (q : ℕ) → q ≡ i → Alike (slotAt (set (g .slots) i v) q) (slotAt (g .slots) q)
     here q e =
         rw (e, getD-set-same (g .slots) i v emptySlot (omega (arith, f .size, f .small)))
-        (record { kind = k ∙ sym r; len = l; blank = λ (n : kindOf (slotAt (g .slots) i) ≡ run → ⊥). absurd (n r) })
+        (record { kind = k ∙ sym r; len = l; keyless = λ (n : kindOf (slotAt (g .slots) i) ≡ run → ⊥). absurd (n r) })
 
     there : (q : ℕ) → (q ≡ i → ⊥) → Alike (slotAt (set (g .slots) i v) q) (slotAt (g .slots) q)
-    there q e = rw (getD-set-other (g .slots) i q v emptySlot e) (record { kind = refl; len = refl; blank = λ (n : kindOf (slotAt (g .slots) q) ≡ run → ⊥). refl })
+    there q e = rw (getD-set-other (g .slots) i q v emptySlot e) (record { kind = refl; len = refl; keyless = λ (n : kindOf (slotAt (g .slots) q) ≡ run → ⊥). refl })

@@ -7,7 +7,7 @@ use mathlib.Core.Logic.{⊎-elim}
 use native.Mathlib.Omega.{arith}
 use Rattle.pack.specs.declared.TileKey.{TileKey}
 use Rattle.cache.specs.declared.Slot.{Slot}
-use Rattle.cache.specs.Runs.{span, emptySlot, slotAt, Kind, bare, run, piece, kindOf, kindAt, endOf, blank, PieceGood, KindGood, PageGood, Good}
+use Rattle.cache.specs.Runs.{span, emptySlot, slotAt, Kind, bare, run, piece, kindOf, kindAt, endOf, noKey, PieceGood, KindGood, PageGood, Good}
 use Rattle.cache.specs.Evict.{headSlot, pieceSlot}
 use Rattle.cache.proofs.Below.{same-or}
 use Rattle.cache.proofs.RunLaws.{run-at, piece-at}
@@ -58,20 +58,19 @@ module _ (s t : List Slot) (count a e : ℕ) (f : Good s count) (closed : Closed
     later = g .later;
     head = ap kindOf (same h (piece-away p h o r)) ∙ g .head;
     inside = rw (same h (piece-away p h o r)) (g .inside);
-    blank = rw (same p o) (g .blank);
+    keyless = rw (same p o) (g .keyless);
   }
-  kept-by p bare o r g = rw (same p o) g
+  kept-by p bare o r g = tt
 
   pub kept-page : (p : ℕ) → Out a e p → PageGood t count p
   kept-page p o = rw (same p o) (kept-by p (kindAt s p) o refl (f p))
 
   -- the range emptied
   pub good-cleared : ((q : ℕ) → a ≤ q → q < e → slotAt t q ≡ emptySlot) → Good t count
-  unfolding blank
   good-cleared empty p =
       ⊎-elim
       (λ o. kept-page p o)
-      (λ h. let z : slotAt t p ≡ emptySlot = empty p (h .0) (h .1) in rw z (rw z))
+      (λ h. rw (empty p (h .0) (h .1)) tt)
       (out-or a e p)
 
 -- ---- a run placed on bare pages
@@ -89,12 +88,11 @@ module _ (s t : List Slot) (count a : ℕ) (key : TileKey) (len : ℕ) (f : Good
   })
 
   placed-piece : (p : ℕ) → a < p → p < a + span len → PageGood t count p
-  unfolding blank
   placed-piece p h k = rw (pieces p h k) (record {
     later = h;
     head = ap kindOf head;
     inside = rw head k;
-    blank = rw (pieces p h k);
+    keyless = rw (pieces p h k);
   })
 
   pub good-placed : Good t count
@@ -109,7 +107,7 @@ module _ (s t : List Slot) (count a : ℕ) (key : TileKey) (len : ℕ) (f : Good
 pub record Alike (v u : Slot) : Type 0 where
   pub kind : kindOf v ≡ kindOf u
   pub len : v .len ≡ u .len
-  pub blank : (kindOf u ≡ run → ⊥) → blank v ≡ blank u
+  pub keyless : (kindOf u ≡ run → ⊥) → noKey (v .key) ≡ noKey (u .key)
 
 module _ (s t : List Slot) (count : ℕ) (f : Good s count) (same : (q : ℕ) → Alike (slotAt t q) (slotAt s q)) where
   alike-by : (p : ℕ) (k : Kind) → kindAt s p ≡ k → KindGood s count p k → KindGood t count p k
@@ -121,9 +119,9 @@ module _ (s t : List Slot) (count : ℕ) (f : Good s count) (same : (q : ℕ) �
     later = g .later;
     head = same h .kind ∙ g .head;
     inside = rw (same h .len) (g .inside);
-    blank = same p .blank (λ (e : kindAt s p ≡ run). let z : _≡_ {A = ℕ} 0 1 = cc in omega arith) ∙ g .blank;
+    keyless = same p .keyless (λ (e : kindAt s p ≡ run). let z : _≡_ {A = ℕ} 0 1 = cc in omega arith) ∙ g .keyless;
   }
-  alike-by p bare r g = same p .blank (λ (e : kindAt s p ≡ run). let z : _≡_ {A = ℕ} 0 1 = cc in omega arith) ∙ g
+  alike-by p bare r g = tt
 
   pub good-same : Good t count
   good-same p = rw (same p .kind) (alike-by p (kindAt s p) refl (f p))

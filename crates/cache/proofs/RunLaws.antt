@@ -1,6 +1,7 @@
 -- Well-formed runs: the test `runsOk` is the same as the facts `Good`, both ways (`ok-is-good`, `good-is-ok`; for pages as a whole
 -- `sound`, `sound-ok`), and what they tell: runs lie within the count (`inside`) and apart (`apart`), and a page has a key just where a
--- run starts (`key-is-run`), which is what the Rust asks. Before that, what a span holds. Assumes nothing.
+-- run starts (`key-is-run`), which is what the Rust asks: so a page that a lookup finds by its key starts a run, whatever else is marked ready.
+-- Before that, what a span holds. Assumes nothing.
 use Prim.Native.Nat.{ℕ, _+_, _*_, _-_, _<_, _≤_}
 use mathlib.Core.Path.{_≡_, refl, sym, ap}
 use mathlib.Core.Bool.{true, not, _&&_, true≢false}
@@ -8,7 +9,7 @@ use mathlib.Core.List.{List}
 use mathlib.Core.Logic.{⊎-elim}
 use native.Mathlib.Omega.{arith}
 use borrow.Author.Tests.{ltb-true, leb-true, eqb-true, lt-ltb, le-leb, eq-eqb}
-use lib.Dec.{ltb, leb, eqb}
+use lib.Dec.{ltb, leb}
 use lib.ListN.{length, List·getD-eq-default}
 use Rattle.cache.specs.declared.Slot.{Slot}
 use Rattle.cache.specs.declared.Pages.{Pages}
@@ -16,8 +17,8 @@ use Rattle.cache.specs.declared.Part.{Part}
 use Rattle.cache.specs.declared.Part.the-variants as Part
 use Rattle.cache.specs.declared.MaybeKey.{MaybeKey}
 use Rattle.cache.specs.declared.MaybeKey.the-variants as MaybeKey
-use Rattle.cache.specs.Runs.{span, emptySlot, slotAt, Kind, bare, run, piece, kindBy, kindAt, endOf, isRun, isPiece, noKey, blank, piecesOk, runOk, pieceOk, kindOk, pageOk, aloneBy, standsAlone, runsOk, RunGood, PieceGood, KindGood, PageGood, Good, Sound}
-use Rattle.cache.proofs.Below.{below-or, and-left, and-right, all-none, all-at, all-from}
+use Rattle.cache.specs.Runs.{span, emptySlot, slotAt, Kind, bare, run, piece, kindBy, kindAt, endOf, isRun, isPiece, noKey, piecesOk, runOk, pieceOk, kindOk, pageOk, runsOk, RunGood, PieceGood, KindGood, PageGood, Good, Sound}
+use Rattle.cache.proofs.Below.{below-or, and-left, and-right, all-at, all-from}
 
 -- ---- spans
 
@@ -81,34 +82,33 @@ module _ (s : List Slot) (count p : ℕ) where
   piece-good : (h : ℕ) → pieceOk s p h ≡ true → PieceGood s p h
   unfolding pieceOk
   piece-good h e =
-      let r : (isRun (kindAt s h) && (ltb (p - h) (span (slotAt s h .len)) && blank (slotAt s p))) ≡ true = and-right (ltb h p) _ e in
-      let t : (ltb (p - h) (span (slotAt s h .len)) && blank (slotAt s p)) ≡ true = and-right (isRun (kindAt s h)) _ r in
+      let r : (isRun (kindAt s h) && (ltb (p - h) (span (slotAt s h .len)) && noKey (slotAt s p .key))) ≡ true = and-right (ltb h p) _ e in
+      let t : (ltb (p - h) (span (slotAt s h .len)) && noKey (slotAt s p .key)) ≡ true = and-right (isRun (kindAt s h)) _ r in
       let later : h < p = ltb-true h p (and-left (ltb h p) _ e) in
       record {
         later = later;
         head = is-run (kindAt s h) (and-left (isRun (kindAt s h)) _ r);
         inside = omega (arith, ltb-true (p - h) (span (slotAt s h .len)) (and-left (ltb (p - h) (span (slotAt s h .len))) _ t));
-        blank = and-right (ltb (p - h) (span (slotAt s h .len))) _ t;
+        keyless = and-right (ltb (p - h) (span (slotAt s h .len))) _ t;
       }
 
   good-piece : (h : ℕ) → PieceGood s p h → pieceOk s p h ≡ true
   unfolding pieceOk
-  good-piece h g = rw (lt-ltb h p (g .later), g .head, lt-ltb (p - h) (span (slotAt s h .len)) (omega (arith, g .later, g .inside)), g .blank)
+  good-piece h g = rw (lt-ltb h p (g .later), g .head, lt-ltb (p - h) (span (slotAt s h .len)) (omega (arith, g .later, g .inside)), g .keyless)
 
   ok-kind : (k : Kind) → kindOk s count p k ≡ true → KindGood s count p k
   ok-kind run e = run-good e
   ok-kind (piece h) e = piece-good h e
-  ok-kind bare e = e
+  ok-kind bare e = tt
 
   kind-ok : (k : Kind) → KindGood s count p k → kindOk s count p k ≡ true
   kind-ok run g = good-run g
   kind-ok (piece h) g = good-piece h g
-  kind-ok bare g = g
+  kind-ok bare g = refl
 
 -- a page past the last slot is bare
-past-good : (s : List Slot) (count p : ℕ) → length s ≤ p → PageGood s count p
-unfolding blank
-past-good s count p h = rw (List·getD-eq-default s emptySlot h) (rw (List·getD-eq-default s emptySlot h))
+pub past-good : (s : List Slot) (count p : ℕ) → length s ≤ p → PageGood s count p
+past-good s count p h = rw (List·getD-eq-default s emptySlot h) tt
 
 pub ok-is-good : (g : Pages) → length (g .slots) ≡ 96 → runsOk g ≡ true → Good (g .slots) (g .count)
 ok-is-good g size e p =
@@ -152,28 +152,9 @@ module _ (s : List Slot) (count : ℕ) (f : Good s count) where
 
   -- the Rust's test, whether a page has a key, is the test for a run
   pub key-is-run : (p : ℕ) → noKey (slotAt s p .key) ≡ not (isRun (kindAt s p))
-  unfolding blank
-  key-is-run p = by (slotAt s p .part) (slotAt s p .key) (λ (h : ℕ) (e : kindAt s p ≡ piece h). and-left (noKey (slotAt s p .key)) _ (piece-at p h e .blank))
+  key-is-run p = by (slotAt s p .part) (slotAt s p .key) (λ (h : ℕ) (e : kindAt s p ≡ piece h). piece-at p h e .keyless)
     where
       by : (a : Part) (b : MaybeKey) → ((h : ℕ) → kindBy a b ≡ piece h → noKey b ≡ true) → noKey b ≡ not (isRun (kindBy a b))
       by (Part.Of h) b f = f h refl
       by Part.Head (MaybeKey.Key k) f = refl
       by Part.Head MaybeKey.Nothing f = refl
-
--- ---- a page that stands alone
-
-alone-run : (s : List Slot) (count p : ℕ) → (ltb p count && eqb (span (slotAt s p .len)) 1) ≡ true → runOk s count p ≡ true
-unfolding runOk
-alone-run s count p e =
-    let below : ltb p count ≡ true = and-left (ltb p count) _ e in
-    let one : span (slotAt s p .len) ≡ 1 = eqb-true (span (slotAt s p .len)) 1 (and-right (ltb p count) _ e) in
-    rw (below, one, le-leb 1 (count - p) (omega (arith, ltb-true p count below))) (all-none (λ (i : ℕ). isPiece p (kindAt s (p + 1 + i))))
-
--- it is as it must be
-pub alone-ok : (s : List Slot) (count p : ℕ) → standsAlone (slotAt s p) p count ≡ true → pageOk s count p ≡ true
-alone-ok s count p = by (kindAt s p)
-  where
-    by : (k : Kind) → aloneBy k (slotAt s p) p count ≡ true → kindOk s count p k ≡ true
-    by run e = alone-run s count p e
-    by (piece h) e = absurd (true≢false (sym e))
-    by bare e = e

@@ -1,9 +1,9 @@
 -- Page runs: `cache.rs`, Slot and span ("the first of a tile's pages holds its key and length, the rest point back at it"), and when
--- they are well-formed: document 01's number 12 for "page runs that overlap, pass the page count or lack a part". The test stands here
--- twice, as the Bool that `runs_ok` answers, page by page in the code's order, and as facts of each page (`Good`). Every page has a slot:
--- past the last stands the empty one. Assumes nothing.
+-- they are well-formed: document 01's number 12 for "page runs that overlap, pass the page count or lack a part". A later page whose run
+-- does not reach it is of a run that lacks its first part. The test stands here twice, as the Bool that `runs_ok` answers, page by page, and
+-- as facts of each page (`Good`). Every page has a slot: past the last stands the empty one. Assumes nothing.
 use Prim.Native.Nat.{ℕ, zero, suc, _+_, _-_, _/_, _<_, _≤_}
-use mathlib.Core.Bool.{Bool, true, false, not, _&&_}
+use mathlib.Core.Bool.{Bool, true, false, _&&_}
 use mathlib.Core.List.{List}
 use mathlib.Core.Path.{_≡_}
 use lib.Dec.{eqb, ltb, leb}
@@ -68,10 +68,6 @@ abbrev pub noKey : MaybeKey → Bool
 noKey MaybeKey.Nothing = true
 noKey (MaybeKey.Key k) = false
 
--- no key, not ready, no length: what a page that starts no run has to be
-unfoldable pub blank : Slot → Bool
-blank s = noKey (s .key) && (not (s .ready) && eqb (s .len) 0)
-
 -- ---- well-formed, as a test
 
 -- p holds of each number below the bound
@@ -87,26 +83,19 @@ piecesOk s p n = allBelow (λ (i : ℕ). isPiece p (kindAt s (p + 1 + i))) n
 unfoldable pub runOk : List Slot → ℕ → ℕ → Bool
 runOk s count p = ltb p count && (leb (span (slotAt s p .len)) (count - p) && piecesOk s p (span (slotAt s p .len) - 1))
 
--- page p, which points at h, is blank, and a run at h, before it, reaches it
+-- page p, which points at h, is of a run at h, before it: one that reaches it, and it has no key, which would be a run over another. What
+-- else stands in such a page nobody reads
 unfoldable pub pieceOk : List Slot → ℕ → ℕ → Bool
-pieceOk s p h = ltb h p && (isRun (kindAt s h) && (ltb (p - h) (span (slotAt s h .len)) && blank (slotAt s p)))
+pieceOk s p h = ltb h p && (isRun (kindAt s h) && (ltb (p - h) (span (slotAt s h .len)) && noKey (slotAt s p .key)))
 
+-- a bare page is of no run, whatever its length and its mark are
 abbrev pub kindOk : List Slot → ℕ → ℕ → Kind → Bool
 kindOk s count p run = runOk s count p
 kindOk s count p (piece h) = pieceOk s p h
-kindOk s count p bare = blank (slotAt s p)
+kindOk s count p bare = true
 
 abbrev pub pageOk : List Slot → ℕ → ℕ → Bool
 pageOk s count p = kindOk s count p (kindAt s p)
-
--- page p with slot s is as it must be whatever the others are: blank and part of no run, or a run of one page within the count
-abbrev pub aloneBy : Kind → Slot → ℕ → ℕ → Bool
-aloneBy run s p count = ltb p count && eqb (span (s .len)) 1
-aloneBy (piece h) s p count = false
-aloneBy bare s p count = blank s
-
-abbrev pub standsAlone : Slot → ℕ → ℕ → Bool
-standsAlone s p count = aloneBy (kindOf s) s p count
 
 -- the count is at most 96, and each of the 96 pages is as it must be
 abbrev pub runsOk : Pages → Bool
@@ -119,17 +108,17 @@ pub record RunGood (s : List Slot) (count p : ℕ) : Type 0 where
   pub within : endOf s p ≤ count
   pub pieces : (q : ℕ) → p < q → q < endOf s p → kindAt s q ≡ piece p
 
--- page p, which points at h, is blank and lies in a run that starts at h
+-- page p, which points at h, lies in a run that starts at h and has no key
 pub record PieceGood (s : List Slot) (p h : ℕ) : Type 0 where
   pub later : h < p
   pub head : kindAt s h ≡ run
   pub inside : p < endOf s h
-  pub blank : blank (slotAt s p) ≡ true
+  pub keyless : noKey (slotAt s p .key) ≡ true
 
 abbrev pub KindGood : List Slot → ℕ → ℕ → Kind → Type 0
 KindGood s count p run = RunGood s count p
 KindGood s count p (piece h) = PieceGood s p h
-KindGood s count p bare = blank (slotAt s p) ≡ true
+KindGood s count p bare = Unit
 
 abbrev pub PageGood : List Slot → ℕ → ℕ → Type 0
 PageGood s count p = KindGood s count p (kindAt s p)

@@ -12,8 +12,15 @@ use crate::Pages;
 use crate::Part;
 use crate::Slot;
 ghost use mathlib.Core.Path.{_≡_};
-ghost use Prim.Native.Nat.{_+_, _<_, _≤_};
+ghost use Prim.Native.Nat.{_<_};
+ghost use Rattle.cache.specs.Pass as Pass;
 ghost use Rattle.cache.specs.Runs as Runs;
+
+// The last run that a pass over the pages met: its first page and the page after it. Both are 0 before the first.
+struct LastRun {
+    head: usize,
+    end: usize,
+}
 
 // Pages that a tile of `len` bytes takes, one at least.
 pub fn span(len: usize) -> usize
@@ -55,135 +62,56 @@ pub(crate) fn is_run(s: Slot) -> bool
     }
 }
 
-// Whether this page is a later one of the run at `head`.
-pub(crate) fn is_piece(s: Slot, head: usize) -> bool
-    ensures { λ r. ⌜ r ≡ Runs.isPiece head (Runs.kindOf s) ⌝ }
+// Whether page `p`, with the slot `s`, is as it must be behind the last run: below its end a later page of it with no key, which would be a
+// run over another; from its end on bare, or a run that ends by the count.
+fn fits(s: Slot, p: usize, last: LastRun, count: usize) -> bool
+    requires { ⌜ p < 96 ⌝ }
+    ensures { λ r. ⌜ r ≡ Pass.fits s p last count ⌝ }
 {
     let part = s.part;
     let key = s.key;
     match part {
-        Part::Of(h) => h == head,
-        Part::Head => match key {
+        Part::Of(h) => match key {
             MaybeKey::Key(_) => false,
-            MaybeKey::Nothing => false,
+            MaybeKey::Nothing => p < last.end && h == last.head,
         },
-    }
-}
-
-// No key, no length, not ready: what a page that starts no run has to be.
-fn blank(s: Slot) -> bool
-    ensures { λ r. ⌜ r ≡ Runs.blank s ⌝ }
-{
-    let key = s.key;
-    match key {
-        MaybeKey::Key(_) => false,
-        MaybeKey::Nothing => {
-            if s.ready {
-                return false;
-            }
-            s.len == 0
-        }
-    }
-}
-
-// Whether the `n` pages after `p` are pieces of the run at `p`.
-fn pieces_ok(g: Pages, p: usize, n: usize) -> bool
-    requires { ⌜ p + n < 96 ⌝ }
-    ensures { λ r. ⌜ r ≡ Runs.piecesOk (g .slots) p n ⌝ }
-{
-    for i in 0..n {
-        let s = slot_at(g, p + 1 + i);
-        if !is_piece(s, p) {
-            return false;
-        }
-    }
-    true
-}
-
-// Whether the run at `p` lies within the count and has all its pieces. Tested so that nothing wraps.
-fn run_ok(g: Pages, p: usize) -> bool
-    requires { ⌜ g .count ≤ 96 ⌝ }
-    ensures { λ r. ⌜ r ≡ Runs.runOk (g .slots) (g .count) p ⌝ }
-{
-    if g.count <= p {
-        return false;
-    }
-    let s = slot_at(g, p);
-    let n = span(s.len);
-    if g.count - p < n {
-        return false;
-    }
-    pieces_ok(g, p, n - 1)
-}
-
-// Whether page `p`, which points at `h`, is blank and a run at `h`, before it, reaches it.
-fn piece_ok(g: Pages, p: usize, h: usize) -> bool
-    ensures { λ r. ⌜ r ≡ Runs.pieceOk (g .slots) p h ⌝ }
-{
-    if p <= h {
-        return false;
-    }
-    let head = slot_at(g, h);
-    if !is_run(head) {
-        return false;
-    }
-    if span(head.len) <= p - h {
-        return false;
-    }
-    let s = slot_at(g, p);
-    blank(s)
-}
-
-fn page_ok(g: Pages, p: usize) -> bool
-    requires { ⌜ g .count ≤ 96 ⌝ }
-    ensures { λ r. ⌜ r ≡ Runs.pageOk (g .slots) (g .count) p ⌝ }
-{
-    let s = slot_at(g, p);
-    let part = s.part;
-    let key = s.key;
-    match part {
-        Part::Of(h) => piece_ok(g, p, h),
         Part::Head => match key {
-            MaybeKey::Key(_) => run_ok(g, p),
-            MaybeKey::Nothing => blank(s),
+            MaybeKey::Key(_) => last.end <= p && p + span(s.len) <= count,
+            MaybeKey::Nothing => last.end <= p,
         },
     }
 }
 
-// Whether page `p` with slot `s` is as it must be whatever the others are: blank and part of no run, or a run of one page within the count.
-fn stands_alone(s: Slot, p: usize, count: usize) -> bool
-    ensures { λ r. ⌜ r ≡ Runs.standsAlone s p count ⌝ }
+// The last run once page `p` was passed.
+fn after(s: Slot, p: usize, last: LastRun) -> LastRun
+    requires { ⌜ p < 96 ⌝ }
+    ensures { λ r. ⌜ r ≡ Pass.after s p last ⌝ }
 {
-    let part = s.part;
-    let key = s.key;
-    match part {
-        Part::Of(_) => false,
-        Part::Head => match key {
-            MaybeKey::Nothing => blank(s),
-            MaybeKey::Key(_) => {
-                if count <= p {
-                    return false;
-                }
-                span(s.len) == 1
-            }
-        },
+    if is_run(s) {
+        return LastRun {
+            head: p,
+            end: p + span(s.len),
+        };
     }
+    last
 }
 
-// Whether the count is at most `MAX_PAGES` and the runs are well-formed: none overlaps another, passes the count or lacks a part. Other pages
-// are looked at only where a run has more than one: that copies no state for the rest.
+// Whether the count is at most `MAX_PAGES` and the runs are well-formed: none overlaps another, passes the count or lacks a part. One pass, which
+// reads each slot once and carries the last run as two numbers, so that no state is copied page by page.
 pub(crate) fn runs_ok(g: Pages) -> bool
     ensures { λ r. ⌜ r ≡ Runs.runsOk g ⌝ }
 {
     if MAX_PAGES < g.count {
         return false;
     }
+    let mut last = LastRun { head: 0, end: 0 };
     let mut p = 0;
     while p < MAX_PAGES {
         let s = g.slots[p];
-        if !stands_alone(s, p, g.count) && !page_ok(g, p) {
+        if !fits(s, p, last, g.count) {
             return false;
         }
+        last = after(s, p, last);
         p += 1;
     }
     true

@@ -8,7 +8,7 @@ use mathlib.Core.Logic.{⊎-elim}
 use native.Mathlib.Omega.{arith}
 use lib.ListN.{length}
 use Rattle.cache.specs.declared.Pages.{Pages}
-use Rattle.cache.specs.Runs.{slotAt, run, kindAt, Sound}
+use Rattle.cache.specs.Runs.{slotAt, run, kindAt}
 use Rattle.cache.proofs.Below.{below-or}
 use Rattle.cache.proofs.RunLaws.{span-holds, apart}
 use Rattle.cache.proofs.FillLaws.{out}
@@ -20,7 +20,7 @@ use Rattle.cache.specs.Lookups.{runBytes, lenAt}
 use Rattle.cache.specs.Loads.{chunkLen, put}
 use Rattle.cache_lists.specs.Claims.{OfChunk, Written}
 use Rattle.cache_lists.proofs.Stores.{part-same, put-size, put-same}
-use Rattle.cache_lists.proofs.Inv.{LoadIn, Inv, ready-run, chunk-room}
+use Rattle.cache_lists.proofs.Inv.{LoadIn, InvPages, Inv, ready-run, chunk-room}
 
 pub not-written : (x : MaybeLoading) (arena : List ℕ) → Written x arena arena
 not-written x arena = record { size = refl; others = λ b o. refl }
@@ -32,7 +32,7 @@ put-written l arena bs size = record {
 }
 
 -- byte b of a ready run, the one from page i on
-module _ (g : Pages) (f : Sound g) (i b : ℕ) (ready : slotAt (g .slots) i .ready ≡ true) (from : i * 8192 ≤ b) (below : b < i * 8192 + slotAt (g .slots) i .len) where
+module _ (g : Pages) (f : InvPages g) (i b : ℕ) (ready : slotAt (g .slots) i .ready ≡ true) (from : i * 8192 ≤ b) (below : b < i * 8192 + slotAt (g .slots) i .len) where
   chunk-apart : (x : MaybeLoading) → LoadIn (g .slots) x → OfChunk x b → ⊥
   chunk-apart MaybeLoading.Nothing r o = o
   chunk-apart (MaybeLoading.Tile l) r o = ⊎-elim before (λ k. after (omega (arith, k, other))) (below-or i (l .slot))

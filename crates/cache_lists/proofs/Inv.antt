@@ -1,24 +1,23 @@
--- The state's own invariant, with no premise on what was delivered (`Inv`): well-formed pages, a ring of 64 places and a place in it, a
+-- The state's own invariant, with no premise on what was delivered (`Inv`): well-formed pages of which none is ready but the first of a run, a ring of 64 places and a place in it, a
 -- load that has its run, no run that is neither ready nor the load's, an open fetch that the state makes. It has in it what number 12 tests
 -- (`inv-ok`), a fresh cache has it, and each change of the state keeps it. So live runs lie within the pages and apart (`inv-apart`).
 -- Assumes nothing.
 use Prim.Native.Nat.{ℕ, _+_, _-_, _<_, _≤_}
 use mathlib.Core.Path.{_≡_, refl, sym, ap, _∙_}
-use mathlib.Core.Bool.{Bool, true, false, not, cond, true≢false}
+use mathlib.Core.Bool.{Bool, true, false, cond}
 use mathlib.Core.List.{List}
 use mathlib.Core.Logic.{inl, ⊎-elim}
 use native.Mathlib.Omega.{arith}
-use borrow.Author.Tests.{not-true, ltb-false, lt-ltb, eq-eqb}
+use borrow.Author.Tests.{ltb-false, lt-ltb, eq-eqb}
 use lib.Dec.{ltb}
 use lib.ListN.{length, replicate, length-replicate, length-set}
 use Rattle.pack.specs.declared.TileKey.{TileKey}
 use Rattle.cache.specs.declared.Slot.{Slot}
 use Rattle.cache.specs.declared.Pages.{Pages}
 use Rattle.cache.specs.declared.MaybeKey.the-variants as MaybeKey
-use Rattle.cache.specs.Runs.{span, emptySlot, slotAt, Kind, bare, run, piece, kindOf, kindAt, noKey, blank, KindGood, Sound}
+use Rattle.cache.specs.Runs.{span, emptySlot, slotAt, run, kindOf, kindAt, Good, Sound}
 use Rattle.cache.specs.Evict.{evicted, headSlot}
 use Rattle.cache.specs.Begin.{replaced}
-use Rattle.cache.proofs.Below.{and-left, and-right}
 use Rattle.cache.proofs.RunLaws.{span-pos, sound-ok, inside, apart}
 use Rattle.cache.proofs.EvictLaws.{SameOrEmpty, evicted-count, sound-evicted, evicted-either, placed-head, sound-set}
 use Rattle.cache.proofs.BeginLaws.{sound-replaced}
@@ -37,7 +36,7 @@ use Rattle.cache.specs.Loads.{chunkLen, withdrawn, moved, forgot, withoutRun, d
 use Rattle.cache_lists.specs.Claims.{LoadsAt, Live, Apart}
 use Rattle.cache_lists.proofs.Lookups.{key-same}
 use Rattle.cache_lists.proofs.Stores.{getD-same}
-use Rattle.cache_lists.proofs.Live.{LiveIn, none-live, evicted-live, replaced-live, ready-live}
+use Rattle.cache_lists.proofs.Live.{LiveIn, none-live, evicted-live, replaced-live, ready-live, MarksIn, none-marked, evicted-marked, replaced-marked, ready-marked}
 
 -- ---- the invariant
 
@@ -53,8 +52,21 @@ abbrev pub LoadIn : List Slot → MaybeLoading → Type 0
 LoadIn s MaybeLoading.Nothing = Unit
 LoadIn s (MaybeLoading.Tile l) = Loads s l
 
+-- well-formed, and a page that is marked ready starts a run. Number 12 doesn't ask the latter, and no call leaves anything else
+pub record InvPages (g : Pages) : Type 0 where
+  pub size : length (g .slots) ≡ 96
+  pub small : g .count ≤ 96
+  pub good : Good (g .slots) (g .count)
+  pub marks : MarksIn (g .slots)
+
+pub sound-in : (g : Pages) → InvPages g → Sound g
+sound-in g f = record { size = f .size; small = f .small; good = f .good }
+
+pages-in : (g : Pages) → Sound g → MarksIn (g .slots) → InvPages g
+pages-in g f m = record { size = f .size; small = f .small; good = f .good; marks = m }
+
 pub record Inv (c : Cache) : Type 0 where
-  pub pages : Sound (c .pages)
+  pub pages : InvPages (c .pages)
   pub places : length (c .missing .keys) ≡ 64
   pub ring : c .missing .next < 64
   pub live : LiveIn (c .pages .slots) (c .loading)
@@ -70,22 +82,12 @@ loads-ok g (MaybeLoading.Tile l) f = rw (f .run, f .key, key-same (l .key), eq-e
 
 pub inv-ok : (c : Cache) → Inv c → stateOk c ≡ true
 unfolding stateOk
-inv-ok c f = rw (sound-ok (c .pages) (f .pages), lt-ltb (c .missing .next) 64 (f .ring), loads-ok (c .pages) (c .loading) (f .load), f .pending)
+inv-ok c f = rw (sound-ok (c .pages) (sound-in (c .pages) (f .pages)), lt-ltb (c .missing .next) 64 (f .ring), loads-ok (c .pages) (c .loading) (f .load), f .pending)
 
 -- ---- live runs
 
-blank-waits : (s : Slot) → blank s ≡ true → s .ready ≡ false
-unfolding blank
-blank-waits s e = not-true (s .ready) (and-left (not (s .ready)) _ (and-right (noKey (s .key)) _ e))
-
--- a page that is ready starts a run
-ready-by : (s : List Slot) (count p : ℕ) (k : Kind) → KindGood s count p k → slotAt s p .ready ≡ true → k ≡ run
-ready-by s count p run g e = refl
-ready-by s count p (piece h) g e = absurd (true≢false (sym e ∙ blank-waits (slotAt s p) (g .blank)))
-ready-by s count p bare g e = absurd (true≢false (sym e ∙ blank-waits (slotAt s p) g))
-
-pub ready-run : (g : Pages) → Sound g → (p : ℕ) → slotAt (g .slots) p .ready ≡ true → kindAt (g .slots) p ≡ run
-ready-run g f p e = ready-by (g .slots) (g .count) p (kindAt (g .slots) p) (f .good p) e
+pub ready-run : (g : Pages) → InvPages g → (p : ℕ) → slotAt (g .slots) p .ready ≡ true → kindAt (g .slots) p ≡ run
+ready-run g f p e = f .marks p e
 
 loads-run : (s : List Slot) (x : MaybeLoading) (h : ℕ) → LoadIn s x → LoadsAt x h → kindAt s h ≡ run
 loads-run s MaybeLoading.Nothing h f e = absurd e
@@ -103,18 +105,18 @@ inv-apart c f = record {
 
 -- ---- nothing in it
 
-sound-empty : (used : List ℕ) (count clock : ℕ) → count ≤ 96 → Sound (record { slots = replicate 96 emptySlot; used = used; count = count; clock = clock })
-unfolding blank
-sound-empty used count clock h = record {
+pages-empty : (used : List ℕ) (count clock : ℕ) → count ≤ 96 → InvPages (record { slots = replicate 96 emptySlot; used = used; count = count; clock = clock })
+pages-empty used count clock h = record {
   size = length-replicate 96 emptySlot;
   small = h;
-  good = λ (p : ℕ). let z : slotAt (replicate 96 emptySlot) p ≡ emptySlot = getD-same 96 p emptySlot in rw z (rw z);
+  good = λ (p : ℕ). let z : slotAt (replicate 96 emptySlot) p ≡ emptySlot = getD-same 96 p emptySlot in rw z tt;
+  marks = none-marked;
 }
 
 pub inv-fresh : (n : ℕ) → n ≤ 96 → Inv (fresh n)
 unfolding fresh
 inv-fresh n h = record {
-  pages = sound-empty (replicate 96 0) n 0 h;
+  pages = pages-empty (replicate 96 0) n 0 h;
   places = length-replicate 64 emptyPlace;
   ring = omega arith;
   live = none-live MaybeLoading.Nothing;
@@ -125,7 +127,7 @@ inv-fresh n h = record {
 pub inv-cleared : (c : Cache) → Inv c → Inv (cleared c)
 unfolding cleared
 inv-cleared c f = record {
-  pages = sound-empty (c .pages .used) (c .pages .count) (c .pages .clock) (f .pages .small);
+  pages = pages-empty (c .pages .used) (c .pages .count) (c .pages .clock) (f .pages .small);
   places = length-replicate 64 emptyPlace;
   ring = f .ring;
   live = none-live MaybeLoading.Nothing;
@@ -159,7 +161,7 @@ touched-fits c i Pending.Chunk = touched-chunk c i (c .loading)
 pub inv-touched : (c : Cache) (i : ℕ) → Inv c → Inv (touched c i)
 unfolding touched
 inv-touched c i f = record {
-  pages = record { size = f .pages .size; small = f .pages .small; good = f .pages .good };
+  pages = record { size = f .pages .size; small = f .pages .small; good = f .pages .good; marks = f .pages .marks };
   places = f .places;
   ring = f .ring;
   live = f .live;
@@ -186,7 +188,7 @@ inv-forgot c key f = record {
   pending = withdrawn-fits (c .pending) (forgot c key);
 }
 
-inv-moved : (c : Cache) (g : Pages) (x : MaybeLoading) → Inv c → Sound g → LiveIn (g .slots) x → LoadIn (g .slots) x → Inv (moved c g x)
+inv-moved : (c : Cache) (g : Pages) (x : MaybeLoading) → Inv c → InvPages g → LiveIn (g .slots) x → LoadIn (g .slots) x → Inv (moved c g x)
 unfolding moved
 inv-moved c g x f s a l = record {
   pages = s;
@@ -200,7 +202,7 @@ inv-moved c g x f s a l = record {
 -- ---- a load dropped, begun, gone on with, ended
 
 -- the load's run lies within the pages
-pub loads-within : (g : Pages) (l : Loading) → Sound g → Loads (g .slots) l → l .slot + span (l .len) ≤ g .count
+pub loads-within : (g : Pages) (l : Loading) → InvPages g → Loads (g .slots) l → l .slot + span (l .len) ≤ g .count
 loads-within g l f r = rw (r .len) at (inside (g .slots) (g .count) (f .good) (l .slot) (r .run))
 
 module _ (g : Pages) where
@@ -208,26 +210,29 @@ module _ (g : Pages) where
   without-count MaybeLoading.Nothing = refl
   without-count (MaybeLoading.Tile l) = evicted-count 1 (l .slot) g
 
-  first-within : (l : Loading) → Sound g → Loads (g .slots) l → l .slot + 1 ≤ g .count
+  first-within : (l : Loading) → InvPages g → Loads (g .slots) l → l .slot + 1 ≤ g .count
   first-within l f r = omega (arith, loads-within g l f r, span-pos (l .len))
 
-  sound-without : (x : MaybeLoading) → Sound g → LoadIn (g .slots) x → Sound (withoutRun x g)
-  sound-without MaybeLoading.Nothing f r = f
-  sound-without (MaybeLoading.Tile l) f r = sound-evicted 1 (l .slot) g f (first-within l f r)
+  pages-without : (x : MaybeLoading) → InvPages g → LoadIn (g .slots) x → InvPages (withoutRun x g)
+  pages-without MaybeLoading.Nothing f r = f
+  pages-without (MaybeLoading.Tile l) f r =
+      let s : Sound g = sound-in g f in
+      let b : l .slot + 1 ≤ g .count = first-within l f r in
+      pages-in (evicted 1 (l .slot) g) (sound-evicted 1 (l .slot) g s b) (evicted-marked 1 (l .slot) g s b (f .marks))
 
-  live-without : (x : MaybeLoading) → Sound g → LoadIn (g .slots) x → LiveIn (g .slots) x → LiveIn (withoutRun x g .slots) MaybeLoading.Nothing
+  live-without : (x : MaybeLoading) → InvPages g → LoadIn (g .slots) x → LiveIn (g .slots) x → LiveIn (withoutRun x g .slots) MaybeLoading.Nothing
   live-without MaybeLoading.Nothing f r a = a
-  live-without (MaybeLoading.Tile l) f r a = evicted-live g l f (first-within l f r) a
+  live-without (MaybeLoading.Tile l) f r a = evicted-live g l (sound-in g f) (first-within l f r) a
 
-  pub without-either : (x : MaybeLoading) → Sound g → LoadIn (g .slots) x → (i : ℕ) → SameOrEmpty g (withoutRun x g) i
+  pub without-either : (x : MaybeLoading) → InvPages g → LoadIn (g .slots) x → (i : ℕ) → SameOrEmpty g (withoutRun x g) i
   without-either MaybeLoading.Nothing f r i = inl refl
-  without-either (MaybeLoading.Tile l) f r i = evicted-either 1 (l .slot) g f (first-within l f r) i
+  without-either (MaybeLoading.Tile l) f r i = evicted-either 1 (l .slot) g (sound-in g f) (first-within l f r) i
 
 pub inv-dropped : (c : Cache) → Inv c → Inv (dropped c)
 unfolding dropped
 inv-dropped c f =
     inv-moved c (withoutRun (c .loading) (c .pages)) MaybeLoading.Nothing f
-    (sound-without (c .pages) (c .loading) (f .pages) (f .load))
+    (pages-without (c .pages) (c .loading) (f .pages) (f .load))
     (live-without (c .pages) (c .loading) (f .pages) (f .load) (f .live))
     tt
 
@@ -246,10 +251,11 @@ module _ (g : Pages) (s : ℕ) (key : TileKey) (len : ℕ) (f : Sound g) (fits :
 pub inv-began : (c : Cache) (s : ℕ) (key : TileKey) (offset len : ℕ) → Inv c → c .loading ≡ MaybeLoading.Nothing → s + span len ≤ c .pages .count → 0 < len
     → Inv (moved c (replaced (c .pages) s key len) (MaybeLoading.Tile (newLoad key s offset len)))
 inv-began c s key offset len f e fits h =
+    let sound : Sound (c .pages) = sound-in (c .pages) (f .pages) in
     inv-moved c (replaced (c .pages) s key len) (MaybeLoading.Tile (newLoad key s offset len)) f
-    (sound-replaced (c .pages) s key len (f .pages) fits)
-    (replaced-live (c .pages) s key offset len (f .pages) fits (rw e at (f .live)))
-    (loads-new (c .pages) s key len (f .pages) fits offset h)
+    (pages-in (replaced (c .pages) s key len) (sound-replaced (c .pages) s key len sound fits) (replaced-marked (c .pages) s key len sound fits (f .pages .marks)))
+    (replaced-live (c .pages) s key offset len sound fits (rw e at (f .live)))
+    (loads-new (c .pages) s key len sound fits offset h)
 
 -- a chunk is part of what is left
 chunk-by : (l : Loading) (t : Bool) → ltb (l .len - l .done) 2048 ≡ t → l .done < l .len → l .done + cond t (l .len - l .done) 2048 ≤ l .len
@@ -272,19 +278,27 @@ module _ (c : Cache) (l : Loading) (f : Inv c) (e : c .loading ≡ MaybeLoading.
   unfolding further
   inv-further come h = inv-moved c (c .pages) _ f (f .pages) live (record { run = r .run; key = r .key; len = r .len; waits = r .waits; below = h })
 
+  below : l .slot < length (c .pages .slots)
+  below = omega (arith, first-within (c .pages) l (f .pages) r, f .pages .size, f .pages .small)
+
   sound-ready : Sound (withReady (c .pages) (l .slot))
   sound-ready =
-      sound-set (c .pages) (l .slot) (readySlot (slotAt (c .pages .slots) (l .slot))) (f .pages)
+      sound-set (c .pages) (l .slot) (readySlot (slotAt (c .pages .slots) (l .slot))) (sound-in (c .pages) (f .pages))
       (omega (arith, first-within (c .pages) l (f .pages) r))
       (r .run) (r .run) refl
 
   pub inv-readied : Inv (readied c l)
   unfolding readied touched moved
   inv-readied = record {
-    pages = record { size = sound-ready .size; small = sound-ready .small; good = sound-ready .good };
+    pages = record {
+      size = sound-ready .size;
+      small = sound-ready .small;
+      good = sound-ready .good;
+      marks = ready-marked (c .pages .slots) l below (r .run) (f .pages .marks);
+    };
     places = f .places;
     ring = f .ring;
-    live = ready-live (c .pages .slots) l (omega (arith, first-within (c .pages) l (f .pages) r, f .pages .size, f .pages .small)) live;
+    live = ready-live (c .pages .slots) l below live;
     load = tt;
     pending = withdrawn-fits (c .pending) (readied c l);
   }

@@ -35,7 +35,7 @@ use Rattle.cache.specs.State.{fresh, cleared}
 use Rattle.cache.specs.Direct.{ready, missing, directTile, direct}
 use Rattle.cache.specs.Loads.{chunkLen, moved, forgot, dropped, newLoad, put, readySlot, readied, further}
 use Rattle.cache_lists.proofs.Stores.{set-cases, getD-same, paste-size, bytes-same, bytes-before}
-use Rattle.cache_lists.proofs.Inv.{Loads, Inv, loads-within, without-count, without-either, chunk-room, replaced-head, inv-fresh, inv-cleared, inv-touched, inv-forgot, inv-dropped, inv-began, inv-further, inv-readied}
+use Rattle.cache_lists.proofs.Inv.{Loads, sound-in, Inv, loads-within, without-count, without-either, chunk-room, replaced-head, inv-fresh, inv-cleared, inv-touched, inv-forgot, inv-dropped, inv-began, inv-further, inv-readied}
 use Rattle.cache_lists.proofs.Chunk.{put-written, ready-kept}
 use Rattle.cache_lists.proofs.Direct.{tile-ready, tile-missing}
 
@@ -145,7 +145,7 @@ module _ (P : List ℕ) (h : Header) (n : ℕ) where
   kept-began c arena s key offset len f e fits pos d = record {
     inv = inv-began c s key offset len (f .inv) e fits pos;
     count = evicted-count (span len) s (c .pages) ∙ f .count;
-    slots = replaced-holds (c .pages) s key len (f .inv .pages) fits arena (f .slots);
+    slots = replaced-holds (c .pages) s key len (sound-in (c .pages) (f .inv .pages)) fits arena (f .slots);
     ring = f .ring;
     load = record { is = d; bytes = refl };
   }

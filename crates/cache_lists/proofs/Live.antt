@@ -1,8 +1,8 @@
--- Every run of pages is ready or the load's (`LiveIn`), of a list of slots: so where there is no run, and kept when the load's run is evicted,
--- when a run is begun in place of others, and when the load's run is made ready. Assumes nothing.
+-- Every run of pages is ready or the load's (`LiveIn`), of a list of slots, and a page that is marked ready starts a run (`MarksIn`): so where
+-- there is no run, and kept when pages are evicted, when a run is begun in place of others, and when the load's run is made ready. Assumes nothing.
 use Prim.Native.Nat.{ℕ, _+_, _<_, _≤_}
-use mathlib.Core.Path.{_≡_, refl, sym}
-use mathlib.Core.Bool.{true}
+use mathlib.Core.Path.{_≡_, refl, sym, _∙_}
+use mathlib.Core.Bool.{true, true≢false}
 use mathlib.Core.List.{List}
 use mathlib.Core.Logic.{_⊎_, inl, inr, ⊎-elim}
 use native.Mathlib.Omega.{arith}
@@ -11,12 +11,13 @@ use lib.Seq.{getD-set-same, getD-set-other}
 use Rattle.pack.specs.declared.TileKey.{TileKey}
 use Rattle.cache.specs.declared.Slot.{Slot}
 use Rattle.cache.specs.declared.Pages.{Pages}
-use Rattle.cache.specs.Runs.{span, emptySlot, slotAt, run, kindOf, Sound}
-use Rattle.cache.specs.Evict.{evicted, pieceSlot}
+use Rattle.cache.specs.Runs.{span, emptySlot, slotAt, run, kindOf, kindAt, Sound}
+use Rattle.cache.specs.Evict.{evicted, headSlot, pieceSlot}
 use Rattle.cache.specs.Begin.{replaced}
 use Rattle.cache.proofs.Below.{same-or}
+use Rattle.cache.proofs.RunLaws.{span-pos}
 use Rattle.cache.proofs.FillLaws.{Out, out-or}
-use Rattle.cache.proofs.EvictLaws.{sound-evicted, evicted-either, evicted-empty, placed-same, placed-piece}
+use Rattle.cache.proofs.EvictLaws.{sound-evicted, evicted-either, evicted-empty, placed-same, placed-head, placed-piece}
 use Rattle.cache.specs.declared.Loading.{Loading}
 use Rattle.cache.specs.declared.MaybeLoading.{MaybeLoading}
 use Rattle.cache.specs.declared.MaybeLoading.the-variants as MaybeLoading
@@ -104,3 +105,55 @@ ready-live s l b live h = ⊎-elim here there (same-or h (l .slot))
 
     there : (h ≡ l .slot → ⊥) → SlotLive (slotAt (set s (l .slot) now) h) MaybeLoading.Nothing h
     there ne = rw (getD-set-other s (l .slot) h now emptySlot ne) (other-live (slotAt s h) l h (live h) ne)
+
+-- ---- a page that is marked ready starts a run
+
+abbrev pub SlotMarked : Slot → Type 0
+SlotMarked s = s .ready ≡ true → kindOf s ≡ run
+
+abbrev pub MarksIn : List Slot → Type 0
+MarksIn s = (h : ℕ) → SlotMarked (slotAt s h)
+
+-- a page without the mark
+waits-marked : (s : Slot) → s .ready ≡ false → SlotMarked s
+waits-marked s w e = absurd (true≢false (sym e ∙ w))
+
+pub none-marked : MarksIn (replicate 96 emptySlot)
+none-marked h = rw (getD-same 96 h emptySlot) (waits-marked emptySlot refl)
+
+either-marked : (s t : Slot) → SlotMarked s → (t ≡ s) ⊎ (t ≡ emptySlot) → SlotMarked t
+either-marked s t f o = ⊎-elim (λ e. rw e f) (λ e. rw e (waits-marked emptySlot refl)) o
+
+pub evicted-marked : (n first : ℕ) (g : Pages) → Sound g → first + n ≤ g .count → MarksIn (g .slots) → MarksIn (evicted n first g .slots)
+evicted-marked n first g f fits m h = either-marked (slotAt (g .slots) h) _ (m h) (evicted-either n first g f fits h)
+
+-- a new run is not ready yet
+pub replaced-marked : (g : Pages) (s : ℕ) (key : TileKey) (len : ℕ) → Sound g → s + span len ≤ g .count → MarksIn (g .slots) → MarksIn (replaced g s key len .slots)
+replaced-marked g s key len f fits m h = ⊎-elim beside (λ b. ⊎-elim head (piece b) (same-or h s)) (out-or s (s + span len) h)
+  where
+    room : length (evicted (span len) s g .slots) ≡ 96
+    room = sound-evicted (span len) s g f fits .size
+
+    beside : Out s (s + span len) h → SlotMarked (slotAt (replaced g s key len .slots) h)
+    beside o = rw (placed-same (evicted (span len) s g) s key len h o) (evicted-marked (span len) s g f fits m h)
+
+    head : h ≡ s → SlotMarked (slotAt (replaced g s key len .slots) h)
+    head e = rw (e, placed-head (evicted (span len) s g) s key len (omega (arith, room, span-pos len, f .small))) (waits-marked (headSlot key len) refl)
+
+    piece : (s ≤ h) × (h < s + span len) → (h ≡ s → ⊥) → SlotMarked (slotAt (replaced g s key len .slots) h)
+    piece b ne =
+        rw (placed-piece (evicted (span len) s g) s key len h (omega (arith, ne)) (b .1) (omega (arith, room, f .small)))
+        (waits-marked (pieceSlot s) refl)
+
+pub ready-marked : (s : List Slot) (l : Loading) → l .slot < length s → kindAt s (l .slot) ≡ run → MarksIn s
+    → MarksIn (set s (l .slot) (readySlot (slotAt s (l .slot))))
+ready-marked s l b r m h = ⊎-elim here there (same-or h (l .slot))
+  where
+    now : Slot
+    now = readySlot (slotAt s (l .slot))
+
+    here : h ≡ l .slot → SlotMarked (slotAt (set s (l .slot) now) h)
+    here e = rw (e, getD-set-same s (l .slot) now emptySlot b) (λ z. r)
+
+    there : (h ≡ l .slot → ⊥) → SlotMarked (slotAt (set s (l .slot) now) h)
+    there ne = rw (getD-set-other s (l .slot) h now emptySlot ne) (m h)
