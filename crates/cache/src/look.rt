@@ -7,6 +7,8 @@ use crate::victim::Found;
 use pack::TileKey;
 use tile::Parsed;
 ghost use mathlib.Core.Path.{_≡_};
+ghost use Prim.Native.Nat.{_<_};
+ghost use lib.ListN.{set};
 ghost use Rattle.cache.specs.Lookups as Lookups;
 
 // What a lookup lands on, before the run is checked.
@@ -67,18 +69,24 @@ pub(crate) fn passes(arena: &[u8], first: usize, len: usize, key: TileKey, size:
     accepts(&arena[at..at + len], key, size)
 }
 
-// The run from page `i` on as the most recently used.
+// The age of page `i`.
+fn set_age(used: &mut [u32; crate::MAX_PAGES], i: usize, age: u32)
+    requires { ⌜ i < 96 ⌝ }
+    ensures { λ r. ⌜ now (used .exit) ≡ set (now (used .entry)) i age ⌝ }
+{
+    used[i] = age;
+}
+
+// The run from page `i` on as the most recently used. The state is written in place.
 pub fn touch(c: Cache, i: usize) -> Cache
     ensures { λ r. ⌜ r ≡ Lookups.touched c i ⌝ }
 {
     let mut d = c;
-    let mut g = d.pages;
-    let now = std::num::wrapping_add_u32(g.clock, 1);
-    g.clock = now;
+    let age = std::num::wrapping_add_u32(d.pages.clock, 1);
+    d.pages.clock = age;
     if i < crate::MAX_PAGES {
-        g.used[i] = now;
+        set_age(&mut d.pages.used, i, age);
     }
-    d.pages = g;
     d
 }
 

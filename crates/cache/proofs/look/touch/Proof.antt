@@ -1,6 +1,5 @@
--- `cache::look::touch` meets its contract: a store past the last of the 96 ages stores nothing. Assumes nothing.
+-- `cache::look::touch` meets its contract: the state is written in place, and a store past the last of the 96 ages stores nothing. Assumes nothing.
 use mathlib.Core.Path.{_≡_, sym, _∙_}
-use mathlib.Core.Logic.{⊎-elim}
 use native.Mathlib.Omega.{arith}
 use lib.ListN.{length, length-map}
 use lib.Seq.{set-out}
@@ -10,24 +9,22 @@ use Rattle.cache.proofs.look.touch.Statement.{statement}
 use Rattle.cache.proofs.look.touch.Tie as tie
 
 wrapping-add-u32-requires : tie.Need-wrapping-add-u32-requires
-wrapping-add-u32-requires c κs = tt
+wrapping-add-u32-requires c κs = search needs
 
-mul-g : tie.Need-mul-g
-mul-g c = search needs
-
-element-write-g : tie.Need-element-write-g
-element-write-g c = search needs
+set-age-requires : tie.Need-set-age-requires
+set-age-requires c κs = search needs
 
 returns : tie.Need-returns
 unfolding touched
-returns c =
+returns c = rw (c .set-age .ensures, c .before .before .before .before .wrapping-add-u32 .ensures)
+
+returns-2 : tie.Need-returns-2
+unfolding touched
+returns-2 c =
     let start = c .before .before .before in
     let used = start .args .c .pages .used in
     let size : length used ≡ 96 = sym (length-map used _) ∙ start .good .0 .1 .1 .0 .1 .1 .1 .0 .1 .0 .1 in
-    ⊎-elim
-    (λ w. rw (w .1, c .before .wrapping-add-u32 .ensures))
-    (λ w. rw (w .1, c .before .wrapping-add-u32 .ensures, set-out used (start .args .i) _ (omega (arith, w .0 .left))))
-    (c .if1 .came)
+    rw (c .before .before .wrapping-add-u32 .ensures, set-out used (start .args .i) _ (omega (arith, c .if1 .left)))
 
 pub touch-spec : {M : Type 1} → statement M
-touch-spec = tie.close (tie.spec wrapping-add-u32-requires mul-g element-write-g returns)
+touch-spec = tie.close (tie.spec wrapping-add-u32-requires set-age-requires returns returns-2)
