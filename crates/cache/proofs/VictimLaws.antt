@@ -10,13 +10,15 @@ use native.Mathlib.Numerals.{add-one}
 use native.Mathlib.Omega.{arith}
 use borrow.Author.Tests.{ltb-true, ltb-false, lt-ltb, le-ltb}
 use lib.Dec.{ltb}
-use lib.ListN.{length, getD, set}
+use lib.ListN.{length, getD, set, List·getD-eq-default}
 use lib.Seq.{getD-set-same, getD-set-other}
 use Rattle.cache.specs.declared.Pages.{Pages}
 use Rattle.cache.specs.declared.victim.Best.{Best}
 use Rattle.cache.specs.declared.victim.Found.{Found}
 use Rattle.cache.specs.declared.victim.Found.the-variants as Found
-use Rattle.cache.specs.Victim.{age, lesser, leastOf, youngest, better, bestOf, victim, First, Chosen, Aged, youngestIn}
+use Rattle.cache.specs.Runs.{emptySlot, slotAt, kindAt}
+use Rattle.cache.specs.Evict.{headOf}
+use Rattle.cache.specs.Victim.{slotAge, headAge, age, lesser, leastOf, youngest, better, bestOf, victim, First, Chosen, ageAt, Aged, youngestIn}
 use Rattle.cache.proofs.Below.{same-or}
 
 -- ---- turns
@@ -108,6 +110,18 @@ victim-is g pages s = by (ltb 96 (g .count)) (ltb (g .count) pages) refl
         }
 
 -- ---- ages taken once
+
+-- the age of page i, by what is read at its head h: `at` is h where there is such a page
+pub age-read : (g : Pages) (i h at : ℕ) → length (g .slots) ≡ 96 → h ≡ headOf i (kindAt (g .slots) i) → (h < 96 → at ≡ h)
+    → ageAt (slotAt (g .slots) at) h (g .clock) (getD (g .used) at 0) ≡ age g i
+unfolding age
+age-read g i h at n e f = by (ltb h 96) refl ∙ ap (headAge g) e
+  where
+    by : (t : Bool) → ltb h 96 ≡ t → cond t (slotAge (slotAt (g .slots) at) (g .clock) (getD (g .used) at 0)) 4294967295 ≡ headAge g h
+    by true q = rw (f (ltb-true h 96 q))
+    by false q =
+        let past : length (g .slots) ≤ h = omega (arith, ltb-false h 96 q) in
+        rw (List·getD-eq-default (g .slots) emptySlot past)
 
 pub aged-more : (g : Pages) (l : List ℕ) (i : ℕ) → i < length l → Aged g l i → Aged g (set l i (age g i)) (i + 1)
 aged-more g l i b f j h =

@@ -7,11 +7,12 @@ use mathlib.Core.List.{List}
 use mathlib.Core.Path.{_≡_}
 use lib.Dec.{ltb}
 use lib.ListN.{getD}
+use Rattle.cache.specs.declared.Slot.{Slot}
 use Rattle.cache.specs.declared.Pages.{Pages}
 use Rattle.cache.specs.declared.victim.Best.{Best}
 use Rattle.cache.specs.declared.victim.Found.{Found}
 use Rattle.cache.specs.declared.victim.Found.the-variants as Found
-use Rattle.cache.specs.Runs.{kindAt, isRun}
+use Rattle.cache.specs.Runs.{slotAt, kindOf, kindAt, isRun}
 use Rattle.cache.specs.Evict.{headOf}
 
 -- ---- ages
@@ -20,9 +21,14 @@ use Rattle.cache.specs.Evict.{headOf}
 unfoldable pub since : ℕ → ℕ → ℕ
 since now then = (now + 4294967296 - then) % 4294967296
 
--- the age of the run at h, `u32::MAX` where there is none. On well-formed runs a page has a key just where a run starts (`key-is-run`)
+-- the age of the run of slot s, last used at `used`; `u32::MAX` where it starts none. On well-formed runs a page has a key just where a run
+-- starts (`key-is-run`)
+abbrev pub slotAge : Slot → ℕ → ℕ → ℕ
+slotAge s clock used = cond (isRun (kindOf s)) (since clock used) 4294967295
+
+-- of the run at h
 abbrev pub headAge : Pages → ℕ → ℕ
-headAge g h = cond (isRun (kindAt (g .slots) h)) (since (g .clock) (getD (g .used) h 0)) 4294967295
+headAge g h = slotAge (slotAt (g .slots) h) (g .clock) (getD (g .used) h 0)
 
 -- the age of the run that page p is of
 unfoldable pub age : Pages → ℕ → ℕ
@@ -71,7 +77,11 @@ pub record Chosen (g : Pages) (pages s : ℕ) : Type 0 where
   pub most : (j : ℕ) → j + pages ≤ g .count → youngest g pages j ≤ youngest g pages s
   pub first : (j : ℕ) → j < s → youngest g pages j < youngest g pages s
 
--- ---- ages taken once
+-- ---- ages taken once: this restates private code
+
+-- the age of the run at h, of slot s and last used at `used`; past the last page there is none
+abbrev pub ageAt : Slot → ℕ → ℕ → ℕ → ℕ
+ageAt s h clock used = cond (ltb h 96) (slotAge s clock used) 4294967295
 
 -- l holds the age of each page below n
 abbrev pub Aged : Pages → List ℕ → ℕ → Type 0

@@ -1,8 +1,8 @@
 // The run of pages to replace: the one whose most recently used page is least recently used, the lowest start among equals.
 use crate::Pages;
+use crate::Slot;
 ghost use mathlib.Core.Path.{_≡_};
-ghost use Prim.Native.Nat.{_+_, _≤_};
-ghost use lib.ListN.{getD};
+ghost use Prim.Native.Nat.{_+_, _<_, _≤_};
 ghost use Rattle.cache.specs.Victim as Victim;
 
 // The first page of a run to replace, or none.
@@ -32,25 +32,25 @@ fn since(now: u32, then: u32) -> u32
     now - then
 }
 
-fn used_at(g: Pages, i: usize) -> u32
-    ensures { λ r. ⌜ r ≡ getD (g .used) i 0 ⌝ }
+// Page `h`, or the first where there is none.
+fn place_of(h: usize) -> usize
+    ensures { λ r. ⌜ (r < 96) × (h < 96 → r ≡ h) ⌝ }
 {
-    if i < crate::MAX_PAGES {
-        return g.used[i];
+    if h < crate::MAX_PAGES {
+        return h;
     }
     0
 }
 
-// How long ago the run that page `p` is of was used; an empty page counts as oldest.
-pub(crate) fn age(g: Pages, p: usize) -> u32
-    ensures { λ r. ⌜ r ≡ Victim.age g p ⌝ }
+// How long ago the run at page `h`, of the slot `s` and last used at `used`, was used; a page without a run counts as oldest.
+fn age_at(s: Slot, h: usize, clock: u32, used: u32) -> u32
+    ensures { λ r. ⌜ r ≡ Victim.ageAt s h clock used ⌝ }
 {
-    let s = crate::runs::slot_at(g, p);
-    let h = crate::evict::head_of(s, p);
-    let t = crate::runs::slot_at(g, h);
-    if crate::runs::is_run(t) {
-        let u = used_at(g, h);
-        return since(g.clock, u);
+    if crate::MAX_PAGES <= h {
+        return 4294967295;
+    }
+    if crate::runs::is_run(s) {
+        return since(clock, used);
     }
     4294967295
 }
@@ -74,6 +74,7 @@ fn better(b: Best, at: usize, age: u32) -> Best
     b
 }
 
+// How long ago the run that each page is of was used.
 fn ages_of(g: Pages) -> Ages
     ensures { λ r. ⌜ Victim.Aged g (r .v) 96 ⌝ }
 {
@@ -81,7 +82,12 @@ fn ages_of(g: Pages) -> Ages
     let mut d = Ages { v };
     let mut i = 0;
     while i < crate::MAX_PAGES {
-        d.v[i] = age(g, i);
+        let s = g.slots[i];
+        let h = crate::evict::head_of(s, i);
+        let at = place_of(h);
+        let head = g.slots[at];
+        let used = g.used[at];
+        d.v[i] = age_at(head, h, g.clock, used);
         i += 1;
     }
     d
