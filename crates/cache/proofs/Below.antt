@@ -1,10 +1,8 @@
--- Cases on two numbers, and the laws of `allBelow`: of no number, of one more, of one that misses, of all, and both ways between the
--- test and each number. Assumes nothing.
-use Prim.Native.Nat.{ℕ, zero, suc, _+_, _<_, _≤_}
+-- Cases on two numbers, and the laws of `allBelow`: both ways between the test and each number. Assumes nothing.
+use Prim.Native.Nat.{ℕ, zero, suc, _<_, _≤_}
 use mathlib.Core.Path.{_≡_, refl, sym, ap, _∙_}
 use mathlib.Core.Bool.{Bool, true, false, _&&_, true≢false}
 use mathlib.Core.Logic.{_⊎_, inl, inr, ⊎-elim}
-use native.Mathlib.Numerals.{add-one}
 use native.Mathlib.Omega.{arith}
 use lib.Dec.{ltb, eqb}
 use borrow.Author.Tests.{ltb-true, ltb-false, eqb-true, eqb-false}
@@ -37,14 +35,6 @@ and-right false b e = absurd (true≢false (sym e))
 -- ---- every number below
 
 module _ (p : ℕ → Bool) where
-  pub all-none : allBelow p 0 ≡ true
-  unfolding allBelow
-  all-none = refl
-
-  pub all-more : (i : ℕ) → allBelow p i ≡ true → p i ≡ true → allBelow p (i + 1) ≡ true
-  unfolding allBelow
-  all-more i h t = rw (add-one, h, t)
-
   pub all-at : (i n : ℕ) → i < n → allBelow p n ≡ true → p i ≡ true
   unfolding allBelow
   all-at i zero h e = absurd (omega arith)
@@ -59,13 +49,3 @@ module _ (p : ℕ → Bool) where
   unfolding allBelow
   all-from zero f = refl
   all-from (suc n) f = rw (all-from n (λ (i : ℕ) (h : i < n). f i (omega arith)), f n (omega arith))
-
-  pub all-miss : (i n : ℕ) → i < n → p i ≡ false → allBelow p n ≡ false
-  all-miss i n h t = by (allBelow p n) refl
-    where
-      by : (b : Bool) → allBelow p n ≡ b → b ≡ false
-      by true e = absurd (true≢false (sym (all-at i n h e) ∙ t))
-      by false e = refl
-
-  pub all-end : (i n : ℕ) → i ≡ n → allBelow p i ≡ true → true ≡ allBelow p n
-  all-end i n q e = sym (rw q at e)

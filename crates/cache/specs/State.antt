@@ -65,7 +65,8 @@ runsOk c = Runs.runsOk (c .pages)
 abbrev pub ringOk : Cache → Bool
 ringOk c = ltb (c .missing .next) 64
 
--- the load has its run, not ready, with the load's key and length, and has not all of it
+-- the load has its run, with the load's key and length, and has not all of it. A run that is ready has its tile and is no load's: a load there
+-- is one without its run
 unfoldable pub tileLoads : Pages → Loading → Bool
 tileLoads g l =
     let s = Runs.slotAt (g .slots) (l .slot) in

@@ -1,4 +1,4 @@
-// The empty state, and number 12: the states that no list of calls leaves, refused before anything else is looked at.
+// The empty state, and number 12: the causes that document 01 names, tested before anything else is looked at.
 use crate::Cache;
 use crate::Loading;
 use crate::MaybeKey;

@@ -237,7 +237,7 @@ points = tt
 
 -- pages and cache
 unfoldable pages : Unit {0}
-unfolding Runs.span Runs.blank Runs.allBelow Runs.runOk Evict.fill Evict.evictedPage Evict.evicted Victim.since Victim.age Victim.leastOf Victim.bestOf Search.lowest Keys.inRing Keys.isReady Keys.readyAt Lookups.landsOn Lookups.passes Lookups.touched Lookups.got Lookups.nextStep Caches.fresh Caches.tileLoads Caches.stateOk Caches.cacheOk CacheCalls.get Looks.look Looks.looked
+unfolding Runs.span Runs.allBelow Runs.runOk Evict.fill Evict.evictedPage Evict.evicted Victim.since Victim.age Victim.leastOf Victim.bestOf Search.lowest Keys.inRing Keys.isReady Keys.readyAt Lookups.landsOn Lookups.passes Lookups.touched Lookups.got Lookups.nextStep Caches.fresh Caches.tileLoads Caches.stateOk Caches.cacheOk CacheCalls.get Looks.look Looks.looked
 pages = tt
 
 -- loads

@@ -8,7 +8,7 @@ use native.Mathlib.Omega.{arith}
 use borrow.Author.Tests.{le-leb}
 use lib.Ieee.{Float}
 use lib.ListN.{length, replicate, getD-replicate}
-use Rattle.cache.specs.Runs.{emptySlot, slotAt, blank, pageOk}
+use Rattle.cache.specs.Runs.{emptySlot, pageOk}
 use Rattle.cache.proofs.Below.{all-from}
 use Rattle.cache.specs.Search.{lowest}
 use Rattle.cache.specs.State as Caches
@@ -19,8 +19,7 @@ use Rattle.engine.specs.State.{sharedOk, placesOk, reloadLimit, engineOk
 use Rattle.engine.specs.Calls.{new}
 
 empty-page : (count p : ℕ) → p < 96 → pageOk (replicate 96 emptySlot) count p ≡ true
-unfolding blank
-empty-page count p h = let z : slotAt (replicate 96 emptySlot) p ≡ emptySlot = getD-replicate 96 p emptySlot emptySlot h in rw z (rw z)
+empty-page count p h = rw (getD-replicate 96 p emptySlot emptySlot h)
 
 fresh-ok : (n : ℕ) → n ≤ 96 → stateOk (Caches.fresh n) ≡ true
 unfolding stateOk Caches.fresh

@@ -1,4 +1,4 @@
-// An engine before its pack is read, and number 12: the states that no list of calls leaves.
+// An engine before its pack is read, and number 12: the causes that document 01 names.
 use crate::Ahead;
 use crate::Changed;
 use crate::Due;

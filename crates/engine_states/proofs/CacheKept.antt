@@ -19,7 +19,7 @@ use Rattle.pack.proofs.Laws.{and-left, and-right, clause}
 use Rattle.cache.specs.declared.Pages.{Pages}
 use Rattle.cache.specs.declared.victim.Found.{Found}
 use Rattle.cache.specs.declared.victim.Found.the-variants as Found
-use Rattle.cache.specs.Runs.{span, emptySlot, slotAt, blank, pageOk}
+use Rattle.cache.specs.Runs.{span, emptySlot, pageOk}
 use Rattle.cache.specs.Victim.{victim}
 use Rattle.cache.specs.Begin.{replaced, begunAt}
 use Rattle.cache.proofs.Below.{all-from}
@@ -169,8 +169,7 @@ count-small : (c : Cache) → stateOk c ≡ true → leb (c .pages .count) 96 �
 count-small c e = and-left (leb (c .pages .count) 96) _ (ok-parts c e .runs)
 
 empty-page : (count p : ℕ) → p < 96 → pageOk (replicate 96 emptySlot) count p ≡ true
-unfolding blank
-empty-page count p h = let z : slotAt (replicate 96 emptySlot) p ≡ emptySlot = getD-replicate 96 p emptySlot emptySlot h in rw z (rw z)
+empty-page count p h = rw (getD-replicate 96 p emptySlot emptySlot h)
 
 pub cleared-ok : (c : Cache) → stateOk c ≡ true → stateOk (cleared c) ≡ true
 unfolding cleared

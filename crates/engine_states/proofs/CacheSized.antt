@@ -16,7 +16,7 @@ use Rattle.pack.specs.declared.TileKey.{TileKey}
 use Rattle.pack.specs.declared.Header.{Header}
 use Rattle.pack.proofs.Laws.{and-left}
 use Rattle.cache.specs.declared.Pages.{Pages}
-use Rattle.cache.specs.Runs.{span, slotAt, Kind, bare, run, piece, kindOf, kindAt, isRun, blank, allBelow, Sound}
+use Rattle.cache.specs.Runs.{span, slotAt, Kind, bare, run, piece, kindOf, kindAt, isRun, allBelow, Sound}
 use Rattle.cache.specs.Evict.{fill, evictedPage, evicted, headSlot}
 use Rattle.cache.specs.Victim.{bestOf}
 use Rattle.cache.specs.Begin.{replaced}
@@ -193,7 +193,7 @@ abbrev entry : List ℕ
 entry = 0 ∷ 0 ∷ 0 ∷ 0 ∷ 1 ∷ 0 ∷ 0 ∷ 0 ∷ []
 
 short-ok : stateOk short ≡ true
-unfolding stateOk allBelow blank
+unfolding stateOk allBelow
 short-ok = refl
 
 short-takes : takes (nextStep short first) one first 0 (length entry) ≡ true
@@ -204,5 +204,5 @@ short-grid : inGrid one first ≡ true
 short-grid = refl
 
 short-breaks : stateOk (stepped short (nextStep short first) [] one first 0 entry .cache) ≡ false
-unfolding stateOk allBelow blank nextStep landsOn inRing readyAt lowest isReady entryStep dropped moved locateOf u32At u16At began span bestOf evicted evictedPage fill tileLoads
+unfolding stateOk allBelow nextStep landsOn inRing readyAt lowest isReady entryStep dropped moved locateOf u32At u16At began span bestOf evicted evictedPage fill tileLoads
 short-breaks = refl

@@ -13,7 +13,7 @@ use Rattle.pack.specs.Sector.{rules}
 use Rattle.pack.specs.declared.Header.{Header}
 use Rattle.pack.specs.declared.TileKey.{TileKey}
 use Rattle.cache.specs.Evict.{fill, evictedPage, evicted}
-use Rattle.cache.specs.Runs.{span, blank, allBelow}
+use Rattle.cache.specs.Runs.{span, allBelow}
 use Rattle.cache.specs.Victim.{bestOf}
 use Rattle.cache.specs.declared.MaybeKey.the-variants as MaybeKey
 use Rattle.geo.specs.Flat.{whole}
@@ -84,10 +84,10 @@ abbrev pub entry : List ℕ
 entry = 8 ∷ 0 ∷ 0 ∷ 0 ∷ 1 ∷ 0 ∷ 0 ∷ 0 ∷ []
 
 pub short-ok : engineOk short 8192 ≡ true
-unfolding engineOk sharedOk stateOk rules placesOk allBelow blank lowest nextStep landsOn inRing readyAt isReady nothingAhead
+unfolding engineOk sharedOk stateOk rules placesOk allBelow lowest nextStep landsOn inRing readyAt isReady nothingAhead
 short-ok = refl
 
 pub short-breaks : (arena : List ℕ) → length arena ≡ 8192 → engineOk (Calls.deliver short arena 0 entry .engine) 8192 ≡ false
-unfolding Calls.deliver delivered partCame engineOk sharedOk stateOk rules placesOk allBelow blank lowest nextStep landsOn inRing readyAt isReady nothingAhead
+unfolding Calls.deliver delivered partCame engineOk sharedOk stateOk rules placesOk allBelow lowest nextStep landsOn inRing readyAt isReady nothingAhead
     entryStep dropped moved locateOf u32At u16At began span bestOf evicted evictedPage fill tileLoads
 short-breaks arena size = rw size

@@ -35,6 +35,7 @@ const OVERLAPPING: &[(&str, Changes)] = &[
     ("a run over the next one", &[(SET_SLOT, &[0, READY_TILE, 8_193, 1, 0])]),
     ("a run that starts within another", &[(SET_SLOT, &[2, ABSENT_TILE, 100, 1, 0])]),
     ("a part of a run that points at another", &[(SET_SLOT, &[2, NO_KEY, 0, 0, 1])]),
+    ("a part with a key", &[(SET_SLOT, &[2, ABSENT_TILE, 0, 0, 2])]),
 ];
 
 const PAST_THE_COUNT: &[(&str, Changes)] = &[
@@ -66,13 +67,14 @@ const LACKING: &[(&str, Changes)] = &[
     ("a part of the largest page", &[(SET_SLOT, &[4, NO_KEY, 0, 0, u32::MAX])]),
 ];
 
-/// A page that starts no run holds nothing: the port's reading of runs that are whole.
-const NOT_BLANK: &[(&str, Changes)] = &[
-    ("a part with a key", &[(SET_SLOT, &[2, ABSENT_TILE, 0, 0, 2])]),
+/// Not refused: a length and a mark in a page that starts no run, which nothing reads.
+const NOT_READ: &[(&str, Changes)] = &[
     ("a part with a length", &[(SET_SLOT, &[2, NO_KEY, 1, 0, 2])]),
     ("a part that is ready", &[(SET_SLOT, &[2, NO_KEY, 0, 1, 2])]),
-    ("an empty page with a length", &[(SET_SLOT, &[5, NO_KEY, 1, 0, 0])]),
+    ("an empty page with a length", &[(SET_SLOT, &[5, NO_KEY, 8_193, 0, 0])]),
     ("an empty page that is ready", &[(SET_SLOT, &[5, NO_KEY, 0, 1, 0])]),
+    ("an empty page past the count with both", &[(SET_SLOT, &[8, NO_KEY, u32::MAX, 1, 0])]),
+    ("an empty last slot with both", &[(SET_SLOT, &[95, NO_KEY, 100, 1, 0])]),
 ];
 
 const LOAD_WITHOUT_RUN: &[(&str, Changes)] = &[
@@ -209,7 +211,7 @@ impl Rows<'_> {
 
     /// Every call refuses such a state, whatever else is wrong with it.
     fn states(&mut self) {
-        let all = [OVERLAPPING, PAST_THE_COUNT, LACKING, NOT_BLANK, LOAD_WITHOUT_RUN, ALL_DONE];
+        let all = [OVERLAPPING, PAST_THE_COUNT, LACKING, LOAD_WITHOUT_RUN, ALL_DONE];
         for (name, changes) in all.into_iter().chain([PAST_THE_RING, NOT_OPENED]).flatten() {
             self.row(name, |writer| {
                 change(writer, changes);
@@ -380,6 +382,17 @@ impl Rows<'_> {
 
     /// States that number 12 doesn't name.
     fn odd_states(&mut self) {
+        for (name, changes) in NOT_READ {
+            self.row(name, |writer| {
+                change(writer, changes);
+                ask(writer, &[GET, FETCH, PAGES], ABSENT_TILE);
+                for key in [LOADING_TILE, ABSENT_TILE, OTHER_TILE] {
+                    writer.settle(key);
+                    ask(writer, &[GET, PAGES], key);
+                }
+                ask(writer, &[CAPACITY, LOADS, CLEAR], 0);
+            });
+        }
         self.row("a run neither ready nor loading", |writer| {
             writer.put(SET_SLOT, &[4, OTHER_TILE, 100, 0, 0]);
             ask(writer, &[GET, FETCH, STEP, GET], OTHER_TILE);
