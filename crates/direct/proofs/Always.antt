@@ -92,7 +92,7 @@ module _ (P : List ℕ) (n : ℕ) (horizon : Float) (w : World) (s : Stays P n h
   step-number : ofStatus (Engines.step e₁ (w .arena) .answer) ≡ 12 → ⊥
   step-number z = steps-number P n horizon w s (step-is e₁ (w .arena)) (ap (λ (x : Stepped). ofStatus (x .answer)) (sym step-runs) ∙ z)
 
-  step-again : isAgain (stepShown e₁ (w .arena)) ≡ false
+  pub step-again : isAgain (stepShown e₁ (w .arena)) ≡ false
   unfolding stepShown
   step-again =
       rw (s .ok) (ap (λ (x : Stepped). isAgain (taskShown (taskOf e₁) e₁ (w .arena) (x .engine))) step-runs ∙ steps-again P n horizon w s (step-is e₁ (w .arena)))
@@ -362,13 +362,13 @@ module _ (P : List ℕ) (n : ℕ) (horizon : Float) (w : World) (s : Stays P n h
   update-not (Match.Found f) m = refl
   update-not Match.Nothing m = refl
   update-not (Match.Need key) m = refl
-  update-not (Match.Refused k) m = refl
+  update-not (Match.Refused k) m = either-not (eqb k 12) _ _ refl refl
 
   predict-not : (x : RoadOutcome.Outcome) (samples behind : List ℤ) → isAgain (predictShown x samples behind) ≡ false
   predict-not (Roads.Road p) samples behind = refl
   predict-not (Roads.Need key) samples behind = refl
   predict-not Roads.Rematch samples behind = refl
-  predict-not (Roads.Refused k) samples behind = either-not (eqb k 10) _ _ refl refl
+  predict-not (Roads.Refused k) samples behind = either-not (eqb k 12) _ _ refl refl
 
   call-not : (c : Call) → isAgain (shown w c) ≡ false
   unfolding shown

@@ -4,6 +4,7 @@ use Prim.Native.Nat.{ℕ}
 use mathlib.Core.Path.{_≡_, refl, _∙_}
 use mathlib.Core.Bool.{Bool, true, false, _&&_, cond}
 use mathlib.Core.List.{List}
+use mathlib.Core.Logic.{inl}
 use lib.Dec.{eqb, ltb}
 use lib.ListN.{length}
 use Rattle.pack.specs.Sector.{parse}
@@ -39,7 +40,7 @@ use Rattle.engine.specs.declared.Stepped.{Stepped}
 use Rattle.direct.specs.Finished.{Task, matchOf, roadAt}
 use Rattle.direct.specs.Claims.{openRead}
 use Rattle.direct.proofs.Ways as Ways
-use Rattle.direct.proofs.Ways.{Same, Steps, brought, Delivers, step-is, deliver-is}
+use Rattle.direct.proofs.Ways.{Same, Rests, Steps, brought, Delivers, step-is, deliver-is}
 
 -- ---- followers
 
@@ -132,9 +133,9 @@ module _ (e : Engine) where
   steps-beside (Ways.opens p offset len o f r) = record { phase = refl; header = refl; sight = refl; horizon = refl }
   steps-beside (Ways.spoils key i r s p) = beside-same
   steps-beside (Ways.arrives key n r s f) = record { phase = refl; header = refl; sight = refl; horizon = refl }
-  steps-beside (Ways.rests f s) = ended-beside (e .shared .cache) f Status.Idle (s .sight) (s .horizon)
+  steps-beside (Ways.rests f s d) = ended-beside (e .shared .cache) f Status.Idle (s .sight) (s .horizon)
   steps-beside (Ways.leaves f w o) = record { phase = refl; header = refl; sight = refl; horizon = refl }
-  steps-beside {arena} (Ways.matches f w) = match-beside (matchOf e arena f .answer) f (matchOf e arena f)
+  steps-beside {arena} (Ways.matches f key w k) = match-beside (matchOf e arena f .answer) f (matchOf e arena f)
   steps-beside {arena} (Ways.follows f key found w k c) = road-beside (roadAt e arena found .predicted .answer) f found (roadAt e arena found)
 
   pub step-beside : (arena : List ℕ) → Beside e (Engines.step e arena .engine)
@@ -154,10 +155,11 @@ pub data Heads (e : Engine) (failure : ℕ) (bs : List ℕ) : Status → Phase �
 pub record Left (e : Engine) (failure : ℕ) (bs : List ℕ) (a : Status) (n : Engine) : Type 0 where
   pub heads : Heads e failure bs a (n .shared .phase) (n .shared .header)
   pub follower : Same (e .follower) (n .follower)
+  pub due : Rests (e .follower) (n .follower)
 
 module _ (e : Engine) (failure : ℕ) (bs : List ℕ) where
   left-same : {a : Status} → Left e failure bs a e
-  left-same = record { heads = kept; follower = same-self (e .follower) }
+  left-same = record { heads = kept; follower = same-self (e .follower); due = record { matching = refl; road = inl refl } }
 
   either-left : (t : Bool) (x y : Stepped) → Left e failure bs (x .answer) (x .engine) → Left e failure bs (y .answer) (y .engine)
       → Left e failure bs (cond t x y .answer) (cond t x y .engine)
@@ -168,22 +170,26 @@ module _ (e : Engine) (failure : ℕ) (bs : List ℕ) where
       → f .ahead ≡ e .follower .ahead → Same (e .follower) f
   same-parts p q r s = record { sight = p; matcher = q; horizon = r; ahead = s }
 
+  left-parts : {a : Status} {n : Engine} → Heads e failure bs a (n .shared .phase) (n .shared .header) → Same (e .follower) (n .follower)
+      → n .follower .due .matching ≡ e .follower .due .matching → n .follower .due .road ≡ e .follower .due .road → Left e failure bs a n
+  left-parts h s m r = record { heads = h; follower = s; due = record { matching = m; road = inl r } }
+
   loaded-left : (p : Progress) (c : Cache) → Left e failure bs (loadedBy p e c .answer) (loadedBy p e c .engine)
   unfolding arrived loadFailed
-  loaded-left Progress.Done c = record { heads = kept; follower = same-parts refl refl refl refl }
-  loaded-left Progress.More c = record { heads = kept; follower = same-parts refl refl refl refl }
+  loaded-left Progress.Done c = left-parts kept (same-parts refl refl refl refl) refl refl
+  loaded-left Progress.More c = left-parts kept (same-parts refl refl refl refl) refl refl
   loaded-left (Progress.Failed number) c =
-      either-left (ltb (e .follower .failures) 7) _ _ (record { heads = kept; follower = same-parts refl refl refl refl })
-      (record { heads = failed; follower = same-parts refl refl refl refl })
+      either-left (ltb (e .follower .failures) 7) _ _ (left-parts kept (same-parts refl refl refl refl) refl refl)
+      (left-parts failed (same-parts refl refl refl refl) refl refl)
   loaded-left (Progress.Refused number) c = left-same
 
   delivers-left : {arena : List ℕ} {r : After} → Delivers e arena failure bs r → Left e failure bs (r .answer) (r .engine)
   unfolding headerFailed
   delivers-left Ways.refuses = left-same
   delivers-left (Ways.loses number o s) =
-      either-left (eqb number 1 && ltb (e .follower .failures) 7) _ _ (record { heads = unread; follower = same-parts refl refl refl refl })
-      (record { heads = failed; follower = same-parts refl refl refl refl })
-  delivers-left (Ways.parses o z s a) = record { heads = came o z s a; follower = same-parts refl refl refl refl }
+      either-left (eqb number 1 && ltb (e .follower .failures) 7) _ _ (left-parts unread (same-parts refl refl refl refl) refl refl)
+      (left-parts failed (same-parts refl refl refl refl) refl refl)
+  delivers-left (Ways.parses o z s a) = left-parts (came o z s a) (same-parts refl refl refl refl) refl refl
   delivers-left {arena} (Ways.brings key b) = loaded-left (brought e arena key failure bs .answer) (brought e arena key failure bs .cache)
 
   pub deliver-left : (arena : List ℕ) → Left e failure bs (Engines.deliver e arena failure bs .answer) (Engines.deliver e arena failure bs .engine)

@@ -4,7 +4,7 @@ use Prim.Native.Nat.{ℕ}
 use mathlib.Core.Path.{_≡_, refl, sym, ap, subst, _∙_}
 use mathlib.Core.Bool.{Bool, true, false, _&&_, not, cond, true≢false}
 use mathlib.Core.List.{List, [], _∷_, _++_}
-use borrow.Author.Tests.{eqb-true}
+use native.Mathlib.Omega.{arith}
 use lib.Dec.{eqb}
 use lib.Ieee.{Float}
 use lib.IntN.{ℤ}
@@ -13,13 +13,15 @@ use Rattle.pack.specs.Grid.{isPoint, inGrid}
 use Rattle.pack.specs.declared.Header.{Header}
 use Rattle.pack.specs.declared.TileKey.{TileKey}
 use Rattle.geo.specs.declared.Point.{Point}
-use Rattle.cache.specs.Direct.{look}
+use Rattle.cache.specs.Direct.{Look, look}
 use Rattle.cache.specs.State.{cacheOk}
 use Rattle.cache.specs.declared.Pending.{Pending}
 use Rattle.cache.specs.declared.Pending.the-variants as Pending
 use Rattle.cache_lists.specs.Claims.{Parsed}
 use Rattle.matcher.specs.declared.Current.{Current}
+use Rattle.matcher.specs.declared.Current.the-variants as Current
 use Rattle.matcher.specs.declared.Heading.{Heading}
+use Rattle.matcher.specs.declared.Kept.{Kept}
 use Rattle.matcher.specs.declared.Matched.{Matched}
 use Rattle.matcher.specs.Calls as Matching
 use Rattle.matcher.specs.Gather as Gather
@@ -30,6 +32,8 @@ use Rattle.matcher.specs.declared.Matcher.{Matcher}
 use Rattle.matcher.specs.declared.Outcome as MatchOutcome
 use Rattle.matcher.specs.declared.Outcome.the-variants as Match
 use Rattle.matcher.specs.declared.Updated.{Updated}
+use Rattle.matcher.specs.declared.gather.Ending.{Ending}
+use Rattle.matcher.specs.declared.gather.Ending.the-variants as Ending
 use Rattle.matcher.proofs.AgreeLaws.{update-agrees}
 use Rattle.predict.specs.Predict as Predict
 use Rattle.predict.specs.Relied as RoadRelied
@@ -54,8 +58,8 @@ use Rattle.engine.specs.declared.Status.the-variants as Status
 use Rattle.engine.specs.declared.Stepped.{Stepped}
 use Rattle.direct.specs.Lists as Calls
 use Rattle.direct.specs.Lists.{World, Call, ofTaken, number, exec}
-use Rattle.direct.specs.Finished.{Shown, nothing, isMatch, isRoad, Task, none, offMap, match, road, openTask, taskOf, matchOf, roadAt, taskShown, stepShown, updateShown, predictShown, shown}
-use Rattle.direct.specs.Direct.{Told, Lookup, Held, fixed, lostHeld, Worked, idle, stepWorked, updateWorked, predictWorked, worked, Waiting, aFix, aLoss, Direct, acted, applied, queued, settled, cleared, turned, directExec}
+use Rattle.direct.specs.Finished.{Shown, nothing, updated, predicted, isMatch, isRoad, Task, none, offMap, match, road, openTask, taskOf, matchOf, roadAt, taskShown, stepShown, updateShown, predictShown, shown}
+use Rattle.direct.specs.Direct.{Told, Lookup, Held, fixed, lostHeld, Worked, idle, orUnanswered, stepWorked, updateWorked, predictWorked, worked, Waiting, aFix, aLoss, Direct, acted, applied, queued, settled, cleared, turned, directExec}
 use Rattle.direct.specs.Claims.{isFetching, toldOf, madeOf, Answers, Fair}
 use Rattle.direct.proofs.Ways as Ways
 use Rattle.direct.proofs.Ways.{Same, Steps, step-is, isFetch, Lends, lends-is}
@@ -146,9 +150,9 @@ none-keeps {e} Ways.fails q = same-self (e .follower)
 none-keeps {e} (Ways.opens p offset len o f r) q = same-self (e .follower)
 none-keeps {e} (Ways.spoils key i r s p) q = same-self (e .follower)
 none-keeps (Ways.arrives key n r s f) q = record { sight = refl; matcher = refl; horizon = refl; ahead = refl }
-none-keeps (Ways.rests f s) q = s
+none-keeps (Ways.rests f s d) q = s
 none-keeps (Ways.leaves f w o) q = absurd (true≢false (sym q))
-none-keeps (Ways.matches f w) q = absurd (true≢false (sym q))
+none-keeps (Ways.matches f key w k) q = absurd (true≢false (sym q))
 none-keeps (Ways.follows f key found w k c) q = absurd (true≢false (sym q))
 
 -- one that works at something has no fetch open, in phase Ready
@@ -196,9 +200,9 @@ work-answers Ways.fails q = absurd (true≢false q)
 work-answers (Ways.opens p offset len o f r) q = absurd (true≢false q)
 work-answers (Ways.spoils key i r s p) q = absurd (true≢false q)
 work-answers (Ways.arrives key n r s f) q = absurd (true≢false q)
-work-answers (Ways.rests f s) q = absurd (true≢false q)
+work-answers (Ways.rests f s d) q = absurd (true≢false q)
 work-answers (Ways.leaves f w o) q = refl
-work-answers {e} {arena} (Ways.matches f w) q = match-answers (matchOf e arena f .answer) e (counted (e .follower)) f (matchOf e arena f)
+work-answers {e} {arena} (Ways.matches f key w k) q = match-answers (matchOf e arena f .answer) e (counted (e .follower)) f (matchOf e arena f)
 work-answers {e} {arena} (Ways.follows f key found w k c) q =
     road-answers (roadAt e arena found .predicted .answer) e (counted (e .follower)) f found (roadAt e arena found)
 
@@ -228,6 +232,21 @@ fetch-silent e arena {offset} {len} q = record { shows = shows (engineOk e (leng
     keeps : (t : Bool) → left t .answer ≡ Status.Fetch offset len → Same (e .follower) (left t .engine .follower)
     keeps true a = none-keeps (step-is e arena) (asks-none a)
     keeps false a = same-self (e .follower)
+
+-- a match over a lookup is refused with 12 alone
+only-twelve : (at : TileKey → Look) (m : Matcher) (h : Header) (p : Point) (heading : Heading) (k : ℕ)
+    → Gather.updateOver at m h p heading .answer ≡ Match.Refused k → k ≡ 12
+unfolding Gather.updateOver
+only-twelve at m h p heading k = let r = Gather.runOver at m h p heading in by (r .end) (r .kept)
+  where
+    found : (c : Current) → Gather.outcome c ≡ Match.Refused k → k ≡ 12
+    found Current.Nothing q = let z : _≡_ {A = ℕ} 0 1 = cc in absurd (omega arith)
+    found (Current.Is f) q = let z : _≡_ {A = ℕ} 0 1 = cc in absurd (omega arith)
+
+    by : (end : Ending) (kept : Kept) → Gather.matchingBy end kept m heading .answer ≡ Match.Refused k → k ≡ 12
+    by Ending.All kept q = found (Gather.matchingBy Ending.All kept m heading .matcher .current) q
+    by (Ending.Need key) kept q = let z : _≡_ {A = ℕ} 0 1 = cc in absurd (omega arith)
+    by Ending.Stale kept q = cc
 
 -- ---- a call, and the direct engine's turn
 
@@ -394,7 +413,7 @@ module _ (at : Lookup) (n : ℕ) (horizon : Float) (P : List ℕ) (w : World) (d
         cond (isMatch (updateShown (u .answer) (u .matcher))) (updateWorked at (madeOf n horizon) P m h p heading) nothing ≡ updateShown (u .answer) (u .matcher)
     unfolding Matching.update Gather.updated updateWorked
     update-shows m h p heading parsed =
-        by (callOk m (e₁ .shared .cache) h (length (w .arena))) (isPoint (p .lat) (p .lon) && headingOk heading)
+        by (callOk m (e₁ .shared .cache) h (length (w .arena))) (isPoint (p .lat) (p .lon) && headingOk heading) refl
       where
         v : Gather.Matching
         v = Gather.updateOver (look (e₁ .shared .cache) (w .arena) (h .tile)) m h p heading
@@ -403,29 +422,32 @@ module _ (at : Lookup) (n : ℕ) (horizon : Float) (P : List ℕ) (w : World) (d
         same fin = update-agrees (look (e₁ .shared .cache) (w .arena) (h .tile)) (at P)
             (look-agrees P n (e₁ .shared .cache) (w .arena) h parsed (fit .cache) at answers) m h p heading fin
 
-        shows : (x : MatchOutcome.Outcome) → v .answer ≡ x
-            → cond (isMatch (updateShown x (v .matcher))) (updateWorked at (madeOf n horizon) P m h p heading) nothing ≡ updateShown x (v .matcher)
+        -- worked out, once 8 was tested
+        works : Shown
+        works = let u = Gather.updateOver (at P) m h p heading in orUnanswered (updateShown (u .answer) (u .matcher))
+
+        shows : (x : MatchOutcome.Outcome) → v .answer ≡ x → cond (isMatch (updateShown x (v .matcher))) works nothing ≡ updateShown x (v .matcher)
         shows (Match.Found y) q = rw (same (rw q), q)
         shows Match.Nothing q = rw (same (rw q), q)
         shows (Match.Need key) q = refl
-        shows (Match.Refused k) q = refl
+        shows (Match.Refused k) q = rw (only-twelve (look (e₁ .shared .cache) (w .arena) (h .tile)) m h p heading k q)
 
         left : Bool → Bool → Updated
         left s t = cond s (cond t (Gather.updated m (e₁ .shared .cache) (w .arena) h p heading) (Matchers.refused m (e₁ .shared .cache) 8))
             (Matchers.refused m (e₁ .shared .cache) 12)
 
-        by : (s t : Bool) → cond (isMatch (updateShown (left s t .answer) (left s t .matcher)))
-            (updateWorked at (madeOf n horizon) P m h p heading) nothing ≡ updateShown (left s t .answer) (left s t .matcher)
-        by true true = shows (v .answer) refl
-        by true false = refl
-        by false t = refl
+        by : (s t : Bool) → (isPoint (p .lat) (p .lon) && headingOk heading) ≡ t → cond (isMatch (updateShown (left s t .answer) (left s t .matcher)))
+            (cond (isPoint (p .lat) (p .lon) && headingOk heading) works (updated (Match.Refused 8) m)) nothing ≡ updateShown (left s t .answer) (left s t .matcher)
+        by true true q = rw q (shows (v .answer) refl)
+        by true false q = rw q
+        by false t q = refl
 
     predict-shows : (h : Header) (m : Matched) (reach : Float) (samples behind : List ℤ) → Parsed P h
         → let x : Predict.After = Predict.predict (e₁ .shared .cache) (w .arena) h m reach samples behind in
         let s : Shown = predictShown (x .predicted .answer) (x .samples) (x .behind) in
         cond (isRoad s) (predictWorked at (madeOf n horizon) P h m reach samples behind) nothing ≡ s
     unfolding Predict.predict Predict.predictedIn predictWorked
-    predict-shows h m reach samples behind parsed = by (cacheOk (e₁ .shared .cache) h (length (w .arena))) (inGrid h (m .tile .key))
+    predict-shows h m reach samples behind parsed = by (cacheOk (e₁ .shared .cache) h (length (w .arena))) (inGrid h (m .tile .key)) refl
       where
         v : Predict.Forecast (List TileKey)
         v = Predict.predictOver (look (e₁ .shared .cache) (w .arena) (h .tile)) (e₁ .shared .cache .pages .count) h m reach samples behind
@@ -436,20 +458,22 @@ module _ (at : Lookup) (n : ℕ) (horizon : Float) (P : List ℕ) (w : World) (d
             ∙ predict-agrees (look (e₁ .shared .cache) (w .arena) (h .tile)) (at P)
             (look-agrees P n (e₁ .shared .cache) (w .arena) h parsed (fit .cache) at answers) (e₁ .shared .cache .pages .count) h m reach samples behind fin
 
-        Shows₁ : RoadOutcome.Outcome → Type 0
-        Shows₁ x =
-            cond (isRoad (predictShown x (v .samples) (v .behind))) (predictWorked at (madeOf n horizon) P h m reach samples behind) nothing
-            ≡ predictShown x (v .samples) (v .behind)
+        -- worked out, once 9 was tested
+        works : Shown
+        works = let r = Predict.predictOver (at P) n h m reach samples behind in orUnanswered (predictShown (r .answer) (r .samples) (r .behind))
 
-        refused-shows : (k : ℕ) (t : Bool) → eqb k 10 ≡ t → v .answer ≡ Roads.Refused k → Shows₁ (Roads.Refused k)
-        refused-shows k true q a = let ten : k ≡ 10 = eqb-true k 10 q in rw (q, same (rw (a, ten)), a, q)
-        refused-shows k false q a = rw q
+        Shows₁ : RoadOutcome.Outcome → Type 0
+        Shows₁ x = cond (isRoad (predictShown x (v .samples) (v .behind))) works nothing ≡ predictShown x (v .samples) (v .behind)
+
+        refused-shows : (k : ℕ) (t : Bool) → eqb k 12 ≡ t → v .answer ≡ Roads.Refused k → Shows₁ (Roads.Refused k)
+        refused-shows k true q a = rw q
+        refused-shows k false q a = rw (q, same (rw (a, q)), a, q)
 
         shows : (x : RoadOutcome.Outcome) → v .answer ≡ x → Shows₁ x
         shows (Roads.Road y) q = rw (same (rw q), q)
         shows (Roads.Need key) q = refl
         shows Roads.Rematch q = rw (same (rw q), q)
-        shows (Roads.Refused k) q = refused-shows k (eqb k 10) refl q
+        shows (Roads.Refused k) q = refused-shows k (eqb k 12) refl q
 
         left : Bool → Bool → Predict.After
         left s t =
@@ -458,13 +482,13 @@ module _ (at : Lookup) (n : ℕ) (horizon : Float) (P : List ℕ) (w : World) (d
             (Predict.untouched (Predict.refused (e₁ .shared .cache) 9) samples behind))
             (Predict.untouched (Predict.refused (e₁ .shared .cache) 12) samples behind)
 
-        by : (s t : Bool)
+        by : (s t : Bool) → inGrid h (m .tile .key) ≡ t
             → cond (isRoad (predictShown (left s t .predicted .answer) (left s t .samples) (left s t .behind)))
-            (predictWorked at (madeOf n horizon) P h m reach samples behind) nothing
+            (cond (inGrid h (m .tile .key)) works (predicted (Roads.Refused 9) [] [])) nothing
             ≡ predictShown (left s t .predicted .answer) (left s t .samples) (left s t .behind)
-        by true true = shows (v .answer) refl
-        by true false = refl
-        by false t = refl
+        by true true q = rw q (shows (v .answer) refl)
+        by true false q = rw q
+        by false t q = refl
 
     -- ---- a call
 

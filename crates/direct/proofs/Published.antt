@@ -146,9 +146,9 @@ module _ (e : Engine) (arena : List ℕ) where
   steps-leave (Ways.opens p offset len o f r) = stays refl
   steps-leave (Ways.spoils key i r s p) = stays refl
   steps-leave (Ways.arrives key n r s f) = stays refl
-  steps-leave (Ways.rests f s) = stays (s .ahead)
+  steps-leave (Ways.rests f s d) = stays (s .ahead)
   steps-leave (Ways.leaves f w o) = leaves-off f
-  steps-leave (Ways.matches f w) = leaves-match f (matchOf e arena f .answer) refl
+  steps-leave (Ways.matches f key w k) = leaves-match f (matchOf e arena f .answer) refl
   steps-leave (Ways.follows f key found w k c) = leaves-road f found (roadAt e arena found .predicted .answer) w c
 
   step-leaves : let n = Engines.step e arena .engine in Leaves e (stepShown e arena) (n .shared .cache .pages .count) (n .follower .ahead)
@@ -204,9 +204,9 @@ module _ (e : Engine) (arena : List ℕ) where
   steps-hold (Ways.opens p offset len o f r) = holds refl
   steps-hold (Ways.spoils key i r s p) = holds refl
   steps-hold (Ways.arrives key n r s f) = holds refl
-  steps-hold (Ways.rests f s) = holds (s .matcher)
+  steps-hold (Ways.rests f s d) = holds (s .matcher)
   steps-hold (Ways.leaves f w o) = holds-off f
-  steps-hold (Ways.matches f w) = holds-match f (matchOf e arena f .answer)
+  steps-hold (Ways.matches f key w k) = holds-match f (matchOf e arena f .answer)
   steps-hold (Ways.follows f key found w k c) = holds-road f found (roadAt e arena found .predicted .answer)
 
   step-holds : LeavesMatcher e (stepShown e arena) (Engines.step e arena .engine .follower .matcher)

@@ -34,15 +34,15 @@ use Rattle.direct.specs.Lists as Calls
 use Rattle.direct.specs.Lists.{World, Call, ofTaken, exec, start}
 use Rattle.direct.specs.Finished as Shows
 use Rattle.direct.specs.Finished.{Shown, isMatch, isRoad, stepShown, shown}
-use Rattle.direct.specs.Direct.{Made, Told, Lookup, headerOf, directly, Held, newHeld, withMatcher, fixed, lostHeld, forgotten, Worked, idle, stuck, emptyWorked, matchWorked, roadWorked, currentWorked, keyWorked, fixWorked, stepWorkedBy, stepWorked, matchHeld, roadHeld, Direct, applied, settled, packAfter}
-use Rattle.direct.specs.Claims.{isFetching, toldOf, AllFair, madeOf, Answers}
+use Rattle.direct.specs.Direct.{Made, Told, Lookup, headerOf, directly, Held, newHeld, withMatcher, fixed, lostHeld, forgotten, Worked, idle, stuck, emptyWorked, matchWorked, roadWorked, currentWorked, keyWorked, fixWorked, stepWorkedBy, stepWorked, matchHeld, roadHeld, updateWorked, predictWorked, worked, Direct, applied, settled, packAfter, directExec}
+use Rattle.direct.specs.Claims.{isFetching, toldOf, Fair, AllFair, madeOf, Answers}
 use Rattle.direct.specs.Story as Story
 use Rattle.direct.specs.Story.{Event, taken, eventsOf, events, story, after, matcherOf, SameFinish, AllStories}
 use Rattle.direct.proofs.Ways.{Same, lends-is}
 use Rattle.direct.proofs.Beside.{deliver-left}
 use Rattle.direct.proofs.Fit.{Fit, fit-after, fit-start}
 use Rattle.direct.proofs.Seen.{toldBy}
-use Rattle.direct.proofs.Linked.{Linked, Follows, fixed-follows, lost-follows, StepTurn, step-turn, lent-turn}
+use Rattle.direct.proofs.Linked.{Linked, Follows, fixed-follows, lost-follows, StepTurn, step-turn, lent-turn, turn-alike}
 
 -- ---- the story told again
 
@@ -53,18 +53,18 @@ pub record Past : Type 0 where
 
 module _ (at : Lookup) (made : Made) where
   -- the fix that is held, matched
-  rematched : MaybeFix → Past → Held
+  pub rematched : MaybeFix → Past → Held
   rematched MaybeFix.Nothing p = p .held
   rematched (MaybeFix.Is f) p = withMatcher (p .held) (matchHeld at made (p .pack) (p .held) f .matcher)
 
-  abbrev retoldOne : Event → Past → Past
+  abbrev pub retoldOne : Event → Past → Past
   retoldOne (Story.fixed f) p = record { pack = p .pack; held = fixed (p .held) f }
   retoldOne Story.lost p = record { pack = p .pack; held = lostHeld (p .held) }
   retoldOne (Story.reset Q) p = record { pack = Q; held = forgotten (p .held) }
   retoldOne Story.matched p = record { pack = p .pack; held = rematched (p .held .sight .fix) p }
   retoldOne Story.cleared p = record { pack = p .pack; held = withMatcher (p .held) Matching.reset }
 
-  unfoldable retold : List Event → Past → Past
+  unfoldable pub retold : List Event → Past → Past
   retold [] p = p
   retold (x ∷ xs) p = retold xs (retoldOne x p)
 
@@ -167,15 +167,15 @@ module _ (at : Lookup) (made : Made) where
 -- ---- a call
 
 -- the pack after a list of calls
-unfoldable packOf : List ℕ → List Call → World → List ℕ
+unfoldable pub packOf : List ℕ → List Call → World → List ℕ
 packOf P [] w = P
 packOf P (c ∷ cs) w = packOf (packAfter P c (toldOf w c)) cs (exec c w .world)
 
 module _ (at : Lookup) (n : ℕ) (horizon : Float) (answers : Answers n at) where
   -- the past of a world whose pack is P
-  record Recalls (p : Past) (P : List ℕ) (w : World) : Type 0 where
-    pack : p .pack ≡ P
-    held : Follows (p .held) (w .engine .follower)
+  pub record Recalls (p : Past) (P : List ℕ) (w : World) : Type 0 where
+    pub pack : p .pack ≡ P
+    pub held : Follows (p .held) (w .engine .follower)
 
   abbrev again : World → Call → Past → Past
   again w c p = retold at (madeOf n horizon) (events w c) p
@@ -190,7 +190,7 @@ module _ (at : Lookup) (n : ℕ) (horizon : Float) (answers : Answers n at) wher
     abbrev d₁ : Direct
     d₁ = record { held = h; waiting = [] }
 
-    linked : Linked d₁ e₁
+    pub linked : Linked d₁ e₁
     unfolding applied
     linked = record { sight = follows .sight; matcher = follows .matcher; none = λ r. refl }
 
@@ -198,7 +198,7 @@ module _ (at : Lookup) (n : ℕ) (horizon : Float) (answers : Answers n at) wher
     kept g s m = record { sight = follows .sight ∙ sym s; matcher = follows .matcher ∙ sym m }
 
     -- a step, or the lent-pack form, that shows s and leaves the engine m
-    turn-recalls : (s : Shown) (m : Engine) (arena : List ℕ) → StepTurn at n horizon P w d₁ linked s m
+    pub turn-recalls : (s : Shown) (m : Engine) (arena : List ℕ) → StepTurn at n horizon P w d₁ linked s m
         → Recalls (retold at (madeOf n horizon) (eventsOf s) p₁) P (record { engine = m; arena = arena })
     unfolding applied
     turn-recalls s m arena t =
@@ -321,9 +321,32 @@ module _ (at : Lookup) (made : Made) (P : List ℕ) (d : Held) where
       by MaybeFix.Nothing = refl
       by (MaybeFix.Is f) = rw (m, r) (either f (matchHeld at made P d f .answer) (t .road) (u .road) (matchHeld at made P d f .matcher))
 
+nothing-same : SameFinish Shows.nothing Shows.nothing
+nothing-same = record { matches = λ p q. refl; all = λ p q. refl }
+
+-- what is finished, where a match is, is x; and where a road is
+match-alone : (x s t : Shown) → s ≡ cond (isMatch s) x Shows.nothing → t ≡ cond (isMatch t) x Shows.nothing → SameFinish s t
+match-alone x s t a b = record {
+  matches = λ p q. ap matcherOf ((b ∙ ap (λ (k : Bool). cond k x Shows.nothing) q) ∙ sym (a ∙ ap (λ (k : Bool). cond k x Shows.nothing) p));
+  all = λ p q. b ∙ ap (λ (k : Bool). cond k x Shows.nothing) p ∙ sym a;
+}
+
+pub road-alone : (x s t : Shown) → s ≡ cond (isRoad s) x Shows.nothing → t ≡ cond (isRoad t) x Shows.nothing → SameFinish s t
+road-alone x s t a b = record {
+  matches = λ p q. ap matcherOf (is t b q ∙ sym (is s a p));
+  all = λ p q. b ∙ ap (λ (k : Bool). cond k x Shows.nothing) q ∙ sym a;
+}
+  where
+    is : (y : Shown) → y ≡ cond (isRoad y) x Shows.nothing → isMatch y ≡ true → y ≡ x
+    is y e m = by (isRoad y) e
+      where
+        by : (k : Bool) → y ≡ cond k x Shows.nothing → y ≡ x
+        by true z = z
+        by false z = absurd (true≢false (sym m ∙ ap isMatch z))
+
 module _ (at : Lookup) (n : ℕ) (horizon : Float) (answers : Answers n at) where
   -- two worlds of one pack that see and match the same
-  finish-same : (P : List ℕ) (h : Held) (v w : World) → Fit P n horizon v → Fit P n horizon w → Follows h (v .engine .follower)
+  pub finish-same : (P : List ℕ) (h : Held) (v w : World) → Fit P n horizon v → Fit P n horizon w → Follows h (v .engine .follower)
       → Follows h (w .engine .follower)
       → SameFinish (stepShown (v .engine) (v .arena)) (stepShown (w .engine) (w .arena))
   finish-same P h v w f g a b =
@@ -340,26 +363,72 @@ module _ (at : Lookup) (n : ℕ) (horizon : Float) (answers : Answers n at) wher
         all = λ p q. sym two ∙ ap (λ (z : Worked). z .shown) (same-told at (madeOf n horizon) P h x y p q) ∙ one;
       }
 
+  -- what is seen and matched, as it is held
+  abbrev seenBy : World → Held
+  seenBy w = record { sight = w .engine .follower .sight; matcher = w .engine .follower .matcher; last = Current.Nothing }
+
+  -- the direct engine's turn at a call shows what the call does
+  alike : (P : List ℕ) (w : World) → Fit P n horizon w → (c : Call) → Fair P w c
+      → directExec at (madeOf n horizon) P c (toldOf w c) (record { held = seenBy w; waiting = [] }) .shown ≡ shown w c
+  alike P w f c fair =
+      turn-alike at n horizon P w (record { held = seenBy w; waiting = [] })
+      (linked at n horizon answers P w (seenBy w) f (record { sight = refl; matcher = refl })) f answers c fair .shown
+
+  -- a call, where a step finishes equally
+  pub calls-same : (P : List ℕ) (v w : World) → Fit P n horizon v → Fit P n horizon w
+      → SameFinish (stepShown (v .engine) (v .arena)) (stepShown (w .engine) (w .arena)) → (c : Call) → Fair P v c → Fair P w c
+      → SameFinish (shown v c) (shown w c)
+  unfolding shown directExec worked
+  calls-same P v w f g s (Calls.fix x) a b = nothing-same
+  calls-same P v w f g s Calls.lost a b = nothing-same
+  calls-same P v w f g s (Calls.reset Q) a b = nothing-same
+  calls-same P v w f g s Calls.step a b = s
+  calls-same P v w f g s (Calls.deliver failure bs) a b = nothing-same
+  calls-same P v w f g s (Calls.stepFrom Q) a b = s
+  calls-same P v w f g s (Calls.read r) a b = nothing-same
+  calls-same P v w f g s (Calls.onCache c) a b = nothing-same
+  calls-same P v w f g s (Calls.nearby x p) a b = nothing-same
+  calls-same P v w f g s (Calls.current m) a b = nothing-same
+  calls-same P v w f g s (Calls.update m x p heading) a b =
+      match-alone (updateWorked at (madeOf n horizon) P m x p heading) _ _ (sym (alike P v f (Calls.update m x p heading) a))
+      (sym (alike P w g (Calls.update m x p heading) b))
+  calls-same P v w f g s (Calls.predict x m reach samples behind) a b =
+      road-alone (predictWorked at (madeOf n horizon) P x m reach samples behind) _ _ (sym (alike P v f (Calls.predict x m reach samples behind) a))
+      (sym (alike P w g (Calls.predict x m reach samples behind) b))
+
   -- from one past
-  ends-same : (p : Past) (P Q : List ℕ) (v w : World) → Ends at n horizon answers p P v → Ends at n horizon answers p Q w
-      → SameFinish (stepShown (v .engine) (v .arena)) (stepShown (w .engine) (w .arena))
-  ends-same p P Q v w a b =
-      finish-same (p .pack) (p .held) v w (subst (λ (x : List ℕ). Fit x n horizon v) (sym (a .recalls .pack)) (a .fit))
-      (subst (λ (x : List ℕ). Fit x n horizon w) (sym (b .recalls .pack)) (b .fit)) (a .recalls .held) (b .recalls .held)
+  ends-same : (p : Past) (P Q : List ℕ) (v w : World) → Ends at n horizon answers p P v → Ends at n horizon answers p Q w → (c : Call) → Fair P v c
+      → Fair Q w c → SameFinish (shown v c) (shown w c)
+  ends-same p P Q v w a b c x y =
+      let f : Fit (p .pack) n horizon v = subst (λ (z : List ℕ). Fit z n horizon v) (sym (a .recalls .pack)) (a .fit) in
+      let g : Fit (p .pack) n horizon w = subst (λ (z : List ℕ). Fit z n horizon w) (sym (b .recalls .pack)) (b .fit) in
+      calls-same (p .pack) v w f g (finish-same (p .pack) (p .held) v w f g (a .recalls .held) (b .recalls .held)) c
+      (subst (λ (z : List ℕ). Fair z v c) (sym (a .recalls .pack)) x) (subst (λ (z : List ℕ). Fair z w c) (sym (b .recalls .pack)) y)
 
   start-ends : (P arena : List ℕ) → n ≤ 96 → Ends at n horizon answers (record { pack = P; held = newHeld }) P (start n horizon arena)
   unfolding Followers.fresh
   start-ends P arena few =
       record { recalls = record { pack = refl; held = record { sight = refl; matcher = refl } }; fit = fit-start P n horizon arena few }
 
+-- the call after a list is fair for the pack of that time
+pub fair-last : (cs : List Call) (c : Call) (P : List ℕ) (w : World) → AllFair P (cs ++ (c ∷ [])) w → AllFair P cs w × Fair (packOf P cs w) (after cs w) c
+unfolding AllFair packOf after
+fair-last [] c P w fair = (tt, fair .0)
+fair-last (x ∷ cs) c P w fair =
+    let r : AllFair (packAfter P x (toldOf w x)) cs (exec x w .world) × Fair (packOf (packAfter P x (toldOf w x)) cs (exec x w .world)) (after cs (exec x w .world)) c
+    = fair-last cs c (packAfter P x (toldOf w x)) (exec x w .world) (fair .1) in
+    ((fair .0, r .0), r .1)
+
 pub all-stories : AllStories
-all-stories n few horizon P one two cs ds fair fair' same =
+all-stories n few horizon P one two cs ds c fair fair' same =
     let answers : Answers n (directly n) = λ Q key s. refl in
     let past : Past = record { pack = P; held = newHeld } in
-    let a = story-told (directly n) n horizon answers cs P (start n horizon one) past (start-ends (directly n) n horizon answers P one few) fair in
-    let b = story-told (directly n) n horizon answers ds P (start n horizon two) past (start-ends (directly n) n horizon answers P two few) fair' in
+    let f = fair-last cs c P (start n horizon one) fair in
+    let g = fair-last ds c P (start n horizon two) fair' in
+    let a = story-told (directly n) n horizon answers cs P (start n horizon one) past (start-ends (directly n) n horizon answers P one few) (f .0) in
+    let b = story-told (directly n) n horizon answers ds P (start n horizon two) past (start-ends (directly n) n horizon answers P two few) (g .0) in
     ends-same (directly n) n horizon answers (retold (directly n) (madeOf n horizon) (story cs (start n horizon one)) past) _ _
     (after cs (start n horizon one)) (after ds (start n horizon two)) a
     (subst (λ (x : List Event). Ends (directly n) n horizon answers (retold (directly n) (madeOf n horizon) x past)
     (packOf P ds (start n horizon two)) (after ds (start n horizon two)))
-    (sym same) b)
+    (sym same) b) c (f .1) (g .1)

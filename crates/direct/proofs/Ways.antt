@@ -4,6 +4,7 @@ use Prim.Native.Nat.{ℕ, _+_, _≤_}
 use mathlib.Core.Path.{_≡_, refl, sym, ap, _∙_}
 use mathlib.Core.Bool.{Bool, true, false, _&&_, cond, true≢false}
 use mathlib.Core.List.{List, []}
+use mathlib.Core.Logic.{_⊎_, inl, inr}
 use native.Mathlib.Omega.{arith}
 use borrow.Author.Tests.{eqb-true, eqb-false}
 use lib.Dec.{eqb, leb}
@@ -85,6 +86,11 @@ pub record Same (f g : Follower) : Type 0 where
   pub horizon : g .«horizon_m» ≡ f .«horizon_m»
   pub ahead : g .ahead ≡ f .ahead
 
+-- what is due of a follower that rests: a match as it was, and a road as it was, or none where there is no match to follow
+pub record Rests (f g : Follower) : Type 0 where
+  pub matching : g .due .matching ≡ f .due .matching
+  pub road : (g .due .road ≡ f .due .road) ⊎ ((g .due .road ≡ false) × (f .matcher .current ≡ Current.Nothing))
+
 -- with the task that it works at, in a state that 12 does not name
 pub data Steps (e : Engine) (arena : List ℕ) : Task → Stepped → Type 0 where
   -- an open fetch repeated; the pack has failed; a fetch opened
@@ -98,11 +104,12 @@ pub data Steps (e : Engine) (arena : List ℕ) : Task → Stepped → Type 0 whe
   arrives : (key : TileKey) (n : Next) → e .shared .phase ≡ Phase.Ready → nextStep (e .shared .cache) key ≡ n
       → fetched (e .shared .cache) n arena (e .shared .header) key ≡ Request.Settled → Steps e arena none (arrived e (settled (e .shared .cache) n key))
   -- nothing to do
-  rests : (f : Follower) → Same (e .follower) f → Steps e arena none (ended e (e .shared .cache) f Status.Idle)
+  rests : (f : Follower) → Same (e .follower) f → Rests (e .follower) f → Steps e arena none (ended e (e .shared .cache) f Status.Idle)
   -- off the map; a match; a road
   leaves : (f : Fix) → Works e f → OffGrid (keyOf (e .shared .header) (f .lat) (f .lon))
       → Steps e arena (offMap f) (ended e (e .shared .cache) (Work.offMap (counted (e .follower)) f) Status.OffMap)
-  matches : (f : Fix) → Works e f → Steps e arena (match f) (matchEnded e (counted (e .follower)) f (matchOf e arena f))
+  matches : (f : Fix) (key : TileKey) → Works e f → keyOf (e .shared .header) (f .lat) (f .lon) ≡ Keyed.In key
+      → Steps e arena (match f) (matchEnded e (counted (e .follower)) f (matchOf e arena f))
   follows : (f : Fix) (key : TileKey) (found : Matched) → Works e f → keyOf (e .shared .header) (f .lat) (f .lon) ≡ Keyed.In key
       → e .follower .matcher .current ≡ Current.Is found
       → Steps e arena (road f found)
@@ -124,22 +131,27 @@ module _ (e : Engine) (arena : List ℕ) where
   counted-same : Same (e .follower) f₁
   counted-same = record { sight = refl; matcher = refl; horizon = refl; ahead = refl }
 
+  counted-rests : Rests (e .follower) f₁
+  counted-rests = record { matching = refl; road = inl refl }
+
   -- ---- the work of a step
 
   module _ (f : Fix) (w : Works e f) where
     road-is : (key : TileKey) (x : Current) → keyOf (e .shared .header) (f .lat) (f .lon) ≡ Keyed.In key → e .follower .matcher .current ≡ x
         → Goes (roadTask x f) (roadDueBy x e arena f₁ f)
     unfolding roadStep
-    road-is key Current.Nothing k q = rests (withDue f₁ (roadOff (f₁ .due))) (record { sight = refl; matcher = refl; horizon = refl; ahead = refl })
+    road-is key Current.Nothing k q =
+        rests (withDue f₁ (roadOff (f₁ .due))) (record { sight = refl; matcher = refl; horizon = refl; ahead = refl })
+        (record { matching = refl; road = inr (refl, q) })
     road-is key (Current.Is found) k q = follows f key found w k q
 
     due-is : (key : TileKey) (s t : Bool) → keyOf (e .shared .header) (f .lat) (f .lon) ≡ Keyed.In key
         → Goes (cond s (match f) (cond t (roadTask (e .follower .matcher .current) f) none))
         (cond s (matchStep e arena f₁ f) (cond t (roadDueBy (e .follower .matcher .current) e arena f₁ f) (ended e (e .shared .cache) f₁ Status.Idle)))
     unfolding matchStep
-    due-is key true t k = matches f w
+    due-is key true t k = matches f key w k
     due-is key false true k = road-is key (e .follower .matcher .current) k refl
-    due-is key false false k = rests f₁ counted-same
+    due-is key false false k = rests f₁ counted-same counted-rests
 
     grid-is : (x : Keyed) → keyOf (e .shared .header) (f .lat) (f .lon) ≡ x → Goes (gridTask x (e .follower) f) (atFixBy x e arena f₁ f)
     grid-is (Keyed.In key) k = due-is key (e .follower .due .matching) (e .follower .due .road) k
@@ -149,7 +161,7 @@ module _ (e : Engine) (arena : List ℕ) where
   module _ (idle : e .shared .cache .pending ≡ Pending.Nothing) (ready : e .shared .phase ≡ Phase.Ready) where
     work-is : (x : MaybeFix) → e .follower .sight .fix ≡ x → Goes (fixTask x e) (workedBy x e arena f₁)
     unfolding atFix
-    work-is MaybeFix.Nothing q = rests f₁ counted-same
+    work-is MaybeFix.Nothing q = rests f₁ counted-same counted-rests
     work-is (MaybeFix.Is f) q =
         grid-is f (record { idle = idle; ready = ready; fix = q }) (keyOf (e .shared .header) (f .lat) (f .lon)) refl
 

@@ -3,7 +3,7 @@
 -- fetch open, or finished a match or road." It is written over `at`, which says how a tile of a pack is looked up; `directly` is document 01's
 -- direct lookup. Assumes nothing.
 use Prim.Native.Nat.{ℕ}
-use mathlib.Core.Bool.{Bool, cond}
+use mathlib.Core.Bool.{Bool, _&&_, cond}
 use mathlib.Core.List.{List, [], _∷_, _++_}
 use lib.Dec.{eqb}
 use lib.Ieee.{Float}
@@ -11,7 +11,7 @@ use lib.IntN.{ℤ, pos}
 use lib.ListN.{take, replicate}
 use Rattle.num.specs.Order.{min}
 use Rattle.pack.specs.Sector.{parse}
-use Rattle.pack.specs.Grid.{keyOf}
+use Rattle.pack.specs.Grid.{isPoint, inGrid, keyOf}
 use Rattle.pack.specs.declared.Header.{Header}
 use Rattle.pack.specs.declared.Keyed.{Keyed}
 use Rattle.pack.specs.declared.Keyed.the-variants as Keyed
@@ -25,6 +25,7 @@ use Rattle.matcher.specs.declared.Heading.{Heading}
 use Rattle.matcher.specs.declared.Matched.{Matched}
 use Rattle.matcher.specs.Calls as Matching
 use Rattle.matcher.specs.Gather as Gather
+use Rattle.matcher.specs.State.{headingOk}
 use Rattle.matcher.specs.declared.Matcher.{Matcher}
 use Rattle.matcher.specs.declared.Outcome as MatchOutcome
 use Rattle.matcher.specs.declared.Outcome.the-variants as Match
@@ -178,14 +179,16 @@ module _ (at : Lookup) (made : Made) (P : List ℕ) where
   unfoldable pub stepWorked : Told → Held → Worked
   stepWorked t d = stepWorkedBy (d .sight .fix) t d
 
-  -- "for a direct call, from arguments and lookups alone"
+  -- "for a direct call, from arguments and lookups alone": 8 and 9 first, as the call has them; number 12 is not tested
   unfoldable pub updateWorked : Matcher → Header → Point → Heading → Shown
-  updateWorked m h p heading = let u = Gather.updateOver (at P) m h p heading in orUnanswered (updateShown (u .answer) (u .matcher))
+  updateWorked m h p heading =
+      let u = Gather.updateOver (at P) m h p heading in
+      cond (isPoint (p .lat) (p .lon) && headingOk heading) (orUnanswered (updateShown (u .answer) (u .matcher))) (updated (Match.Refused 8) m)
 
   unfoldable pub predictWorked : Header → Matched → Float → List ℤ → List ℤ → Shown
   predictWorked h m horizon samples behind =
       let r = Predict.predictOver (at P) (made .pages) h m horizon samples behind in
-      orUnanswered (predictShown (r .answer) (r .samples) (r .behind))
+      cond (inGrid h (m .tile .key)) (orUnanswered (predictShown (r .answer) (r .samples) (r .behind))) (predicted (Roads.Refused 9) [] [])
 
   -- "What a call finishes it works out by the definition"; "All else, refusals too, changes nothing"
   unfoldable pub worked : Call → Told → Held → Worked

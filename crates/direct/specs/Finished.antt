@@ -171,19 +171,19 @@ taskShown (road f found) e arena n = roadShown (roadAt e arena found .predicted 
 unfoldable pub stepShown : Engine → List ℕ → Shown
 stepShown e arena = cond (engineOk e (length arena)) (taskShown (taskOf e) e arena (Engines.step e arena .engine)) nothing
 
--- ---- a direct call
+-- ---- a direct call: it ends other than by 5 or 12, so a refusal by 8, 9 or 10 is finished too
 
 abbrev pub updateShown : MatchOutcome.Outcome → Matcher → Shown
 updateShown (Match.Found m) next = updated (Match.Found m) next
 updateShown Match.Nothing next = updated Match.Nothing next
 updateShown (Match.Need key) next = nothing
-updateShown (Match.Refused number) next = nothing
+updateShown (Match.Refused number) next = cond (eqb number 12) nothing (updated (Match.Refused number) next)
 
 abbrev pub predictShown : RoadOutcome.Outcome → List ℤ → List ℤ → Shown
 predictShown (Roads.Road p) samples behind = predicted (Roads.Road p) (take (p .len) samples) (take (p .behind) behind)
 predictShown (Roads.Need key) samples behind = nothing
 predictShown Roads.Rematch samples behind = predicted Roads.Rematch [] []
-predictShown (Roads.Refused number) samples behind = cond (eqb number 10) (predicted (Roads.Refused 10) [] []) nothing
+predictShown (Roads.Refused number) samples behind = cond (eqb number 12) nothing (predicted (Roads.Refused number) [] [])
 
 -- ---- a call
 

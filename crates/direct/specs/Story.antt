@@ -1,7 +1,9 @@
 -- The customer's corollary: "a finished match or road shows memory only through the page count, and failed reads, dropped loads, evictions and resets
--- only through which fixes were matched before it and what a reset clears" (demand 3). `story` is what is left of a list of calls once reads,
--- failures, loads, evictions and direct calls are left out: the fixes and losses that were taken, the resets, and which fixes were matched. Lists with
--- the same story finish the same. Assumes nothing.
+-- only through which fixes were matched before it and what a reset clears" (demand 3). Of the Rust, and so of the port, that holds but for one thing: a
+-- step that finds the fix off the map clears the matcher where a road stands published, and a missed read can keep that road from being published
+-- before the fix leaves the map (docs/DEMAND3.md has such a list). So `story`, which is what is left of a list of calls once reads, failures, loads,
+-- evictions and direct calls are left out, has the fixes and losses that were taken, the resets, which fixes were matched, and where the match was
+-- cleared. Lists with the same story finish the same. Settled.antt says when the last can be left out.
 use Prim.Native.Nat.{ℕ, _≤_}
 use mathlib.Core.Path.{_≡_}
 use mathlib.Core.Bool.{true, cond}
@@ -14,7 +16,7 @@ use Rattle.engine.specs.declared.Fix.{Fix}
 use Rattle.direct.specs.Lists as Calls
 use Rattle.direct.specs.Lists.{World, Call, number, exec, start}
 use Rattle.direct.specs.Finished as Shows
-use Rattle.direct.specs.Finished.{Shown, isMatch, isRoad, stepShown, shown}
+use Rattle.direct.specs.Finished.{Shown, isMatch, isRoad, shown}
 use Rattle.direct.specs.Claims.{AllFair}
 
 pub data Event : Type 0 where
@@ -24,7 +26,7 @@ pub data Event : Type 0 where
   reset : List ℕ → Event
   -- the fix was matched, or none was found
   matched : Event
-  -- the match went: off the map, or by 6 or 10
+  -- the match was cleared: off the map, because a road stood published; or by 6 or 10
   cleared : Event
 
 -- of a call that was not refused
@@ -77,17 +79,16 @@ matcherOf (Shows.updated a m) = m
 matcherOf (Shows.predicted a samples behind) = Matching.reset
 matcherOf Shows.unanswered = Matching.reset
 
--- two finished by a step: matches are equal, whether or not a road was emptied with them; so is all of it where the same was finished
+-- two finished by one call: matches are equal, whether or not a road was emptied with them; so is all of it where the same was finished
 pub record SameFinish (s t : Shown) : Type 0 where
   pub matches : isMatch s ≡ true → isMatch t ≡ true → matcherOf t ≡ matcherOf s
   pub all : isMatch t ≡ isMatch s → isRoad t ≡ isRoad s → t ≡ s
 
--- two lists over their own arenas, of the same page count and horizon and the same pack at first, with the same story: whatever a step finishes
--- after the one, a step finishes equally after the other. Which reads failed, what was evicted or dropped, and the direct calls may differ
+-- two lists over their own arenas, of the same page count and horizon and the same pack at first, with the same story: whatever a call finishes after
+-- the one, it finishes equally after the other, a direct call too. Which reads failed, what was evicted or dropped, and the direct calls before it may
+-- differ
 abbrev pub AllStories : Type 0
 AllStories =
-    (n : ℕ) → n ≤ 96 → (horizon : Float) (P one two : List ℕ) (cs ds : List Call) → AllFair P cs (start n horizon one) → AllFair P ds (start n horizon two) →
-    story cs (start n horizon one) ≡ story ds (start n horizon two) →
-    let v = after cs (start n horizon one) in
-    let w = after ds (start n horizon two) in
-    SameFinish (stepShown (v .engine) (v .arena)) (stepShown (w .engine) (w .arena))
+    (n : ℕ) → n ≤ 96 → (horizon : Float) (P one two : List ℕ) (cs ds : List Call) (c : Call) → AllFair P (cs ++ (c ∷ [])) (start n horizon one) →
+    AllFair P (ds ++ (c ∷ [])) (start n horizon two) → story cs (start n horizon one) ≡ story ds (start n horizon two) →
+    SameFinish (shown (after cs (start n horizon one)) c) (shown (after ds (start n horizon two)) c)

@@ -1,0 +1,907 @@
+-- Two lists that settle before each fix. The idea: unless a road is due for its match, a step off the map clears the matcher where it has a match
+-- (`Clears`, along every list), and where a fix is given only once nothing is due, no road is due off the map (`Rested`). So the story can be told
+-- again without saying where a match was cleared: it goes with the first fix that is off the map (`resettled`). The engine's matcher is then the one
+-- told, but for a match that the next step off the map will clear (`Tells`); a pack that has failed finishes nothing before the next reset.
+use Prim.Native.Nat.{ℕ, _*_, _≤_}
+use mathlib.Core.Path.{_≡_, refl, sym, ap, subst, _∙_}
+use mathlib.Core.Bool.{Bool, true, false, _&&_, _||_, not, cond, true≢false}
+use mathlib.Core.List.{List, [], _∷_, _++_}
+use mathlib.Core.Logic.{_⊎_, inl, inr}
+use native.Mathlib.Omega.{arith}
+use borrow.Author.Tests.{leb-true}
+use lib.Dec.{eqb, leb}
+use lib.Ieee.{Float}
+use lib.ListN.{length}
+use Rattle.pack.specs.Grid.{isPoint, keyOf}
+use Rattle.pack.specs.declared.Header.{Header}
+use Rattle.pack.specs.declared.Keyed.{Keyed}
+use Rattle.pack.specs.declared.Keyed.the-variants as Keyed
+use Rattle.pack.specs.declared.TileKey.{TileKey}
+use Rattle.cache.specs.State.{stateOk, arenaOk}
+use Rattle.cache.proofs.Below.{and-left, and-right}
+use Rattle.cache.specs.declared.Pending.{Pending}
+use Rattle.cache.specs.declared.Pending.the-variants as Pending
+use Rattle.matcher.specs.declared.Current.{Current}
+use Rattle.matcher.specs.declared.Current.the-variants as Current
+use Rattle.matcher.specs.declared.Matched.{Matched}
+use Rattle.matcher.specs.Calls as Matching
+use Rattle.matcher.specs.declared.Matcher.{Matcher}
+use Rattle.matcher.specs.declared.Outcome as MatchOutcome
+use Rattle.matcher.specs.declared.Outcome.the-variants as Match
+use Rattle.matcher.specs.declared.Updated.{Updated}
+use Rattle.predict.specs.Predict as Predict
+use Rattle.predict.specs.declared.End.the-variants as End
+use Rattle.predict.specs.declared.Outcome as RoadOutcome
+use Rattle.predict.specs.declared.Outcome.the-variants as Roads
+use Rattle.predict.specs.declared.Prediction.{Prediction}
+use Rattle.engine.specs.Fixes as Fixes
+use Rattle.engine.specs.Publish.{withMatch, withoutMatch}
+use Rattle.engine.specs.Follow as Followers
+use Rattle.engine.specs.Follow.{isMatched}
+use Rattle.engine.specs.declared.Ahead.{Ahead}
+use Rattle.engine.specs.declared.Fix.{Fix}
+use Rattle.engine.specs.declared.Follower.{Follower}
+use Rattle.engine.specs.declared.MaybeFix.{MaybeFix}
+use Rattle.engine.specs.declared.MaybeFix.the-variants as MaybeFix
+use Rattle.engine.specs.State as States
+use Rattle.engine.specs.State.{refused, unchanged, followed, isFailed, headerOk, sharedOk, needOk, pendingBy, pendingOk, reloadLimit, engineOk}
+use Rattle.engine.specs.Work as Work
+use Rattle.engine.specs.Work.{counted, matched, matchedBy, mayAsk, matchEndedBy, published, rematch, roadEndedBy, offMap}
+use Rattle.engine.specs.Deliver.{After, arrived, deliveredBy, delivered, over}
+use Rattle.engine.specs.Steps.{stepped}
+use Rattle.engine.specs.Calls as Engines
+use Rattle.engine.specs.declared.Changed.{Changed}
+use Rattle.engine.specs.declared.Engine.{Engine}
+use Rattle.engine.specs.declared.Phase.{Phase}
+use Rattle.engine.specs.declared.Phase.the-variants as Phase
+use Rattle.engine.specs.declared.Sight.{Sight}
+use Rattle.engine.specs.declared.Stepped.{Stepped}
+use Rattle.engine_states.proofs.KeptParts.{Ok, apart}
+use Rattle.direct.specs.Lists as Calls
+use Rattle.direct.specs.Lists.{World, Call, ofTaken, exec, start, Along}
+use Rattle.direct.specs.Finished as Shows
+use Rattle.direct.specs.Finished.{Shown, Road, isMatch, isRoad, Task, openTask, phaseTask, taskOf, matchOf, roadAt, matchShown, roadShown, taskShown, stepShown, shown}
+use Rattle.direct.specs.Direct.{Made, Told, Lookup, headerOf, directly, Held, newHeld, lostHeld, forgotten, Worked, Direct, stepWorkedBy, stepWorked, keyWorked, noRoad, packAfter}
+use Rattle.direct.specs.Claims.{isFetching, toldOf, Fair, AllFair, madeOf, Answers}
+use Rattle.direct.specs.Story as Story
+use Rattle.direct.specs.Story.{Event, taken, eventsOf, events, story, after, SameFinish}
+use Rattle.direct.specs.Settled.{AllCleared, isSettled, Settles, withoutCleared, AllSettled}
+use Rattle.direct.proofs.Ways as Ways
+use Rattle.direct.proofs.Ways.{Same, Rests, OffGrid, Works, Steps, step-is, Lends, lends-is}
+use Rattle.direct.proofs.Safe.{written-after}
+use Rattle.direct.proofs.Beside.{Beside, steps-beside, step-beside, deliver-left}
+use Rattle.direct.proofs.Fit.{Fit, fit-after, fit-start}
+use Rattle.direct.proofs.Seen.{toldBy, idle-worked}
+use Rattle.direct.proofs.Linked.{Follows, step-turn}
+use Rattle.direct.proofs.Sound.{start-sound}
+use Rattle.direct.proofs.Opened.{isAgain, Stays, reset-fits}
+use Rattle.direct.proofs.Always.{step-again, stays-after}
+use Rattle.direct.proofs.Stories.{Past, rematched, retold, packOf, Recalls, linked, turn-recalls, finish-same, calls-same, road-alone, fair-last}
+
+-- ---- one list: what a step off the map clears
+
+-- unless a road is due for its match, it goes alike by what stands published and by the match
+abbrev Clears : Follower → Type 0
+Clears f =
+    (f .due .road && isMatched (f .matcher .current)) ≡ false →
+    cond (isMatched (f .ahead .matched)) Matching.reset (f .matcher) ≡ cond (isMatched (f .matcher .current)) Matching.reset (f .matcher)
+
+and-off : (a : Bool) → (a && false) ≡ false
+and-off true = refl
+and-off false = refl
+
+same-either : (t : Bool) → cond t Matching.reset Matching.reset ≡ Matching.reset
+same-either true = refl
+same-either false = refl
+
+-- a matcher that is cleared
+reset-clears : (f : Follower) → f .matcher ≡ Matching.reset → Clears f
+reset-clears f q c = rw q (same-either (isMatched (f .ahead .matched)))
+
+either-clears : (t : Bool) (x y : Follower) → Clears x → Clears y → Clears (cond t x y)
+either-clears true x y p q = p
+either-clears false x y p q = q
+
+either-stepped : (t : Bool) (x y : Stepped) → Clears (x .engine .follower) → Clears (y .engine .follower) → Clears (cond t x y .engine .follower)
+either-stepped true x y p q = p
+either-stepped false x y p q = q
+
+rests-clear : (f g : Follower) → Same f g → Rests f g → Clears f → Clears g
+rests-clear f g s d c = by (d .road)
+  where
+    by : (g .due .road ≡ f .due .road) ⊎ ((g .due .road ≡ false) × (f .matcher .current ≡ Current.Nothing)) → Clears g
+    by (inl r) = λ z. rw (s .matcher, s .ahead) (c (rw (r, s .matcher) at z))
+    by (inr q) = λ z. rw (s .matcher, s .ahead) (c (rw (q .1) (and-off (f .due .road))))
+
+off-clears : (f : Follower) (fix : Fix) → Clears f → Clears (offMap f fix)
+unfolding offMap withoutMatch
+off-clears f fix c = by (isMatched (f .ahead .matched))
+  where
+    left : Bool → Follower
+    left t =
+        Work.withDue (Work.withAhead (Work.withMatcher f (cond t Matching.reset (f .matcher)))
+        (cond t (withoutMatch (f .ahead) (fix .«at_ms») End.MapEdge) (f .ahead))) (Work.matchingOff (f .due))
+
+    by : (t : Bool) → Clears (left t)
+    by true = λ z. refl
+    by false = c
+
+-- a match that was finished
+match-clears : (f : Follower) (m : Matcher) (fix : Fix) → Clears (matched f m fix)
+unfolding matched withoutMatch
+match-clears f m fix = by (m .current) refl
+  where
+    gone : (t : Bool) → isMatched (f .ahead .matched) ≡ t → isMatched (cond t (withoutMatch (f .ahead) (fix .«at_ms») End.Uncertain) (f .ahead) .matched) ≡ false
+    gone true q = refl
+    gone false q = q
+
+    on : (found : Matched) (y : Current) → m .current ≡ Current.Is found → f .ahead .matched ≡ y → Clears (matchedBy (Current.Is found) f m fix)
+    on found Current.Nothing q r = λ z. absurd (true≢false (rw (r, q) at z))
+    on found (Current.Is y) q r = λ z. rw (r, q)
+
+    by : (x : Current) → m .current ≡ x → Clears (matchedBy x f m fix)
+    by Current.Nothing q = λ z. rw (gone (isMatched (f .ahead .matched)) refl, q)
+    by (Current.Is found) q = on found (f .ahead .matched) q refl
+
+-- a road that was published, of the current match
+road-clears : (f : Follower) (a : Ahead) (fix : Fix) (found : Matched) (p : Prediction) → f .matcher .current ≡ Current.Is found → Clears (published f a fix found p)
+unfolding published withMatch
+road-clears f a fix found p q = λ z. rw q
+
+module _ (e : Engine) (arena : List ℕ) (c : Clears (e .follower)) where
+  abbrev f₁ : Follower
+  f₁ = counted (e .follower)
+
+  match-ended : (x : MatchOutcome.Outcome) (fix : Fix) (u : Updated) → Clears (matchEndedBy x e f₁ fix u .engine .follower)
+  match-ended (Match.Found m) fix u = match-clears f₁ (u .matcher) fix
+  match-ended Match.Nothing fix u = match-clears f₁ (u .matcher) fix
+  match-ended (Match.Need key) fix u = either-clears (mayAsk (f₁ .due) (u .cache .pages .count)) _ _ c c
+  match-ended (Match.Refused number) fix u = c
+
+  road-ended : (x : RoadOutcome.Outcome) (fix : Fix) (found : Matched) (r : Predict.After) → e .follower .matcher .current ≡ Current.Is found
+      → Clears (roadEndedBy x e f₁ fix found r .engine .follower)
+  road-ended (Roads.Road p) fix found r q = road-clears f₁ _ fix found p q
+  road-ended (Roads.Need key) fix found r q =
+      either-clears (mayAsk (f₁ .due) (r .predicted .cache .pages .count)) _ _ c (road-clears f₁ (f₁ .ahead) fix found Work.noRoad q)
+  road-ended Roads.Rematch fix found r q = reset-clears (rematch f₁) refl
+  road-ended (Roads.Refused number) fix found r q = either-stepped (eqb number 10) _ _ (reset-clears (rematch f₁) refl) c
+
+  steps-clear : {x : Task} {s : Stepped} → Steps e arena x s → Clears (s .engine .follower)
+  unfolding arrived
+  steps-clear (Ways.repeats o) = c
+  steps-clear Ways.fails = c
+  steps-clear (Ways.opens p offset len o f r) = c
+  steps-clear (Ways.spoils key i r s p) = c
+  steps-clear (Ways.arrives key n r s f) = c
+  steps-clear (Ways.rests f s d) = rests-clear (e .follower) f s d c
+  steps-clear (Ways.leaves f w o) = off-clears f₁ f c
+  steps-clear (Ways.matches f key w k) = match-ended (matchOf e arena f .answer) f (matchOf e arena f)
+  steps-clear (Ways.follows f key found w k q) = road-ended (roadAt e arena found .predicted .answer) f found (roadAt e arena found) q
+
+  step-clears : Clears (Engines.step e arena .engine .follower)
+  unfolding Engines.step
+  step-clears = either-stepped (engineOk e (length arena)) _ _ (steps-clear (step-is e arena)) c
+
+deliver-clears : (e : Engine) (arena : List ℕ) (failure : ℕ) (bs : List ℕ) → Clears (e .follower) → Clears (Engines.deliver e arena failure bs .engine .follower)
+deliver-clears e arena failure bs c = let l = deliver-left e failure bs arena in rests-clear (e .follower) _ (l .follower) (l .due) c
+
+lent-clears : (e : Engine) (arena Q : List ℕ) {r : After} → Lends e arena Q r → Clears (e .follower) → Clears (r .engine .follower)
+lent-clears e arena Q (Ways.plain t) c = step-clears e arena c
+lent-clears e arena Q (Ways.asks offset len failure bs a fair) c =
+    deliver-clears (Engines.step e arena .engine) arena failure bs (step-clears e arena c)
+
+changed-clears : (t : Bool) (x y : Changed) → Clears (x .engine .follower) → Clears (y .engine .follower) → Clears (cond t x y .engine .follower)
+changed-clears true x y p q = p
+changed-clears false x y p q = q
+
+call-clears : (w : World) (c : Call) → Clears (w .engine .follower) → Clears (exec c w .world .engine .follower)
+unfolding exec Engines.fix Engines.lost Engines.reset States.forgotten Followers.fixed Followers.lost Followers.reset
+call-clears w (Calls.fix f) c =
+    changed-clears (engineOk (w .engine) (length (w .arena))) _ _
+    (changed-clears (isPoint (f .lat) (f .lon)) _ _ (either-clears (Fixes.isSamePlace (w .engine .follower .sight .fix) f) _ _ c c) c) c
+call-clears w Calls.lost c =
+    changed-clears (engineOk (w .engine) (length (w .arena))) _ _ (reset-clears (Followers.lost (w .engine .follower)) refl) c
+call-clears w (Calls.reset P) c =
+    changed-clears (engineOk (w .engine) (length (w .arena))) _ _ (reset-clears (Followers.reset (w .engine .follower)) refl) c
+call-clears w Calls.step c = step-clears (w .engine) (w .arena) c
+call-clears w (Calls.deliver failure bs) c = deliver-clears (w .engine) (w .arena) failure bs c
+call-clears w (Calls.stepFrom Q) c = lent-clears (w .engine) (w .arena) Q (lends-is (w .engine) (w .arena) Q) c
+call-clears w (Calls.read r) c = c
+call-clears w (Calls.onCache x) c = c
+call-clears w (Calls.nearby h p) c = c
+call-clears w (Calls.current m) c = c
+call-clears w (Calls.update m h p heading) c = c
+call-clears w (Calls.predict h m reach samples behind) c = c
+
+list-clears : (cs : List Call) (w : World) → Clears (w .engine .follower) → Clears (after cs w .engine .follower)
+unfolding after
+list-clears [] w c = c
+list-clears (x ∷ cs) w c = list-clears cs (exec x w .world) (call-clears w x c)
+
+start-clears : (n : ℕ) (horizon : Float) (arena : List ℕ) → Clears (start n horizon arena .engine .follower)
+unfolding Followers.fresh
+start-clears n horizon arena = reset-clears (Followers.fresh horizon) refl
+
+-- no road is due
+not-due : (f : Follower) → Clears f → f .due .road ≡ false
+    → cond (isMatched (f .ahead .matched)) Matching.reset (f .matcher) ≡ cond (isMatched (f .matcher .current)) Matching.reset (f .matcher)
+not-due f c q = c (ap (λ (t : Bool). t && isMatched (f .matcher .current)) q)
+
+pub all-cleared : AllCleared
+unfolding offMap
+all-cleared n horizon arena cs fix q =
+    not-due (after cs (start n horizon arena) .engine .follower) (list-clears cs (start n horizon arena) (start-clears n horizon arena)) q
+
+-- ---- off the map
+
+abbrev isOutside : Keyed → Bool
+isOutside (Keyed.In key) = false
+isOutside Keyed.Outside = true
+isOutside (Keyed.Refused number) = true
+
+abbrev isOff : Header → MaybeFix → Bool
+isOff h MaybeFix.Nothing = false
+isOff h (MaybeFix.Is f) = isOutside (keyOf h (f .lat) (f .lon))
+
+outside-is : (x : Keyed) → OffGrid x → isOutside x ≡ true
+outside-is (Keyed.In key) o = absurd o
+outside-is Keyed.Outside o = refl
+outside-is (Keyed.Refused number) o = refl
+
+-- a matcher whose match is gone where the fix is off the map
+abbrev cleared : Bool → Matcher → Matcher
+cleared off m = cond (off && isMatched (m .current)) Matching.reset m
+
+reset-cleared : (off : Bool) → cleared off Matching.reset ≡ Matching.reset
+reset-cleared true = refl
+reset-cleared false = refl
+
+cleared-twice : (m : Matcher) → cleared true (cleared true m) ≡ cleared true m
+cleared-twice m = by (isMatched (m .current)) refl
+  where
+    by : (t : Bool) → isMatched (m .current) ≡ t → cleared true (cond t Matching.reset m) ≡ cond t Matching.reset m
+    by true q = refl
+    by false q = ap (λ (t : Bool). cond t Matching.reset m) q
+
+cleared-none : (m : Matcher) → isMatched (cleared true m .current) ≡ false
+cleared-none m = by (isMatched (m .current)) refl
+  where
+    by : (t : Bool) → isMatched (m .current) ≡ t → isMatched (cond t Matching.reset m .current) ≡ false
+    by true q = refl
+    by false q = q
+
+-- nothing is cleared of a matcher without a match, nor on the map
+cleared-not : (off : Bool) (m : Matcher) → (off ≡ true → isMatched (m .current) ≡ false) → cleared off m ≡ m
+cleared-not true m none = ap (λ (t : Bool). cond t Matching.reset m) (none refl)
+cleared-not false m none = refl
+
+-- off the map no road is due, and where no match is due either, there is none
+abbrev Rested : List ℕ → Engine → Type 0
+Rested P e =
+    isFailed (e .shared .phase) ≡ false → isOff (headerOf P) (e .follower .sight .fix) ≡ true →
+    (e .follower .due .road ≡ false) × (e .follower .due .matching ≡ false → isMatched (e .follower .matcher .current) ≡ false)
+
+rests-rest : (P : List ℕ) (e n : Engine) → Same (e .follower) (n .follower) → Rests (e .follower) (n .follower) → isFailed (e .shared .phase) ≡ false
+    → Rested P e → Rested P n
+rests-rest P e n s d ready r u o =
+    let was : (e .follower .due .road ≡ false) × (e .follower .due .matching ≡ false → isMatched (e .follower .matcher .current) ≡ false)
+    = r ready (rw (s .sight) at o) in
+    (by (d .road) (was .0), λ m. rw (s .matcher) (was .1 (sym (d .matching) ∙ m)))
+  where
+    by : (n .follower .due .road ≡ e .follower .due .road) ⊎ ((n .follower .due .road ≡ false) × (e .follower .matcher .current ≡ Current.Nothing))
+        → e .follower .due .road ≡ false → n .follower .due .road ≡ false
+    by (inl q) z = q ∙ z
+    by (inr q) z = q .0
+
+-- ---- a step
+
+abbrev isEmptied : Shown → Bool
+isEmptied (Shows.emptied m r) = true
+isEmptied Shows.nothing = false
+isEmptied (Shows.matched m) = false
+isEmptied (Shows.unmatched m r) = false
+isEmptied (Shows.published r) = false
+isEmptied (Shows.again k m) = false
+isEmptied (Shows.updated a m) = false
+isEmptied (Shows.predicted a samples behind) = false
+isEmptied Shows.unanswered = false
+
+-- a step that shows s and leaves the engine n: it leaves the matcher; it works at a fix on the map; it finds the fix off the map
+data Sorts (off : Bool) (e n : Engine) (s : Shown) : Type 0 where
+  quiet : s ≡ Shows.nothing → n .follower .matcher ≡ e .follower .matcher → Sorts off e n s
+  onMap : isFailed (e .shared .phase) ≡ false → off ≡ false → isEmptied s ≡ false → Sorts off e n s
+  leaves : isFailed (e .shared .phase) ≡ false → off ≡ true → (t : Bool) (m : Matcher) (r : Road) → s ≡ cond t (Shows.emptied m r) Shows.nothing
+      → n .follower .matcher ≡ cond (isMatched (e .follower .ahead .matched)) Matching.reset (e .follower .matcher) → Sorts off e n s
+
+either-shown : (t : Bool) (x y : Shown) → isEmptied x ≡ false → isEmptied y ≡ false → isEmptied (cond t x y) ≡ false
+either-shown true x y p q = p
+either-shown false x y p q = q
+
+match-shows : (x : MatchOutcome.Outcome) (e n : Engine) → isEmptied (matchShown x e n) ≡ false
+match-shows (Match.Found m) e n = refl
+match-shows Match.Nothing e n = either-shown (isMatched (e .follower .ahead .matched)) _ _ refl refl
+match-shows (Match.Need key) e n = refl
+match-shows (Match.Refused number) e n = refl
+
+road-shows : (x : RoadOutcome.Outcome) (n : Engine) → isEmptied (roadShown x n) ≡ false
+road-shows (Roads.Road p) n = refl
+road-shows (Roads.Need key) n = refl
+road-shows Roads.Rematch n = refl
+road-shows (Roads.Refused number) n = either-shown (eqb number 10) _ _ refl refl
+
+module _ (P : List ℕ) (e : Engine) (arena : List ℕ) (header : e .shared .phase ≡ Phase.Ready → e .shared .header ≡ headerOf P) where
+  abbrev off : Bool
+  off = isOff (headerOf P) (e .follower .sight .fix)
+
+  -- by the key of the fix that it works at
+  off-is : (f : Fix) → Works e f → off ≡ isOutside (keyOf (e .shared .header) (f .lat) (f .lon))
+  off-is f w =
+      ap (isOff (headerOf P)) (w .fix) ∙ ap (λ (h : Header). isOutside (keyOf h (f .lat) (f .lon))) (sym (header (w .ready)))
+
+  steps-sort : {x : Task} {s : Stepped} → Steps e arena x s → Sorts off e (s .engine) (taskShown x e arena (s .engine))
+  unfolding arrived offMap
+  steps-sort (Ways.repeats o) = quiet refl refl
+  steps-sort Ways.fails = quiet refl refl
+  steps-sort (Ways.opens p offset len o f r) = quiet refl refl
+  steps-sort (Ways.spoils key i r s p) = quiet refl refl
+  steps-sort (Ways.arrives key n r s f) = quiet refl refl
+  steps-sort (Ways.rests f s d) = quiet refl (s .matcher)
+  steps-sort (Ways.leaves f w o) =
+      leaves (ap isFailed (w .ready)) (off-is f w ∙ outside-is (keyOf (e .shared .header) (f .lat) (f .lon)) o) (isMatched (e .follower .ahead .matched)) _ _ refl refl
+  steps-sort (Ways.matches f key w k) =
+      onMap (ap isFailed (w .ready)) (off-is f w ∙ ap isOutside k) (match-shows (matchOf e arena f .answer) e _)
+  steps-sort (Ways.follows f key found w k q) =
+      onMap (ap isFailed (w .ready)) (off-is f w ∙ ap isOutside k) (road-shows (roadAt e arena found .predicted .answer) _)
+
+  step-sorts : Sorts off e (Engines.step e arena .engine) (stepShown e arena)
+  unfolding stepShown Engines.step
+  step-sorts = by (engineOk e (length arena))
+    where
+      left : Bool → Stepped
+      left t = cond t (stepped e arena) (refused e 12)
+
+      by : (t : Bool) → Sorts off e (left t .engine) (cond t (taskShown (taskOf e) e arena (left t .engine)) Shows.nothing)
+      by true = steps-sort (step-is e arena)
+      by false = quiet refl refl
+
+  -- where it worked at a fix on the map, the fix stays there
+  stays-on : {x : Task} {s : Stepped} → Steps e arena x s → off ≡ false → isOff (headerOf P) (s .engine .follower .sight .fix) ≡ false
+  stays-on goes q = rw (steps-beside e goes .sight) q
+
+  steps-rest : {x : Task} {s : Stepped} → Steps e arena x s → Clears (e .follower) → Rested P e → Rested P (s .engine)
+  unfolding arrived offMap
+  steps-rest (Ways.repeats o) c r = r
+  steps-rest Ways.fails c r = r
+  steps-rest (Ways.opens p offset len o f q) c r = r
+  steps-rest (Ways.spoils key i q s p) c r = r
+  steps-rest (Ways.arrives key n q s f) c r = r
+  steps-rest (Ways.rests f s d) c r = λ u o. rests-rest P e (record { shared = e .shared; follower = f }) s d u r u o
+  steps-rest (Ways.leaves f w o) c r = λ u z.
+      (r u z .0, λ m. ap (λ (x : Matcher). isMatched (x .current)) (not-due (e .follower) c (r u z .0)) ∙ cleared-none (e .follower .matcher))
+  steps-rest (Ways.matches f key w k) c r = λ u z.
+      absurd (true≢false (sym z ∙ stays-on (Ways.matches f key w k) (off-is f w ∙ ap isOutside k)))
+  steps-rest (Ways.follows f key found w k q) c r = λ u z.
+      absurd (true≢false (sym z ∙ stays-on (Ways.follows f key found w k q) (off-is f w ∙ ap isOutside k)))
+
+  step-rests : Clears (e .follower) → Rested P e → Rested P (Engines.step e arena .engine)
+  unfolding Engines.step
+  step-rests c r = by (engineOk e (length arena))
+    where
+      by : (t : Bool) → Rested P (cond t (stepped e arena) (refused e 12) .engine)
+      by true = steps-rest (step-is e arena) c r
+      by false = r
+
+-- ---- a delivery
+
+-- a pack that has failed is read no more
+failed-delivers : (e : Engine) (arena : List ℕ) (failure : ℕ) (bs : List ℕ) → isFailed (e .shared .phase) ≡ true
+    → Engines.deliver e arena failure bs .engine ≡ e
+unfolding Engines.deliver delivered
+failed-delivers e arena failure bs failed = by (engineOk e (length arena)) refl
+  where
+    unopened : (p : Phase) (x : Pending) → isFailed p ≡ true → e .shared .phase ≡ p → e .shared .cache .pending ≡ x
+        → pendingBy x (e .shared) (e .follower .due .need) ≡ true
+        → deliveredBy x e arena failure bs .engine ≡ e
+    unopened p Pending.Nothing f q r ok = refl
+    unopened Phase.Failed Pending.Header f q r ok = absurd (true≢false (sym (rw q at ok)))
+    unopened Phase.Failed (Pending.Entry key) f q r ok = absurd (true≢false (sym (rw q at ok)))
+    unopened Phase.Failed Pending.Chunk f q r ok = absurd (true≢false (sym (rw q at ok)))
+    unopened Phase.Ready Pending.Header f q r ok = absurd (true≢false (sym f))
+    unopened Phase.Ready (Pending.Entry key) f q r ok = absurd (true≢false (sym f))
+    unopened Phase.Ready Pending.Chunk f q r ok = absurd (true≢false (sym f))
+    unopened Phase.Unread Pending.Header f q r ok = absurd (true≢false (sym f))
+    unopened Phase.Unread (Pending.Entry key) f q r ok = absurd (true≢false (sym f))
+    unopened Phase.Unread Pending.Chunk f q r ok = absurd (true≢false (sym f))
+
+    by : (t : Bool) → engineOk e (length arena) ≡ t
+        → cond t (deliveredBy (e .shared .cache .pending) e arena failure bs) (over (refused e 12) arena) .engine ≡ e
+    by true ok =
+        let parts : Ok (e .shared) (e .follower) (length arena) = apart e (length arena) ok in
+        let due : (needOk (e .shared) (e .follower .due .need) && pendingOk (e .shared) (e .follower .due .need)) ≡ true
+        = and-right (leb (e .follower .due .reloads) (reloadLimit (e .shared .cache .pages .count))) _ (parts .due) in
+        unopened (e .shared .phase) (e .shared .cache .pending) failed refl refl (and-right (needOk (e .shared) (e .follower .due .need)) _ due)
+    by false ok = refl
+
+-- ---- the story told again, without saying where a match was cleared
+
+-- a fix off the map takes the match with it
+abbrev refixed : Header → Held → Fix → Held
+refixed h d f =
+    cond (Fixes.isSamePlace (d .sight .fix) f) d
+    (record { sight = Fixes.seen (d .sight) f; matcher = cleared (isOff h (MaybeFix.Is f)) (d .matcher); last = d .last })
+
+module _ (at : Lookup) (made : Made) where
+  abbrev resettledOne : Event → Past → Past
+  resettledOne (Story.fixed f) p = record { pack = p .pack; held = refixed (headerOf (p .pack)) (p .held) f }
+  resettledOne Story.lost p = record { pack = p .pack; held = lostHeld (p .held) }
+  resettledOne (Story.reset Q) p = record { pack = Q; held = forgotten (p .held) }
+  resettledOne Story.matched p = record { pack = p .pack; held = rematched at made (p .held .sight .fix) p }
+  resettledOne Story.cleared p = p
+
+  unfoldable resettled : List Event → Past → Past
+  resettled [] p = p
+  resettled (x ∷ xs) p = resettled xs (resettledOne x p)
+
+  resettled-more : (xs ys : List Event) (p : Past) → resettled (xs ++ ys) p ≡ resettled ys (resettled xs p)
+  unfolding resettled
+  resettled-more [] ys p = refl
+  resettled-more (x ∷ xs) ys p = resettled-more xs ys (resettledOne x p)
+
+  resettled-without : (xs : List Event) (p : Past) → resettled (withoutCleared xs) p ≡ resettled xs p
+  unfolding resettled withoutCleared
+  resettled-without [] p = refl
+  resettled-without (Story.cleared ∷ xs) p = resettled-without xs p
+  resettled-without (Story.fixed f ∷ xs) p = resettled-without xs (resettledOne (Story.fixed f) p)
+  resettled-without (Story.lost ∷ xs) p = resettled-without xs (resettledOne Story.lost p)
+  resettled-without (Story.reset Q ∷ xs) p = resettled-without xs (resettledOne (Story.reset Q) p)
+  resettled-without (Story.matched ∷ xs) p = resettled-without xs (resettledOne Story.matched p)
+
+  -- on the map nothing is cleared
+  told-same : (s : Shown) → isEmptied s ≡ false → isAgain s ≡ false → (p : Past) → resettled (eventsOf s) p ≡ retold at made (eventsOf s) p
+  unfolding resettled retold
+  told-same Shows.nothing a b p = refl
+  told-same (Shows.matched m) a b p = refl
+  told-same (Shows.unmatched m r) a b p = refl
+  told-same (Shows.published r) a b p = refl
+  told-same (Shows.again k m) a b p = absurd (true≢false b)
+  told-same (Shows.emptied m r) a b p = absurd (true≢false a)
+  told-same (Shows.updated x m) a b p = refl
+  told-same (Shows.predicted x samples behind) a b p = refl
+  told-same Shows.unanswered a b p = refl
+
+  told-off : (t : Bool) (m : Matcher) (r : Road) (p : Past) → resettled (eventsOf (cond t (Shows.emptied m r) Shows.nothing)) p ≡ p
+  unfolding resettled
+  told-off true m r p = refl
+  told-off false m r p = refl
+
+-- ---- the engine beside the story
+
+-- unless the pack has failed, the matcher is the one told, but for a match that a step off the map will clear
+record Tells (p : Past) (P : List ℕ) (e : Engine) : Type 0 where
+  pack : p .pack ≡ P
+  sight : p .held .sight ≡ e .follower .sight
+  matcher : isFailed (e .shared .phase) ≡ false → p .held .matcher ≡ cleared (isOff (headerOf P) (e .follower .sight .fix)) (e .follower .matcher)
+  clears : Clears (e .follower)
+  rested : Rested P e
+
+-- an engine that sees and matches the same
+tells-as : (p : Past) (P : List ℕ) (e n : Engine) → Tells p P e → (isFailed (n .shared .phase) ≡ false → isFailed (e .shared .phase) ≡ false)
+    → n .follower .sight ≡ e .follower .sight → n .follower .matcher ≡ e .follower .matcher → Clears (n .follower) → Rested P n → Tells p P n
+tells-as p P e n t u s m c r = record {
+  pack = t .pack;
+  sight = t .sight ∙ sym s;
+  matcher = λ z. rw (s, m) (t .matcher (u z));
+  clears = c;
+  rested = r;
+}
+
+deliver-tells : (p : Past) (P : List ℕ) (e : Engine) (arena : List ℕ) (failure : ℕ) (bs : List ℕ) → Tells p P e
+    → Tells p P (Engines.deliver e arena failure bs .engine)
+deliver-tells p P e arena failure bs t = by (isFailed (e .shared .phase)) refl
+  where
+    by : (f : Bool) → isFailed (e .shared .phase) ≡ f → Tells p P (Engines.deliver e arena failure bs .engine)
+    by true f = subst (Tells p P) (sym (failed-delivers e arena failure bs f)) t
+    by false f =
+        let l = deliver-left e failure bs arena in
+        let n : Engine = Engines.deliver e arena failure bs .engine in
+        tells-as p P e n t (λ z. f) (l .follower .sight) (l .follower .matcher) (deliver-clears e arena failure bs (t .clears))
+        (rests-rest P e n (l .follower) (l .due) f (t .rested))
+
+-- ---- the engine in a state that 12 does not name, where its arena is as long as its pages
+
+abbrev Able : List ℕ → ℕ → Float → World → Type 0
+Able P n horizon w = n * 8192 ≤ length (w .arena) → Stays P n horizon w
+
+module _ (P : List ℕ) (n : ℕ) (horizon : Float) (w : World) (fit : Fit P n horizon w) (able : Able P n horizon w) where
+  long-of : engineOk (w .engine) (length (w .arena)) ≡ true → n * 8192 ≤ length (w .arena)
+  unfolding sharedOk
+  long-of ok =
+      let s = w .engine .shared in
+      let parts : Ok s (w .engine .follower) (length (w .arena)) = apart (w .engine) (length (w .arena)) ok in
+      let both : (arenaOk (s .cache) (length (w .arena)) && headerOk s) ≡ true = and-right (stateOk (s .cache)) _ (parts .shared) in
+      rw (fit .cache .count) at (leb-true (s .cache .pages .count * 8192) (length (w .arena)) (and-left _ (headerOk s) both))
+
+  never-again : isAgain (stepShown (w .engine) (w .arena)) ≡ false
+  unfolding stepShown
+  never-again = by (engineOk (w .engine) (length (w .arena))) refl
+    where
+      by : (t : Bool) → engineOk (w .engine) (length (w .arena)) ≡ t → isAgain (stepShown (w .engine) (w .arena)) ≡ false
+      by true ok = step-again P n horizon w (able (long-of ok))
+      by false bad = rw bad
+
+  able-after : (c : Call) → Fair P w c → Able (packAfter P c (toldOf w c)) n horizon (exec c w .world)
+  able-after c fair long = stays-after P n horizon w (able (rw (written-after w c .size) at long)) c fair
+
+-- ---- a call
+
+module _ (at : Lookup) (n : ℕ) (horizon : Float) (answers : Answers n at) where
+  abbrev told : List Event → Past → Past
+  told xs p = resettled at (madeOf n horizon) xs p
+
+  module _ (P : List ℕ) (w : World) (p : Past) (fit : Fit P n horizon w) (able : Able P n horizon w) (t : Tells p P (w .engine)) where
+    abbrev e₁ : Engine
+    e₁ = w .engine
+
+    abbrev s₁ : Shown
+    s₁ = stepShown e₁ (w .arena)
+
+    abbrev n₁ : Engine
+    n₁ = Engines.step e₁ (w .arena) .engine
+
+    abbrev h₁ : Header
+    h₁ = headerOf P
+
+    header-is : e₁ .shared .phase ≡ Phase.Ready → e₁ .shared .header ≡ h₁
+    header-is r = let q = rw r at (fit .header) in sym (q .header)
+
+    beside : Beside e₁ n₁
+    beside = step-beside e₁ (w .arena)
+
+    stepped-clears : Clears (n₁ .follower)
+    stepped-clears = step-clears e₁ (w .arena) (t .clears)
+
+    stepped-rested : Rested P n₁
+    stepped-rested = step-rests P e₁ (w .arena) header-is (t .clears) (t .rested)
+
+    -- the phase is the one before
+    open-before : isFailed (n₁ .shared .phase) ≡ false → isFailed (e₁ .shared .phase) ≡ false
+    open-before z = sym (ap isFailed (beside .phase)) ∙ z
+
+    -- on the map the matcher is the one told
+    on-follows : isFailed (e₁ .shared .phase) ≡ false → isOff h₁ (e₁ .follower .sight .fix) ≡ false → Follows (p .held) (e₁ .follower)
+    on-follows u o = record { sight = t .sight; matcher = t .matcher u ∙ ap (λ (k : Bool). cleared k (e₁ .follower .matcher)) o }
+
+    on-map : isFailed (e₁ .shared .phase) ≡ false → isOff h₁ (e₁ .follower .sight .fix) ≡ false → isEmptied s₁ ≡ false → Tells (told (eventsOf s₁) p) P n₁
+    on-map u o z =
+        let f = on-follows u o in
+        let made = madeOf n horizon in
+        let d : Direct = record { held = p .held; waiting = [] } in
+        let r : Recalls at n horizon answers (retold at made (eventsOf s₁) (record { pack = P; held = p .held })) P (record { engine = n₁; arena = w .arena })
+        = turn-recalls at n horizon answers P w (p .held) fit f s₁ n₁ (w .arena)
+        (step-turn at n horizon P w d (linked at n horizon answers P w (p .held) fit f) fit answers) in
+        let past : p ≡ record { pack = P; held = p .held } = λ i. record { pack = t .pack i; held = p .held } in
+        let same : told (eventsOf s₁) p ≡ retold at made (eventsOf s₁) (record { pack = P; held = p .held })
+        = told-same at made s₁ z (never-again P n horizon w fit able) p ∙ ap (retold at made (eventsOf s₁)) past in
+        subst (λ (x : Past). Tells x P n₁) (sym same) (record {
+          pack = r .pack;
+          sight = r .held .sight;
+          matcher = λ q. r .held .matcher ∙ sym (ap (λ (k : Bool). cleared k (n₁ .follower .matcher)) (ap (λ (x : Sight). isOff h₁ (x .fix)) (beside .sight) ∙ o));
+          clears = stepped-clears;
+          rested = stepped-rested;
+        })
+
+    -- off the map a match that is told no more goes
+    off-map : isFailed (e₁ .shared .phase) ≡ false → isOff h₁ (e₁ .follower .sight .fix) ≡ true
+        → n₁ .follower .matcher ≡ cond (isMatched (e₁ .follower .ahead .matched)) Matching.reset (e₁ .follower .matcher) → Tells p P n₁
+    off-map u o q =
+        let same : n₁ .follower .matcher ≡ cleared true (e₁ .follower .matcher) = q ∙ not-due (e₁ .follower) (t .clears) (t .rested u o .0) in
+        record {
+          pack = t .pack;
+          sight = t .sight ∙ sym (beside .sight);
+          matcher = λ z. t .matcher u ∙ ap (λ (k : Bool). cleared k (e₁ .follower .matcher)) o ∙ sym (cleared-twice (e₁ .follower .matcher))
+              ∙ sym (ap (cleared true) same)
+              ∙ sym (ap (λ (k : Bool). cleared k (n₁ .follower .matcher)) (ap (λ (x : Sight). isOff h₁ (x .fix)) (beside .sight) ∙ o));
+          clears = stepped-clears;
+          rested = stepped-rested;
+        }
+
+    step-tells : Tells (told (eventsOf s₁) p) P n₁
+    unfolding resettled
+    step-tells = by (step-sorts P e₁ (w .arena) header-is)
+      where
+        by : Sorts (isOff h₁ (e₁ .follower .sight .fix)) e₁ n₁ s₁ → Tells (told (eventsOf s₁) p) P n₁
+        by (quiet q m) =
+            subst (λ (x : Shown). Tells (told (eventsOf x) p) P n₁) (sym q) (tells-as p P e₁ n₁ t open-before (beside .sight) m stepped-clears stepped-rested)
+        by (onMap u o z) = on-map u o z
+        by (leaves u o k m r q x) =
+            subst (λ (y : Shown). Tells (told (eventsOf y) p) P n₁) (sym q)
+            (subst (λ (y : Past). Tells y P n₁) (sym (told-off at (madeOf n horizon) k m r p)) (off-map u o x))
+
+    lent-tells : (Q : List ℕ) {r : After} → Lends e₁ (w .arena) Q r → Tells (told (eventsOf s₁) p) P (r .engine)
+    lent-tells Q (Ways.plain k) = step-tells
+    lent-tells Q (Ways.asks offset len failure bs a fair) = deliver-tells _ P n₁ (w .arena) failure bs step-tells
+
+    -- ---- fixes, losses and resets
+
+    -- nothing is due where a fix is given
+    fix-tells : (f : Fix) → isSettled e₁ ≡ true
+        → Tells (record { pack = p .pack; held = refixed (headerOf (p .pack)) (p .held) f }) P (record { shared = e₁ .shared; follower = Followers.fixed (e₁ .follower) f })
+    unfolding Followers.fixed Fixes.seen
+    fix-tells f settled =
+        subst (λ (x : Past). Tells (record { pack = x .pack; held = refixed (headerOf (x .pack)) (x .held) f }) P
+        (record { shared = e₁ .shared; follower = Followers.fixed (e₁ .follower) f })) (sym past)
+        (by (Fixes.isSamePlace (e₁ .follower .sight .fix) f))
+      where
+        past : p ≡ record { pack = P; held = record { sight = e₁ .follower .sight; matcher = p .held .matcher; last = p .held .last } }
+        past = λ i. record { pack = t .pack i; held = record { sight = t .sight i; matcher = p .held .matcher; last = p .held .last } }
+
+        idle : (a b c : Bool) → (a || not (b || c)) ≡ true → a ≡ false → (b ≡ false) × (c ≡ false)
+        idle true b c q z = absurd (true≢false z)
+        idle false true c q z = absurd (true≢false (sym q))
+        idle false false true q z = absurd (true≢false (sym q))
+        idle false false false q z = (refl, refl)
+
+        due : isFailed (e₁ .shared .phase) ≡ false → (e₁ .follower .due .matching ≡ false) × (e₁ .follower .due .road ≡ false)
+        due u = idle (isFailed (e₁ .shared .phase)) (e₁ .follower .due .matching) (e₁ .follower .due .road) settled u
+
+        -- so the matcher is the one told
+        is : isFailed (e₁ .shared .phase) ≡ false → p .held .matcher ≡ e₁ .follower .matcher
+        is u = t .matcher u ∙ cleared-not (isOff h₁ (e₁ .follower .sight .fix)) (e₁ .follower .matcher) (λ o. t .rested u o .1 (due u .0))
+
+        left : Bool → Held
+        left k = cond k (record { sight = e₁ .follower .sight; matcher = p .held .matcher; last = p .held .last })
+            (record { sight = Fixes.seen (e₁ .follower .sight) f; matcher = cleared (isOff h₁ (MaybeFix.Is f)) (p .held .matcher); last = p .held .last })
+
+        next : Bool → Follower
+        next k = cond k (e₁ .follower) (record {
+          sight = Fixes.seen (e₁ .follower .sight) f;
+          matcher = e₁ .follower .matcher;
+          due = Followers.withMatching (e₁ .follower .due);
+          ahead = e₁ .follower .ahead;
+          failures = e₁ .follower .failures;
+          «horizon_m» = e₁ .follower .«horizon_m»;
+          steps = e₁ .follower .steps;
+        })
+
+        by : (k : Bool) → Tells (record { pack = P; held = left k }) P (record { shared = e₁ .shared; follower = next k })
+        by true = record { pack = refl; sight = refl; matcher = t .matcher; clears = t .clears; rested = t .rested }
+        by false = record {
+          pack = refl;
+          sight = refl;
+          matcher = λ u. ap (cleared (isOff h₁ (MaybeFix.Is f))) (is u);
+          clears = t .clears;
+          rested = λ u o. (due u .1, λ m. absurd (true≢false m));
+        }
+
+    lost-tells : Tells (record { pack = p .pack; held = lostHeld (p .held) }) P (record { shared = e₁ .shared; follower = Followers.lost (e₁ .follower) })
+    unfolding Followers.lost
+    lost-tells = record {
+      pack = t .pack;
+      sight = ap Fixes.lost (t .sight);
+      matcher = λ u. sym (reset-cleared (isOff h₁ (Fixes.lost (e₁ .follower .sight) .fix)));
+      clears = reset-clears (Followers.lost (e₁ .follower)) refl;
+      rested = λ u o. (refl, λ m. refl);
+    }
+
+    reset-tells : (Q : List ℕ) → Tells (record { pack = Q; held = forgotten (p .held) }) Q (States.forgotten e₁ .engine)
+    unfolding States.forgotten Followers.reset
+    reset-tells Q = record {
+      pack = refl;
+      sight = t .sight;
+      matcher = λ u. sym (reset-cleared (isOff (headerOf Q) (e₁ .follower .sight .fix)));
+      clears = reset-clears (Followers.reset (e₁ .follower)) refl;
+      rested = λ u o. (refl, λ m. refl);
+    }
+
+    fix-call : (f : Fix) → isSettled e₁ ≡ true → Tells (told (events w (Calls.fix f)) p) P (exec (Calls.fix f) w .world .engine)
+    unfolding events resettled exec Engines.fix
+    fix-call f settled = by (engineOk e₁ (length (w .arena))) (isPoint (f .lat) (f .lon))
+      where
+        left : Bool → Bool → Changed
+        left a b = cond a (cond b (followed e₁ (Followers.fixed (e₁ .follower) f)) (unchanged e₁ 8)) (unchanged e₁ 12)
+
+        by : (a b : Bool) → Tells (told (taken (ofTaken (left a b .answer)) (Story.fixed f)) p) P (left a b .engine)
+        by true true = fix-tells f settled
+        by true false = t
+        by false b = t
+
+    lost-call : Tells (told (events w Calls.lost) p) P (exec Calls.lost w .world .engine)
+    unfolding events resettled exec Engines.lost
+    lost-call = by (engineOk e₁ (length (w .arena)))
+      where
+        left : Bool → Changed
+        left a = cond a (followed e₁ (Followers.lost (e₁ .follower))) (unchanged e₁ 12)
+
+        by : (a : Bool) → Tells (told (taken (ofTaken (left a .answer)) Story.lost) p) P (left a .engine)
+        by true = lost-tells
+        by false = t
+
+    reset-call : (Q : List ℕ) → Tells (told (events w (Calls.reset Q)) p) (packAfter P (Calls.reset Q) (toldOf w (Calls.reset Q))) (exec (Calls.reset Q) w .world .engine)
+    unfolding events resettled exec Engines.reset States.forgotten
+    reset-call Q = by (engineOk e₁ (length (w .arena)))
+      where
+        left : Bool → Changed
+        left a = cond a (States.forgotten e₁) (unchanged e₁ 12)
+
+        by : (a : Bool) → Tells (told (taken (ofTaken (left a .answer)) (Story.reset Q)) p) (cond (not (eqb (ofTaken (left a .answer)) 0)) P Q) (left a .engine)
+        by true = reset-tells Q
+        by false = t
+
+    call-tells : (c : Call) → Settles w c → Tells (told (events w c) p) (packAfter P c (toldOf w c)) (exec c w .world .engine)
+    unfolding events resettled exec shown
+    call-tells (Calls.fix f) settled = fix-call f (settled f refl)
+    call-tells Calls.lost settled = lost-call
+    call-tells (Calls.reset Q) settled = reset-call Q
+    call-tells Calls.step settled = step-tells
+    call-tells (Calls.deliver failure bs) settled = deliver-tells p P e₁ (w .arena) failure bs t
+    call-tells (Calls.stepFrom Q) settled = lent-tells Q (lends-is e₁ (w .arena) Q)
+    call-tells (Calls.read r) settled = t
+    call-tells (Calls.onCache c) settled = tells-as p P e₁ _ t (λ z. z) refl refl (t .clears) (t .rested)
+    call-tells (Calls.nearby h q) settled = t
+    call-tells (Calls.current m) settled = t
+    call-tells (Calls.update m h q heading) settled = tells-as p P e₁ _ t (λ z. z) refl refl (t .clears) (t .rested)
+    call-tells (Calls.predict h m reach samples behind) settled = tells-as p P e₁ _ t (λ z. z) refl refl (t .clears) (t .rested)
+
+  -- ---- a list
+
+  record Ends (p : Past) (P : List ℕ) (w : World) : Type 0 where
+    tells : Tells p P (w .engine)
+    fit : Fit P n horizon w
+    able : Able P n horizon w
+
+  list-told : (cs : List Call) (P : List ℕ) (w : World) (p : Past) → Ends p P w → AllFair P cs w → Along Settles cs w
+      → Ends (told (story cs w) p) (packOf P cs w) (after cs w)
+  unfolding AllFair Along story after resettled packOf
+  list-told [] P w p e fair settled = e
+  list-told (c ∷ cs) P w p e fair settled =
+      let ends : Ends (told (events w c) p) (packAfter P c (toldOf w c)) (exec c w .world) = record {
+        tells = call-tells P w p (e .fit) (e .able) (e .tells) c (settled .0);
+        fit = fit-after P n horizon w c (e .fit) (fair .0);
+        able = able-after P n horizon w (e .fit) (e .able) c (fair .0);
+      } in
+      subst (λ (x : Past). Ends x (packOf (packAfter P c (toldOf w c)) cs (exec c w .world)) (after cs (exec c w .world)))
+      (sym (resettled-more at (madeOf n horizon) (events w c) (story cs (exec c w .world)) p))
+      (list-told cs (packAfter P c (toldOf w c)) (exec c w .world) (told (events w c) p) ends (fair .1) (settled .1))
+
+  start-ends : (P arena : List ℕ) → n ≤ 96 → Ends (record { pack = P; held = newHeld }) P (start n horizon arena)
+  unfolding Followers.fresh
+  start-ends P arena few = record {
+    tells = record {
+      pack = refl;
+      sight = refl;
+      matcher = λ u. refl;
+      clears = start-clears n horizon arena;
+      rested = λ u o. (refl, λ m. refl);
+    };
+    fit = fit-start P n horizon arena few;
+    able = λ long. record { fit = fit-start P n horizon arena few; ok = start-sound n horizon arena few long; long = long; found = reset-fits P n };
+  }
+
+  -- ---- two lists
+
+  -- what a step shows, worked out from what the engine sees and matches
+  abbrev seenBy : World → Held
+  seenBy w = record { sight = w .engine .follower .sight; matcher = w .engine .follower .matcher; last = Current.Nothing }
+
+  shown-by : (P : List ℕ) (w : World) → Fit P n horizon w
+      → let s = stepShown (w .engine) (w .arena) in
+      stepWorked at (madeOf n horizon) P (toldBy false (isFetching (Engines.step (w .engine) (w .arena) .engine)) s) (seenBy w) .shown ≡ s
+  shown-by P w fit =
+      step-turn at n horizon P w (record { held = seenBy w; waiting = [] })
+      (linked at n horizon answers P w (seenBy w) fit (record { sight = refl; matcher = refl })) fit answers .shown false
+
+  -- neither a match nor a road
+  neither : (P : List ℕ) (w : World) → Fit P n horizon w → isMatch (stepShown (w .engine) (w .arena)) ≡ false → isRoad (stepShown (w .engine) (w .arena)) ≡ false
+      → stepShown (w .engine) (w .arena) ≡ Shows.nothing
+  neither P w fit m r =
+      sym (shown-by P w fit) ∙ ap (λ (x : Worked). x .shown) (idle-worked at n horizon P _ (seenBy w) m r)
+
+  -- a pack that has failed
+  failed-shows : (e : Engine) (arena : List ℕ) → isFailed (e .shared .phase) ≡ true → stepShown e arena ≡ Shows.nothing
+  unfolding stepShown taskOf
+  failed-shows e arena f = by (engineOk e (length arena)) (e .shared .cache .pending)
+    where
+      unready : (y : Phase) → isFailed y ≡ true → taskShown (phaseTask y e) e arena (Engines.step e arena .engine) ≡ Shows.nothing
+      unready Phase.Failed q = refl
+      unready Phase.Ready q = absurd (true≢false (sym q))
+      unready Phase.Unread q = absurd (true≢false (sym q))
+
+      by : (t : Bool) (x : Pending) → cond t (taskShown (openTask x e) e arena (Engines.step e arena .engine)) Shows.nothing ≡ Shows.nothing
+      by false x = refl
+      by true Pending.Nothing = unready (e .shared .phase) f
+      by true Pending.Header = refl
+      by true (Pending.Entry key) = refl
+      by true Pending.Chunk = refl
+
+  -- off the map a road is emptied, or nothing is finished
+  abbrev offShown : MaybeFix → Shown
+  offShown MaybeFix.Nothing = Shows.nothing
+  offShown (MaybeFix.Is f) = Shows.emptied Matching.reset (noRoad f End.MapEdge)
+
+  off-worked : (P : List ℕ) (x : Told) (d : Held) → isOff (headerOf P) (d .sight .fix) ≡ true → x .match ≡ false
+      → stepWorked at (madeOf n horizon) P x d .shown ≡ cond (x .road) (offShown (d .sight .fix)) Shows.nothing
+  unfolding stepWorked
+  off-worked P x d o m = by (d .sight .fix) o
+    where
+      outside : (f : Fix) (k : Keyed) → isOutside k ≡ true → keyWorked at (madeOf n horizon) P k d f .shown ≡ Shows.emptied Matching.reset (noRoad f End.MapEdge)
+      outside f (Keyed.In key) q = absurd (true≢false (sym q))
+      outside f Keyed.Outside q = refl
+      outside f (Keyed.Refused number) q = refl
+
+      road : (f : Fix) (t : Bool) → isOutside (keyOf (headerOf P) (f .lat) (f .lon)) ≡ true
+          → cond t (keyWorked at (madeOf n horizon) P (keyOf (headerOf P) (f .lat) (f .lon)) d f) (record { held = d; shown = Shows.nothing }) .shown
+          ≡ cond t (Shows.emptied Matching.reset (noRoad f End.MapEdge)) Shows.nothing
+      road f true q = outside f (keyOf (headerOf P) (f .lat) (f .lon)) q
+      road f false q = refl
+
+      by : (y : MaybeFix) → isOff (headerOf P) y ≡ true → stepWorkedBy at (madeOf n horizon) P y x d .shown ≡ cond (x .road) (offShown y) Shows.nothing
+      by MaybeFix.Nothing q = absurd (true≢false (sym q))
+      by (MaybeFix.Is f) q = rw m (road f (x .road) q)
+
+  off-shows : (P : List ℕ) (w : World) (p : Past) → Ends p P w → isOff (headerOf P) (w .engine .follower .sight .fix) ≡ true
+      → let s = stepShown (w .engine) (w .arena) in s ≡ cond (isRoad s) (offShown (w .engine .follower .sight .fix)) Shows.nothing
+  off-shows P w p e o =
+      sym (shown-by P w (e .fit)) ∙ off-worked P _ (seenBy w) o (by (step-sorts P (w .engine) (w .arena) (header-is P w p (e .fit) (e .able) (e .tells))))
+    where
+      either : (t : Bool) (m : Matcher) (r : Road) → isMatch (cond t (Shows.emptied m r) Shows.nothing) ≡ false
+      either true m r = refl
+      either false m r = refl
+
+      by : {m : Engine} {s : Shown} → Sorts (isOff (headerOf P) (w .engine .follower .sight .fix)) (w .engine) m s → isMatch s ≡ false
+      by (quiet q m) = ap isMatch q
+      by (onMap u z q) = absurd (true≢false (sym o ∙ z))
+      by (leaves u z t m r q x) = ap isMatch q ∙ either t m r
+
+  -- two worlds of one pack, of which one past tells
+  ends-finish : (p : Past) (P : List ℕ) (v w : World) → Ends p P v → Ends p P w → SameFinish (stepShown (v .engine) (v .arena)) (stepShown (w .engine) (w .arena))
+  ends-finish p P v w a b = by (isFailed (v .engine .shared .phase)) (isFailed (w .engine .shared .phase)) (isOff (headerOf P) (v .engine .follower .sight .fix)) refl refl refl
+    where
+      sights : w .engine .follower .sight ≡ v .engine .follower .sight
+      sights = sym (b .tells .sight) ∙ a .tells .sight
+
+      by : (f g o : Bool) → isFailed (v .engine .shared .phase) ≡ f → isFailed (w .engine .shared .phase) ≡ g
+          → isOff (headerOf P) (v .engine .follower .sight .fix) ≡ o
+          → SameFinish (stepShown (v .engine) (v .arena)) (stepShown (w .engine) (w .arena))
+      by true g o x y z =
+          let none = failed-shows (v .engine) (v .arena) x in
+          record {
+            matches = λ m k. absurd (true≢false (sym m ∙ ap isMatch none));
+            all = λ m r. neither P w (b .fit) (m ∙ ap isMatch none) (r ∙ ap isRoad none) ∙ sym none;
+          }
+      by false true o x y z =
+          let none = failed-shows (w .engine) (w .arena) y in
+          record {
+            matches = λ m k. absurd (true≢false (sym k ∙ ap isMatch none));
+            all = λ m r. none ∙ sym (neither P v (a .fit) (sym m ∙ ap isMatch none) (sym r ∙ ap isRoad none));
+          }
+      by false false false x y z =
+          finish-same at n horizon answers P (p .held) v w (a .fit) (b .fit) (on-follows P v p (a .fit) (a .able) (a .tells) x z)
+          (on-follows P w p (b .fit) (b .able) (b .tells) y (ap (λ (k : Sight). isOff (headerOf P) (k .fix)) sights ∙ z))
+      by false false true x y z =
+          let there = ap (λ (k : Sight). isOff (headerOf P) (k .fix)) sights ∙ z in
+          road-alone (offShown (v .engine .follower .sight .fix)) _ _ (off-shows P v p a z)
+          (off-shows P w p b there
+          ∙ ap (λ (k : Sight). cond (isRoad (stepShown (w .engine) (w .arena))) (offShown (k .fix)) Shows.nothing) sights)
+
+  ends-calls : (p : Past) (P Q : List ℕ) (v w : World) → Ends p P v → Ends p Q w → (c : Call) → Fair P v c → Fair Q w c → SameFinish (shown v c) (shown w c)
+  ends-calls p P Q v w a b c x y =
+      let same : Q ≡ P = sym (b .tells .pack) ∙ a .tells .pack in
+      let b' : Ends p P w = subst (λ (z : List ℕ). Ends p z w) same b in
+      calls-same at n horizon answers P v w (a .fit) (b' .fit) (ends-finish p P v w a b') c x (subst (λ (z : List ℕ). Fair z w c) same y)
+
+pub all-settled : AllSettled
+all-settled n few horizon P one two cs ds c fair fair' settled settled' same =
+    let answers : Answers n (directly n) = λ Q key s. refl in
+    let made : Made = madeOf n horizon in
+    let past : Past = record { pack = P; held = newHeld } in
+    let v = start n horizon one in
+    let w = start n horizon two in
+    let f = fair-last cs c P v fair in
+    let g = fair-last ds c P w fair' in
+    let a = list-told (directly n) n horizon answers cs P v past (start-ends (directly n) n horizon answers P one few) (f .0) settled in
+    let b = list-told (directly n) n horizon answers ds P w past (start-ends (directly n) n horizon answers P two few) (g .0) settled' in
+    let told-is : resettled (directly n) made (story ds w) past ≡ resettled (directly n) made (story cs v) past
+    = sym (resettled-without (directly n) made (story ds w) past) ∙ ap (λ (x : List Event). resettled (directly n) made x past) (sym same)
+    ∙ resettled-without (directly n) made (story cs v) past in
+    ends-calls (directly n) n horizon answers (resettled (directly n) made (story cs v) past) _ _ (after cs v) (after ds w) a
+    (subst (λ (x : Past). Ends (directly n) n horizon answers x (packOf P ds w) (after ds w)) told-is b) c (f .1) (g .1)
