@@ -330,7 +330,7 @@ module _ (aged : (c d : Cache) → Aged c d → stateOk c ≡ true → stateOk d
 key-same : (k : TileKey) → sameKey k k ≡ true
 key-same k = rw (eq-eqb (k .row) (k .row) refl, eq-eqb (k .col) (k .col) refl)
 
-same-key : (a b : TileKey) → sameKey a b ≡ true → a ≡ b
+pub same-key : (a b : TileKey) → sameKey a b ≡ true → a ≡ b
 same-key a b e =
     let row : a .row ≡ b .row = eqb-true (a .row) (b .row) (and-left (eqb (a .row) (b .row)) _ e) in
     let col : a .col ≡ b .col = eqb-true (a .col) (b .col) (and-right (eqb (a .row) (b .row)) _ e) in
@@ -446,7 +446,7 @@ unread-is Phase.Unread e = refl
 unread-is Phase.Ready e = absurd (true≢false (sym e))
 unread-is Phase.Failed e = absurd (true≢false (sym e))
 
-ready-is : (x : Phase) → isReady x ≡ true → x ≡ Phase.Ready
+pub ready-is : (x : Phase) → isReady x ≡ true → x ≡ Phase.Ready
 ready-is Phase.Ready e = refl
 ready-is Phase.Unread e = absurd (true≢false (sym e))
 ready-is Phase.Failed e = absurd (true≢false (sym e))
@@ -534,7 +534,7 @@ module _ (opens-nothing : (c : Cache) → stateOk c ≡ true → stateOk (withPe
 -- ---- a part of the needed tile came
 
 -- a step that reads
-abbrev isRead : Next → Bool
+abbrev pub isRead : Next → Bool
 isRead Next.Entry = true
 isRead (Next.Chunk l) = true
 isRead (Next.Ready i) = false
@@ -619,7 +619,7 @@ module _ (e : Engine) (n : ℕ) (ok : engineOk e n ≡ true) (d : Cache) (good :
 
 -- which read is open, so that the next step makes it
 module _ (c : Cache) (key : TileKey) (ok : stateOk c ≡ true) where
-  open-fits : (p : Pending) → c .pending ≡ p → pendingFits p c ≡ true
+  pub open-fits : (p : Pending) → c .pending ≡ p → pendingFits p c ≡ true
   unfolding stateOk
   open-fits p is =
       sym (ap (λ (x : Pending). pendingFits x c) is) ∙ clause 3 (runsOk c ∷ ringOk c ∷ loadOk c ∷ pendingFits (c .pending) c ∷ []) ok
