@@ -1,7 +1,7 @@
 -- With no premise: the state's invariant holds along every list of calls, and each call is safe. By the ways that a call goes.
 -- Assumes nothing.
 use Prim.Native.Nat.{ℕ, _+_, _*_, _≤_}
-use mathlib.Core.Path.{_≡_, refl, sym, _∙_}
+use mathlib.Core.Path.{_≡_, refl, sym, ap, _∙_}
 use mathlib.Core.Bool.{Bool, true, false, _&&_, cond}
 use mathlib.Core.List.{List, [], _∷_}
 use native.Mathlib.Nat.{add-zero}
@@ -9,7 +9,8 @@ use native.Mathlib.Omega.{arith}
 use borrow.Author.Tests.{leb-true, eqb-true}
 use lib.Dec.{leb}
 use lib.ListN.{length}
-use Rattle.pack.specs.Grid.{inGrid}
+use Rattle.pack.specs.Grid.{inGrid, read}
+use Rattle.pack.specs.declared.Range.the-variants as Range
 use Rattle.pack.specs.declared.TileKey.{TileKey}
 use Rattle.pack.specs.declared.Header.{Header}
 use Rattle.pack.proofs.Laws.{located}
@@ -31,8 +32,8 @@ use Rattle.cache.specs.declared.Request.the-variants as Request
 use Rattle.cache.specs.declared.Progress.the-variants as Progress
 use Rattle.cache.specs.Loads.{After, over, refused, fetched, readLen, takes, dropped, chunkLen, stepped}
 use Rattle.tile.specs.Parse.{accepts}
-use Rattle.cache_lists.specs.Lists.{World, Call, capacity, loads, pages, get, fetch, load, loadFrom, clear, found, exec, Along}
-use Rattle.cache_lists.specs.Claims.{ofProgress, Settles, Passed, HandedOut, Read, readsOf, reads, bytesOf, TakesOnly, Written, Safe}
+use Rattle.cache_lists.specs.Lists.{World, Call, capacity, loads, pages, get, fetch, load, loadFrom, clear, found, loaded, exec, Along}
+use Rattle.cache_lists.specs.Claims.{ofProgress, Settles, Passed, HandedOut, Read, readsOf, reads, bytesOf, TakesOnly, SameAt, SameFor, LentOnly, Written, Safe}
 use Rattle.cache_lists.proofs.Steps.{Gets, denied, ringed, unknown, handed, get-is, came-loading, came-key, Step, refuses, knows, uses, noPages, fails, lacks, begins, goesOn, readies, spoils, load-is, from-is}
 use Rattle.cache_lists.proofs.Inv.{Inv, inv-ok, inv-apart, inv-cleared, inv-touched, inv-forgot, inv-dropped, dropped-load, inv-began, inv-further, inv-readied}
 use Rattle.cache_lists.proofs.Settled.{Settled, ring-settled, touched-settled, forgot-settled, readied-settled}
@@ -160,6 +161,31 @@ takes-call w (load h key failure bs) = λ z e. takes-only (w .cache) (w .arena) 
 takes-call w (loadFrom h key pack) = tt
 takes-call w clear = tt
 
+-- what a lent pack has beside the read is not seen
+module _ (c : Cache) (arena : List ℕ) (h : Header) (key : TileKey) (Q R : List ℕ) where
+  read-only : (offset len : ℕ) → SameAt offset len Q R
+      → Cached.loadBy (read R offset len) c arena h key len R ≡ Cached.loadBy (read Q offset len) c arena h key len Q
+  unfolding read
+  read-only offset len s = rw (s .fits) (by (leb (offset + len) (length Q)))
+    where
+      by : (t : Bool) → Cached.loadBy (cond t (Range.At offset) (Range.Refused 2)) c arena h key len R
+          ≡ Cached.loadBy (cond t (Range.At offset) (Range.Refused 2)) c arena h key len Q
+      by true = ap (λ (bs : List ℕ). Cached.load c arena h key 0 bs) (s .bytes)
+      by false = refl
+
+  load-only : SameFor (Cached.fetch c arena h key) Q R → Cached.loadFrom c arena h key R ≡ Cached.loadFrom c arena h key Q
+  unfolding Cached.loadFrom
+  load-only = by (Cached.fetch c arena h key)
+    where
+      by : (x : Request) → SameFor x Q R → Cached.requestLoad x c arena h key R ≡ Cached.requestLoad x c arena h key Q
+      by (Request.Read offset len) s = read-only offset len s
+      by Request.Settled s = refl
+      by (Request.Refused number) s = refl
+
+pub lent-only : (w : World) (c : Call) → LentOnly w c
+unfolding exec
+lent-only w c h key Q R q s = ap loaded (load-only (w .cache) (w .arena) h key Q R s) ∙ ap (λ (x : Call). exec x w) (sym q)
+
 -- only a chunk is written
 pub written-step : {c : Cache} {arena : List ℕ} {h : Header} {key : TileKey} {failure : ℕ} {bs : List ℕ} {r : After}
     → Step c arena h key failure bs r → Written (c .loading) arena (r .arena)
@@ -221,6 +247,7 @@ safe-along (c ∷ cs) w f =
       apart = inv-apart (exec c w .world .cache) g;
       handedOut = handed-call w c;
       oneRead = one-read w c;
+      lentOnly = lent-only w c;
       takesOnly = takes-call w c;
       written = written-call w c;
       kept = ready-kept (w .cache) f (w .arena) (exec c w .world .arena) (written-call w c);

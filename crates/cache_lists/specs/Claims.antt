@@ -6,6 +6,7 @@ use mathlib.Core.Path.{_≡_}
 use mathlib.Core.Bool.{true}
 use mathlib.Core.List.{List, [], _∷_}
 use mathlib.Core.Logic.{_⊎_}
+use lib.Dec.{leb}
 use lib.ListN.{length, take, drop, getD}
 use Rattle.pack.specs.Sector.{parse}
 use Rattle.pack.specs.declared.TileKey.{TileKey}
@@ -134,6 +135,22 @@ TakesOnly w (fetch h key) = Unit
 TakesOnly w (loadFrom h key pack) = Unit
 TakesOnly w clear = Unit
 
+-- two packs have the same for a read of `len` bytes at `offset`: both end before it does, or neither, and the bytes are the same
+pub record SameAt (offset len : ℕ) (Q R : List ℕ) : Type 0 where
+  pub fits : leb (offset + len) (length R) ≡ leb (offset + len) (length Q)
+  pub bytes : take len (drop offset R) ≡ take len (drop offset Q)
+
+abbrev pub SameFor : Request → List ℕ → List ℕ → Type 0
+SameFor (Request.Read offset len) Q R = SameAt offset len Q R
+SameFor Request.Settled Q R = Unit
+SameFor (Request.Refused number) Q R = Unit
+
+-- "fetches twice" by values: of a lent pack `load_from` sees the one read that `fetch` tells, and nothing else
+abbrev pub LentOnly : World → Call → Type 0
+LentOnly w c =
+    (h : Header) (key : TileKey) (Q R : List ℕ) → c ≡ loadFrom h key Q → SameFor (Loaded.fetch (w .cache) (w .arena) h key) Q R →
+    exec (loadFrom h key R) w ≡ exec c w
+
 -- byte b of the arena is one of the load's next chunk
 abbrev pub OfChunk : MaybeLoading → ℕ → Type 0
 OfChunk MaybeLoading.Nothing b = ⊥
@@ -173,6 +190,7 @@ pub record Safe (w : World) (c : Call) : Type 0 where
   pub apart : Apart (exec c w .world .cache)
   pub handedOut : HandedOut w c
   pub oneRead : length (reads w c) ≤ 1
+  pub lentOnly : LentOnly w c
   pub takesOnly : TakesOnly w c
   pub written : Written (w .cache .loading) (w .arena) (exec c w .world .arena)
   pub kept : KeptBytes w c

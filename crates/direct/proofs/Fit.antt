@@ -37,7 +37,6 @@ use Rattle.engine.specs.declared.Fix.{Fix}
 use Rattle.engine.specs.declared.Follower.{Follower}
 use Rattle.engine.specs.State.{refused, unchanged, engineOk, forgotten}
 use Rattle.engine.specs.Deliver.{After, withPending, sectorOf, arrived, loadFailed, loaded}
-use Rattle.engine.specs.Steps.{steppedBy, stepped}
 use Rattle.engine.specs.Calls as Engines
 use Rattle.engine.specs.declared.Changed.{Changed}
 use Rattle.engine.specs.declared.Engine.{Engine}
@@ -46,7 +45,7 @@ use Rattle.engine.specs.declared.Phase.the-variants as Phase
 use Rattle.engine.specs.declared.Status.{Status}
 use Rattle.engine.specs.declared.Status.the-variants as Status
 use Rattle.engine.specs.declared.Stepped.{Stepped}
-use Rattle.engine.proofs.FetchLaws.{isOpen, open-repeats, Opening, opening-is-pending}
+use Rattle.engine_states.proofs.RefusedSame.{step-open}
 use Rattle.direct.specs.Lists.{withCache, World, Call, fix, lost, reset, step, deliver, stepFrom, read, onCache, nearby, current, update, predict, cacheOf, ofTaken, ofStatus, exec, start}
 use Rattle.direct.specs.Direct.{headerOf, packAfter}
 use Rattle.direct.specs.Claims.{toldOf, openRead, FairBytes, FairLent, Fair}
@@ -98,26 +97,6 @@ pub record Fit (P : List ℕ) (n : ℕ) (horizon : Float) (w : World) : Type 0 w
   pub cache : KeptOver P n (w .engine .shared .cache) (w .arena)
   pub header : HeaderFits P (w .engine .shared .phase) (w .engine .shared .header)
   pub reach : w .engine .follower .«horizon_m» ≡ min horizon (whole 10000)
-
--- the fetch that a step answers is open after it
-step-open : (e : Engine) (arena : List ℕ) {offset len : ℕ} → Engines.step e arena .answer ≡ Status.Fetch offset len
-    → openRead (Engines.step e arena .engine) ≡ Status.Fetch offset len
-unfolding Engines.step stepped
-step-open e arena {offset} {len} = by (engineOk e (length arena)) (e .shared .cache .pending) refl
-  where
-    again : isOpen (e .shared .cache .pending) ≡ true → stepped e arena .answer ≡ Status.Fetch offset len
-        → openRead (stepped e arena .engine) ≡ Status.Fetch offset len
-    again o a = let r = open-repeats e arena o in ap (λ (s : Stepped). openRead (s .engine)) r ∙ (sym (ap (λ (s : Stepped). s .answer) r) ∙ a)
-
-    by : (t : Bool) (p : Pending) → e .shared .cache .pending ≡ p
-        → cond t (steppedBy (e .shared .cache .pending) e arena) (refused e 12) .answer ≡ Status.Fetch offset len
-        → openRead (cond t (steppedBy (e .shared .cache .pending) e arena) (refused e 12) .engine) ≡ Status.Fetch offset len
-    by true Pending.Nothing q a =
-        let o : Opening e (stepped e arena) = opening-is-pending e arena q a in ap openRead (o .engine) ∙ sym (o .asks) ∙ a
-    by true Pending.Header q a = again (rw q) a
-    by true (Pending.Entry key) q a = again (rw q) a
-    by true Pending.Chunk q a = again (rw q) a
-    by false p q a = let z : _≡_ {A = ℕ} 0 1 = cc in absurd (omega arith)
 
 fixed-reach : (f : Follower) (x : Fix) → Followers.fixed f x .«horizon_m» ≡ f .«horizon_m»
 unfolding Followers.fixed

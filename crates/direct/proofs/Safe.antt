@@ -1,12 +1,14 @@
 -- With no premise: the cache's own invariant holds along every list of calls, and each call is safe. By the ways that a call goes. Assumes nothing.
-use Prim.Native.Nat.{ℕ, _≤_}
-use mathlib.Core.Path.{_≡_, refl, sym, _∙_}
+use Prim.Native.Nat.{ℕ, _+_, _≤_}
+use mathlib.Core.Path.{_≡_, refl, sym, ap, _∙_}
 use mathlib.Core.Bool.{Bool, true, false, _&&_, cond, true≢false}
 use mathlib.Core.List.{List, [], _∷_}
 use native.Mathlib.Omega.{arith}
-use lib.Dec.{eqb, ltb}
+use lib.Dec.{eqb, ltb, leb}
 use lib.ListN.{length}
+use Rattle.pack.specs.Grid as Grid
 use Rattle.pack.specs.Grid.{isPoint}
+use Rattle.pack.specs.declared.Range.the-variants as Range
 use Rattle.pack.specs.declared.TileKey.{TileKey}
 use Rattle.cache.specs.Lookups.{touched}
 use Rattle.cache.specs.State.{pendingFits, cleared}
@@ -15,9 +17,10 @@ use Rattle.cache.specs.declared.Pending.{Pending}
 use Rattle.cache.specs.Loads.{forgot}
 use Rattle.cache.specs.declared.Progress.{Progress}
 use Rattle.cache.specs.declared.Progress.the-variants as Progress
-use Rattle.cache_lists.specs.Claims.{Written}
+use Rattle.cache_lists.specs.Claims.{SameAt, Written}
 use Rattle.cache_lists.proofs.Steps.{load-is}
 use Rattle.cache_lists.proofs.Inv.{Inv, inv-ok, inv-apart, inv-cleared, inv-touched, inv-forgot}
+use Rattle.cache_lists.proofs.Safe as CacheSafe
 use Rattle.cache_lists.proofs.Safe.{inv-step, inv-call, handed-call, one-read, takes-call, written-call, written-step}
 use Rattle.cache_lists.proofs.Chunk.{not-written}
 use Rattle.engine.specs.declared.Fix.{Fix}
@@ -31,9 +34,9 @@ use Rattle.engine.specs.declared.Status.{Status}
 use Rattle.engine.specs.declared.Status.the-variants as Status
 use Rattle.engine.specs.declared.Stepped.{Stepped}
 use Rattle.engine_states.proofs.CacheKept.{ok-parts, pending-ok}
-use Rattle.direct.specs.Lists.{World, Call, fix, lost, reset, step, deliver, stepFrom, read, onCache, nearby, current, update, predict, cacheOf, ofStatus, number, exec, Along}
+use Rattle.direct.specs.Lists.{World, Call, fix, lost, reset, step, deliver, stepFrom, read, onCache, nearby, current, update, predict, delivered, cacheOf, ofStatus, number, exec, Along}
 use Rattle.direct.specs.Finished.{Task, none, offMap, match, road, taskOf}
-use Rattle.direct.specs.Claims.{openRead, taskHands, HandedOut, readsOf, lentReads, reads, HasLen, TakesOnly, Safe}
+use Rattle.direct.specs.Claims.{openRead, taskHands, HandedOut, readsOf, lentReads, reads, SameFor, LentOnly, HasLen, TakesOnly, Safe}
 use Rattle.direct.proofs.Ways as Ways
 use Rattle.direct.proofs.Ways.{Delivers, brought, isFetch, Lends, deliver-is, lends-is}
 use Rattle.direct.proofs.Changes.{step-keeps, deliver-keeps, update-keeps, predict-keeps}
@@ -205,6 +208,39 @@ one-after w (current m) = omega arith
 one-after w (update m h p heading) = omega arith
 one-after w (predict h m horizon samples behind) = omega arith
 
+-- ---- what is seen of a lent pack
+
+module _ (arena Q R : List ℕ) where
+  answered-only : (e : Engine) (offset len : ℕ) → SameAt offset len Q R
+      → Engines.answeredFrom e arena offset len R ≡ Engines.answeredFrom e arena offset len Q
+  unfolding Engines.answeredFrom Grid.read
+  answered-only e offset len s = rw (s .fits) (by (leb (offset + len) (length Q)))
+    where
+      by : (t : Bool) → Engines.answeredBy (cond t (Range.At offset) (Range.Refused 2)) e arena len R
+          ≡ Engines.answeredBy (cond t (Range.At offset) (Range.Refused 2)) e arena len Q
+      by true = ap (λ (bs : List ℕ). Engines.deliver e arena 0 bs) (s .bytes)
+      by false = refl
+
+  lent-only : (e : Engine) → SameFor (Engines.step e arena .answer) Q R → Engines.stepFrom e arena R ≡ Engines.stepFrom e arena Q
+  unfolding Engines.stepFrom
+  lent-only e = by (Engines.step e arena .answer)
+    where
+      by : (a : Status) → SameFor a Q R → Engines.stepFromBy a (Engines.step e arena) arena R ≡ Engines.stepFromBy a (Engines.step e arena) arena Q
+      by (Status.Fetch offset len) s = answered-only (Engines.step e arena .engine) offset len s
+      by Status.Idle s = refl
+      by Status.Working s = refl
+      by Status.NoPack s = refl
+      by Status.OffMap s = refl
+      by (Status.Refused n) s = refl
+
+only-after : (w : World) (c : Call) → LentOnly w c
+unfolding exec
+only-after w c = record {
+  step = λ Q R q s. ap delivered (lent-only (w .arena) Q R (w .engine) s) ∙ ap (λ (x : Call). exec x w) (sym q);
+  load = λ x q. CacheSafe.lent-only (cacheOf w) x;
+  delivery = λ failure bs q. ap (reads w) q ∙ none-read (Engines.deliver (w .engine) (w .arena) failure bs .answer) (deliver-none (w .engine) (w .arena) failure bs);
+}
+
 -- ---- what a delivery takes
 
 delivers-len : {e : Engine} {arena : List ℕ} {failure : ℕ} {bs : List ℕ} {r : After} → Delivers e arena failure bs r → failure ≡ 0 → ofStatus (r .answer) ≡ 0
@@ -296,6 +332,7 @@ safe-along (c ∷ cs) w f =
       allLive = g .live;
       handedOut = handed-after w c;
       oneRead = one-after w c;
+      lentOnly = only-after w c;
       takesOnly = takes-after w c;
       written = written-after w c;
     } in

@@ -7,7 +7,6 @@ use mathlib.Core.Path.{_≡_, refl, sym, ap, subst, _∙_}
 use mathlib.Core.Bool.{Bool, true, false, _&&_, _||_, not, cond, true≢false}
 use mathlib.Core.List.{List, [], _∷_, _++_}
 use mathlib.Core.Logic.{_⊎_, inl, inr}
-use native.Mathlib.Omega.{arith}
 use borrow.Author.Tests.{leb-true}
 use lib.Dec.{eqb, leb}
 use lib.Ieee.{Float}
@@ -16,7 +15,6 @@ use Rattle.pack.specs.Grid.{isPoint, keyOf}
 use Rattle.pack.specs.declared.Header.{Header}
 use Rattle.pack.specs.declared.Keyed.{Keyed}
 use Rattle.pack.specs.declared.Keyed.the-variants as Keyed
-use Rattle.pack.specs.declared.TileKey.{TileKey}
 use Rattle.cache.specs.State.{stateOk, arenaOk}
 use Rattle.cache.proofs.Below.{and-left, and-right}
 use Rattle.cache.specs.declared.Pending.{Pending}

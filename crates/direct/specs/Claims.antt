@@ -17,6 +17,7 @@ use Rattle.cache.specs.declared.Pending.the-variants as Pending
 use Rattle.cache.specs.declared.look.Landing.the-variants as Landing
 use Rattle.cache.specs.Direct.{Agree, look}
 use Rattle.cache.specs.Lookups.{landsOn, lenAt}
+use Rattle.cache_lists.specs.Lists as CacheCalls
 use Rattle.cache_lists.specs.Claims as Cached
 use Rattle.cache_lists.specs.Claims.{Parsed, Apart, AllLive, Passed, Written, Read}
 use Rattle.matcher.specs.declared.Heading.{Heading}
@@ -211,6 +212,21 @@ reads w (current m) = []
 reads w (update m h p heading) = []
 reads w (predict h m horizon samples behind) = []
 
+abbrev pub SameFor : Status → List ℕ → List ℕ → Type 0
+SameFor (Status.Fetch offset len) Q R = Cached.SameAt offset len Q R
+SameFor Status.Idle Q R = Unit
+SameFor Status.Working Q R = Unit
+SameFor Status.NoPack Q R = Unit
+SameFor Status.OffMap Q R = Unit
+SameFor (Status.Refused n) Q R = Unit
+
+-- "fetches twice in a step" by values: of a lent pack a call sees the one read that its step asks for, or its `fetch` tells, and nothing else; and a
+-- delivery asks for none
+pub record LentOnly (w : World) (c : Call) : Type 0 where
+  pub step : (Q R : List ℕ) → c ≡ stepFrom Q → SameFor (Engines.step (w .engine) (w .arena) .answer) Q R → exec (stepFrom R) w ≡ exec c w
+  pub load : (x : CacheCalls.Call) → c ≡ onCache x → Cached.LentOnly (cacheOf w) x
+  pub delivery : (failure : ℕ) (bs : List ℕ) → c ≡ deliver failure bs → reads w c ≡ []
+
 abbrev pub HasLen : Status → ℕ → Type 0
 HasLen (Status.Fetch offset len) n = n ≡ len
 HasLen Status.Idle n = ⊥
@@ -235,12 +251,13 @@ TakesOnly w (update m h p heading) = Unit
 TakesOnly w (predict h m horizon samples behind) = Unit
 
 -- of each call: live runs, the unfinished load's included, lie apart and within the pages, and every run is live; what is handed out passes;
--- one read at most; only bytes of the load's chunk are written
+-- one read at most, and nothing else of a lent pack is seen; only bytes of the load's chunk are written
 pub record Safe (w : World) (c : Call) : Type 0 where
   pub apart : Apart (exec c w .world .engine .shared .cache)
   pub allLive : AllLive (exec c w .world .engine .shared .cache)
   pub handedOut : HandedOut w c
   pub oneRead : length (reads w c) ≤ 1
+  pub lentOnly : LentOnly w c
   pub takesOnly : TakesOnly w c
   pub written : Written (w .engine .shared .cache .loading) (w .arena) (exec c w .world .arena)
 

@@ -1,7 +1,7 @@
 -- The open fetch, of the public calls: what FetchLaws of crate engine says of the cores holds with number 12's test before each.
 use Prim.Native.Nat.{ℕ}
-use mathlib.Core.Path.{_≡_, refl, sym, ap, _∙_}
-use mathlib.Core.Bool.{Bool, true, false, cond, true≢false}
+use mathlib.Core.Path.{_≡_}
+use mathlib.Core.Bool.{true}
 use mathlib.Core.List.{List}
 use lib.ListN.{length}
 use Rattle.pack.specs.Grid.{isPoint}
@@ -9,7 +9,6 @@ use Rattle.cache.specs.declared.Pending.the-variants as Pending
 use Rattle.engine.specs.Follow as Followers
 use Rattle.engine.specs.declared.Fix.{Fix}
 use Rattle.engine.specs.Calls as Calls
-use Rattle.engine.specs.Deliver.{delivered}
 use Rattle.engine.specs.State.{engineOk}
 use Rattle.engine.specs.Steps.{stepped}
 use Rattle.engine.specs.declared.Engine.{Engine}

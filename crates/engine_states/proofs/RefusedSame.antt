@@ -41,7 +41,7 @@ use Rattle.cache.specs.declared.victim.Found as PageFound
 use Rattle.cache.specs.declared.victim.Found.the-variants as PageAt
 use Rattle.cache.specs.declared.MaybeKey.{MaybeKey}
 use Rattle.cache.specs.declared.MaybeKey.the-variants as MaybeKey
-use Rattle.cache.specs.Lookups.{passes, lenAt, nextStep}
+use Rattle.cache.specs.Lookups.{nextStep}
 use Rattle.cache.specs.declared.Pending.{Pending}
 use Rattle.cache.specs.declared.Pending.the-variants as Pending
 use Rattle.cache.specs.declared.next.Next.{Next}
