@@ -4,7 +4,7 @@
 -- engine's. Linked: one call beside the direct engine's turn. Started: a road from a start that was found. Sound: states that 12 does not name.
 -- Opened, Always: no call is refused with 12. Stories: two lists. Settled: two lists that settle
 -- before each fix. Claim: the theorems. Published: what stands published, and what a host
--- reads. Whole: what a compared road leaves out.
+-- reads. Whole: what a compared road leaves out. Last: the direct engine's last match.
 pub mod Ways
 pub mod Changes
 pub mod Found
@@ -23,3 +23,4 @@ pub mod Settled
 pub mod Claim
 pub mod Published
 pub mod Whole
+pub mod Last

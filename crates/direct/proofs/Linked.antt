@@ -131,13 +131,13 @@ received-linked d e x g false l f =
 
 -- ---- a step that works at nothing
 
-abbrev isNone : Task → Bool
+abbrev pub isNone : Task → Bool
 isNone none = true
 isNone (offMap f) = false
 isNone (match f) = false
 isNone (road f found) = false
 
-none-shows : (x : Task) (e : Engine) (arena : List ℕ) (m : Engine) → isNone x ≡ true → taskShown x e arena m ≡ nothing
+pub none-shows : (x : Task) (e : Engine) (arena : List ℕ) (m : Engine) → isNone x ≡ true → taskShown x e arena m ≡ nothing
 none-shows none e arena m q = refl
 none-shows (offMap f) e arena m q = absurd (true≢false (sym q))
 none-shows (match f) e arena m q = absurd (true≢false (sym q))
@@ -160,7 +160,7 @@ pub record Busy (e : Engine) : Type 0 where
   pub idle : isFetching e ≡ false
   pub ready : e .shared .phase ≡ Phase.Ready
 
-busy : (e : Engine) → isNone (taskOf e) ≡ false → Busy e
+pub busy : (e : Engine) → isNone (taskOf e) ≡ false → Busy e
 unfolding taskOf
 busy e = by (e .shared .cache .pending) (e .shared .phase) refl refl
   where
