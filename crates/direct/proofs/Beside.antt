@@ -129,13 +129,13 @@ module _ (e : Engine) where
   pub steps-beside : {arena : List ℕ} {x : Task} {s : Stepped} → Steps e arena x s → Beside e (s .engine)
   unfolding arrived offMap
   steps-beside (Ways.repeats o) = beside-same
-  steps-beside Ways.fails = beside-same
+  steps-beside (Ways.fails failed) = beside-same
   steps-beside (Ways.opens p offset len o f r) = record { phase = refl; header = refl; sight = refl; horizon = refl }
   steps-beside (Ways.spoils key i r s p) = beside-same
   steps-beside (Ways.arrives key n r s f) = record { phase = refl; header = refl; sight = refl; horizon = refl }
-  steps-beside (Ways.rests f s d) = ended-beside (e .shared .cache) f Status.Idle (s .sight) (s .horizon)
+  steps-beside (Ways.rests f s d idle) = ended-beside (e .shared .cache) f Status.Idle (s .sight) (s .horizon)
   steps-beside (Ways.leaves f w o) = record { phase = refl; header = refl; sight = refl; horizon = refl }
-  steps-beside {arena} (Ways.matches f key w k) = match-beside (matchOf e arena f .answer) f (matchOf e arena f)
+  steps-beside {arena} (Ways.matches f key w k due) = match-beside (matchOf e arena f .answer) f (matchOf e arena f)
   steps-beside {arena} (Ways.follows f key found w k c) = road-beside (roadAt e arena found .predicted .answer) f found (roadAt e arena found)
 
   pub step-beside : (arena : List ℕ) → Beside e (Engines.step e arena .engine)

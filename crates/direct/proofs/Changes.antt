@@ -164,13 +164,13 @@ module _ (Q : Cache → List ℕ → Type 0)
       steps-keep : {x : Task} {s : Stepped} → Steps e arena x s → Q (s .engine .shared .cache) arena
       unfolding arrived
       steps-keep (Ways.repeats o) = q
-      steps-keep Ways.fails = q
+      steps-keep (Ways.fails failed) = q
       steps-keep (Ways.opens p offset len o f r) = pends (e .shared .cache) arena p f q
       steps-keep (Ways.spoils key i r s p) = q
       steps-keep (Ways.arrives key n r s f) = settled-keeps n key s
-      steps-keep (Ways.rests f s d) = q
+      steps-keep (Ways.rests f s d idle) = q
       steps-keep (Ways.leaves f w o) = q
-      steps-keep (Ways.matches f key w k) = match-ended (counted (e .follower)) f (matchOf e arena f) (matchOf e arena f .answer)
+      steps-keep (Ways.matches f key w k due) = match-ended (counted (e .follower)) f (matchOf e arena f) (matchOf e arena f .answer)
           (updated-keeps Q touches _ (e .shared .cache) arena _ _ _ q)
       steps-keep (Ways.follows f key found w k c) =
           road-ended (counted (e .follower)) f found (roadAt e arena found) (roadAt e arena found .predicted .answer)

@@ -206,13 +206,13 @@ module _ (e : Engine) (arena : List ℕ) where
   steps-leave : {x : Task} {s : Stepped} → Steps e arena x s → taskRemembers x e arena ≡ false → Leaves (taskShown x e arena (s .engine)) (s .engine)
   unfolding arrived
   steps-leave (Ways.repeats o) z = refl
-  steps-leave Ways.fails z = refl
+  steps-leave (Ways.fails failed) z = refl
   steps-leave (Ways.opens p offset len o f r) z = refl
   steps-leave (Ways.spoils key i r s p) z = refl
   steps-leave (Ways.arrives key n r s f) z = refl
-  steps-leave (Ways.rests f s d) z = ap (λ (a : Ahead). a .matched) (s .ahead)
+  steps-leave (Ways.rests f s d idle) z = ap (λ (a : Ahead). a .matched) (s .ahead)
   steps-leave (Ways.leaves f w o) z = off-leaves f
-  steps-leave (Ways.matches f key w k) z = match-leaves f (matchOf e arena f .answer) refl
+  steps-leave (Ways.matches f key w k due) z = match-leaves f (matchOf e arena f .answer) refl
   steps-leave (Ways.follows f key found w k c) z = road-leaves f found (roadAt e arena found .predicted .answer) refl z
 
   step-leaves : taskRemembers (taskOf e) e arena ≡ false → Leaves (stepShown e arena) (Engines.step e arena .engine)

@@ -146,13 +146,13 @@ none-shows (road f found) e arena m q = absurd (true≢false (sym q))
 none-keeps : {e : Engine} {arena : List ℕ} {x : Task} {s : Stepped} → Steps e arena x s → isNone x ≡ true → Same (e .follower) (s .engine .follower)
 unfolding arrived
 none-keeps {e} (Ways.repeats o) q = same-self (e .follower)
-none-keeps {e} Ways.fails q = same-self (e .follower)
+none-keeps {e} (Ways.fails failed) q = same-self (e .follower)
 none-keeps {e} (Ways.opens p offset len o f r) q = same-self (e .follower)
 none-keeps {e} (Ways.spoils key i r s p) q = same-self (e .follower)
 none-keeps (Ways.arrives key n r s f) q = record { sight = refl; matcher = refl; horizon = refl; ahead = refl }
-none-keeps (Ways.rests f s d) q = s
+none-keeps (Ways.rests f s d idle) q = s
 none-keeps (Ways.leaves f w o) q = absurd (true≢false (sym q))
-none-keeps (Ways.matches f key w k) q = absurd (true≢false (sym q))
+none-keeps (Ways.matches f key w k due) q = absurd (true≢false (sym q))
 none-keeps (Ways.follows f key found w k c) q = absurd (true≢false (sym q))
 
 -- one that works at something has no fetch open, in phase Ready
@@ -196,13 +196,13 @@ road-answers (Roads.Refused number) e f p found r = either-answer (eqb number 10
 
 work-answers : {e : Engine} {arena : List ℕ} {x : Task} {s : Stepped} → Steps e arena x s → isNone x ≡ false → isFetch (s .answer) ≡ false
 work-answers (Ways.repeats o) q = absurd (true≢false q)
-work-answers Ways.fails q = absurd (true≢false q)
+work-answers (Ways.fails failed) q = absurd (true≢false q)
 work-answers (Ways.opens p offset len o f r) q = absurd (true≢false q)
 work-answers (Ways.spoils key i r s p) q = absurd (true≢false q)
 work-answers (Ways.arrives key n r s f) q = absurd (true≢false q)
-work-answers (Ways.rests f s d) q = absurd (true≢false q)
+work-answers (Ways.rests f s d idle) q = absurd (true≢false q)
 work-answers (Ways.leaves f w o) q = refl
-work-answers {e} {arena} (Ways.matches f key w k) q = match-answers (matchOf e arena f .answer) e (counted (e .follower)) f (matchOf e arena f)
+work-answers {e} {arena} (Ways.matches f key w k due) q = match-answers (matchOf e arena f .answer) e (counted (e .follower)) f (matchOf e arena f)
 work-answers {e} {arena} (Ways.follows f key found w k c) q =
     road-answers (roadAt e arena found .predicted .answer) e (counted (e .follower)) f found (roadAt e arena found)
 

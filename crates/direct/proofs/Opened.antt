@@ -297,16 +297,16 @@ module _ (P : List ℕ) (n : ℕ) (horizon : Float) (w : World) (s : Stays P n h
   pub steps-number : {x : Task} {t : Stepped} → Steps e₁ (w .arena) x t → ofStatus (t .answer) ≡ 12 → ⊥
   unfolding arrived
   steps-number (Ways.repeats o) z = open-number o z
-  steps-number Ways.fails z = omega arith
+  steps-number (Ways.fails failed) z = omega arith
   steps-number (Ways.opens p offset len o f r) z = omega arith
   steps-number (Ways.spoils key i r q p) z =
       let at : readyAt (c₁ .pages) key ≡ Found.At i = rw q at (next-is c₁ key) in
       let passed = kept-passes P h₁ n key c₁ (w .arena) (given P n (parsed r) (s .fit .cache)) (parsed-rules P n (parsed r)) (s .long) i at in
       true≢false (sym passed ∙ p)
   steps-number (Ways.arrives key k r q f) z = omega arith
-  steps-number (Ways.rests f q d) z = omega arith
+  steps-number (Ways.rests f q d idle) z = omega arith
   steps-number (Ways.leaves f k o) z = omega arith
-  steps-number (Ways.matches f key k o) z = match-number f (matchOf e₁ (w .arena) f .answer) (k .ready) refl z
+  steps-number (Ways.matches f key k o due) z = match-number f (matchOf e₁ (w .arena) f .answer) (k .ready) refl z
   steps-number (Ways.follows f key found k q c) z = road-number f found (roadAt e₁ (w .arena) found .predicted .answer) (k .ready) c refl z
 
   -- neither by 6 nor by 10
@@ -334,13 +334,13 @@ module _ (P : List ℕ) (n : ℕ) (horizon : Float) (w : World) (s : Stays P n h
   pub steps-again : {x : Task} {t : Stepped} → Steps e₁ (w .arena) x t → isAgain (taskShown x e₁ (w .arena) (t .engine)) ≡ false
   unfolding Predict.predictedIn
   steps-again (Ways.repeats o) = refl
-  steps-again Ways.fails = refl
+  steps-again (Ways.fails failed) = refl
   steps-again (Ways.opens p offset len o f r) = refl
   steps-again (Ways.spoils key i r q p) = refl
   steps-again (Ways.arrives key j r q f) = refl
-  steps-again (Ways.rests f q d) = refl
+  steps-again (Ways.rests f q d idle) = refl
   steps-again (Ways.leaves f v o) = either-again (isMatched (e₁ .follower .ahead .matched)) _ _ refl refl
-  steps-again (Ways.matches f key v k) = match-again (matchOf e₁ (w .arena) f .answer) _
+  steps-again (Ways.matches f key v k due) = match-again (matchOf e₁ (w .arena) f .answer) _
   steps-again (Ways.follows f key found v q c) = road-again found (v .ready) c (roadThere (v .ready) found c .answer) _ refl
 
   -- the match that it leaves was found in a tile of the pack
@@ -375,11 +375,11 @@ module _ (P : List ℕ) (n : ℕ) (horizon : Float) (w : World) (s : Stays P n h
   pub steps-found : {x : Task} {t : Stepped} → Steps e₁ (w .arena) x t → CurrentFits P n (t .engine .follower .matcher)
   unfolding arrived offMap
   steps-found (Ways.repeats o) = s .found
-  steps-found Ways.fails = s .found
+  steps-found (Ways.fails failed) = s .found
   steps-found (Ways.opens p offset len o f r) = s .found
   steps-found (Ways.spoils key i r q p) = s .found
   steps-found (Ways.arrives key j r q f) = s .found
-  steps-found (Ways.rests f q d) = fits-as (q .matcher) (s .found)
+  steps-found (Ways.rests f q d idle) = fits-as (q .matcher) (s .found)
   steps-found (Ways.leaves f v o) = either-fits (isMatched (e₁ .follower .ahead .matched)) _ _ (reset-fits P n) (s .found)
-  steps-found (Ways.matches f key v k) = match-found f (matchOf e₁ (w .arena) f .answer) (v .ready)
+  steps-found (Ways.matches f key v k due) = match-found f (matchOf e₁ (w .arena) f .answer) (v .ready)
   steps-found (Ways.follows f key found v q c) = road-found f found (roadAt e₁ (w .arena) found) (roadAt e₁ (w .arena) found .predicted .answer)

@@ -142,13 +142,13 @@ module _ (e : Engine) (arena : List ℕ) where
       → Leaves e (taskShown x e arena (s .engine)) (s .engine .shared .cache .pages .count) (s .engine .follower .ahead)
   unfolding arrived
   steps-leave (Ways.repeats o) = stays refl
-  steps-leave Ways.fails = stays refl
+  steps-leave (Ways.fails failed) = stays refl
   steps-leave (Ways.opens p offset len o f r) = stays refl
   steps-leave (Ways.spoils key i r s p) = stays refl
   steps-leave (Ways.arrives key n r s f) = stays refl
-  steps-leave (Ways.rests f s d) = stays (s .ahead)
+  steps-leave (Ways.rests f s d idle) = stays (s .ahead)
   steps-leave (Ways.leaves f w o) = leaves-off f
-  steps-leave (Ways.matches f key w k) = leaves-match f (matchOf e arena f .answer) refl
+  steps-leave (Ways.matches f key w k due) = leaves-match f (matchOf e arena f .answer) refl
   steps-leave (Ways.follows f key found w k c) = leaves-road f found (roadAt e arena found .predicted .answer) w c
 
   step-leaves : let n = Engines.step e arena .engine in Leaves e (stepShown e arena) (n .shared .cache .pages .count) (n .follower .ahead)
@@ -200,13 +200,13 @@ module _ (e : Engine) (arena : List ℕ) where
   steps-hold : {x : Task} {s : Stepped} → Steps e arena x s → LeavesMatcher e (taskShown x e arena (s .engine)) (s .engine .follower .matcher)
   unfolding arrived
   steps-hold (Ways.repeats o) = holds refl
-  steps-hold Ways.fails = holds refl
+  steps-hold (Ways.fails failed) = holds refl
   steps-hold (Ways.opens p offset len o f r) = holds refl
   steps-hold (Ways.spoils key i r s p) = holds refl
   steps-hold (Ways.arrives key n r s f) = holds refl
-  steps-hold (Ways.rests f s d) = holds (s .matcher)
+  steps-hold (Ways.rests f s d idle) = holds (s .matcher)
   steps-hold (Ways.leaves f w o) = holds-off f
-  steps-hold (Ways.matches f key w k) = holds-match f (matchOf e arena f .answer)
+  steps-hold (Ways.matches f key w k due) = holds-match f (matchOf e arena f .answer)
   steps-hold (Ways.follows f key found w k c) = holds-road f found (roadAt e arena found .predicted .answer)
 
   step-holds : LeavesMatcher e (stepShown e arena) (Engines.step e arena .engine .follower .matcher)

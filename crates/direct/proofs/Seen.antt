@@ -262,11 +262,11 @@ module _ (at : Lookup) (n : ℕ) (horizon : Float) (P : List ℕ) where
     pub steps-agree : {x : Task} {s : Stepped} → Steps e arena x s → Agrees (taskShown x e arena (s .engine)) (s .engine .follower .matcher)
     unfolding arrived Gather.updated Predict.predictedIn
     steps-agree (Ways.repeats o) = nothing-agrees refl
-    steps-agree Ways.fails = nothing-agrees refl
+    steps-agree (Ways.fails failed) = nothing-agrees refl
     steps-agree (Ways.opens p offset len o f r) = nothing-agrees refl
     steps-agree (Ways.spoils key i r s p) = nothing-agrees refl
     steps-agree (Ways.arrives key n r s f) = nothing-agrees refl
-    steps-agree (Ways.rests f s d) = nothing-agrees (sym (s .matcher))
+    steps-agree (Ways.rests f s d idle) = nothing-agrees (sym (s .matcher))
     steps-agree (Ways.leaves f w o) = leaves-agrees f w o
-    steps-agree (Ways.matches f key w k) = matches-by f (matchAt f .answer) w refl
+    steps-agree (Ways.matches f key w k due) = matches-by f (matchAt f .answer) w refl
     steps-agree (Ways.follows f key found w k c) = follows-by f key found (roadOver found .answer) w k c refl

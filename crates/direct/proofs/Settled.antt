@@ -2,11 +2,12 @@
 -- (`Clears`, along every list), and where a fix is given only once nothing is due, no road is due off the map (`Rested`). So the story can be told
 -- again without saying where a match was cleared: it goes with the first fix that is off the map (`resettled`). The engine's matcher is then the one
 -- told, but for a match that the next step off the map will clear (`Tells`); a pack that has failed finishes nothing before the next reset.
-use Prim.Native.Nat.{ℕ, _*_, _≤_}
+use Prim.Native.Nat.{ℕ, _+_, _*_, _≤_}
 use mathlib.Core.Path.{_≡_, refl, sym, ap, subst, _∙_}
 use mathlib.Core.Bool.{Bool, true, false, _&&_, _||_, not, cond, true≢false}
 use mathlib.Core.List.{List, [], _∷_, _++_}
 use mathlib.Core.Logic.{_⊎_, inl, inr}
+use native.Mathlib.Omega.{arith}
 use borrow.Author.Tests.{leb-true}
 use lib.Dec.{eqb, leb}
 use lib.Ieee.{Float}
@@ -17,6 +18,8 @@ use Rattle.pack.specs.declared.Keyed.{Keyed}
 use Rattle.pack.specs.declared.Keyed.the-variants as Keyed
 use Rattle.cache.specs.State.{stateOk, arenaOk}
 use Rattle.cache.proofs.Below.{and-left, and-right}
+use Rattle.cache.specs.declared.MaybeLoading.{MaybeLoading}
+use Rattle.cache.specs.declared.MaybeLoading.the-variants as MaybeLoading
 use Rattle.cache.specs.declared.Pending.{Pending}
 use Rattle.cache.specs.declared.Pending.the-variants as Pending
 use Rattle.matcher.specs.declared.Current.{Current}
@@ -46,13 +49,14 @@ use Rattle.engine.specs.State.{refused, unchanged, followed, isFailed, headerOk
 use Rattle.engine.specs.Work as Work
 use Rattle.engine.specs.Work.{counted, matched, matchedBy, mayAsk, matchEndedBy, published, rematch, roadEndedBy, offMap}
 use Rattle.engine.specs.Deliver.{After, arrived, deliveredBy, delivered, over}
-use Rattle.engine.specs.Steps.{stepped}
+use Rattle.engine.specs.Steps.{chunkRequest, requestOf, stepped}
 use Rattle.engine.specs.Calls as Engines
 use Rattle.engine.specs.declared.Changed.{Changed}
 use Rattle.engine.specs.declared.Engine.{Engine}
 use Rattle.engine.specs.declared.Phase.{Phase}
 use Rattle.engine.specs.declared.Phase.the-variants as Phase
 use Rattle.engine.specs.declared.Sight.{Sight}
+use Rattle.engine.specs.declared.Status.the-variants as Status
 use Rattle.engine.specs.declared.Stepped.{Stepped}
 use Rattle.engine_states.proofs.KeptParts.{Ok, apart}
 use Rattle.direct.specs.Lists as Calls
@@ -63,7 +67,7 @@ use Rattle.direct.specs.Direct.{Made, Told, Lookup, headerOf, directly, 
 use Rattle.direct.specs.Claims.{isFetching, toldOf, Fair, AllFair, madeOf, Answers}
 use Rattle.direct.specs.Story as Story
 use Rattle.direct.specs.Story.{Event, taken, eventsOf, events, story, after, SameFinish}
-use Rattle.direct.specs.Settled.{AllCleared, isSettled, Settles, withoutCleared, AllSettled}
+use Rattle.direct.specs.Settled.{AllCleared, isSettled, Settles, isResting, AllRested, withoutCleared, AllSettled}
 use Rattle.direct.proofs.Ways as Ways
 use Rattle.direct.proofs.Ways.{Same, Rests, OffGrid, Works, Steps, step-is, Lends, lends-is}
 use Rattle.direct.proofs.Safe.{written-after}
@@ -167,13 +171,13 @@ module _ (e : Engine) (arena : List ℕ) (c : Clears (e .follower)) where
   steps-clear : {x : Task} {s : Stepped} → Steps e arena x s → Clears (s .engine .follower)
   unfolding arrived
   steps-clear (Ways.repeats o) = c
-  steps-clear Ways.fails = c
+  steps-clear (Ways.fails failed) = c
   steps-clear (Ways.opens p offset len o f r) = c
   steps-clear (Ways.spoils key i r s p) = c
   steps-clear (Ways.arrives key n r s f) = c
-  steps-clear (Ways.rests f s d) = rests-clear (e .follower) f s d c
+  steps-clear (Ways.rests f s d idle) = rests-clear (e .follower) f s d c
   steps-clear (Ways.leaves f w o) = off-clears f₁ f c
-  steps-clear (Ways.matches f key w k) = match-ended (matchOf e arena f .answer) f (matchOf e arena f)
+  steps-clear (Ways.matches f key w k due) = match-ended (matchOf e arena f .answer) f (matchOf e arena f)
   steps-clear (Ways.follows f key found w k q) = road-ended (roadAt e arena found .predicted .answer) f found (roadAt e arena found) q
 
   step-clears : Clears (Engines.step e arena .engine .follower)
@@ -339,14 +343,14 @@ module _ (P : List ℕ) (e : Engine) (arena : List ℕ) (header : e .shared .pha
   steps-sort : {x : Task} {s : Stepped} → Steps e arena x s → Sorts off e (s .engine) (taskShown x e arena (s .engine))
   unfolding arrived offMap
   steps-sort (Ways.repeats o) = quiet refl refl
-  steps-sort Ways.fails = quiet refl refl
+  steps-sort (Ways.fails failed) = quiet refl refl
   steps-sort (Ways.opens p offset len o f r) = quiet refl refl
   steps-sort (Ways.spoils key i r s p) = quiet refl refl
   steps-sort (Ways.arrives key n r s f) = quiet refl refl
-  steps-sort (Ways.rests f s d) = quiet refl (s .matcher)
+  steps-sort (Ways.rests f s d idle) = quiet refl (s .matcher)
   steps-sort (Ways.leaves f w o) =
       leaves (ap isFailed (w .ready)) (off-is f w ∙ outside-is (keyOf (e .shared .header) (f .lat) (f .lon)) o) (isMatched (e .follower .ahead .matched)) _ _ refl refl
-  steps-sort (Ways.matches f key w k) =
+  steps-sort (Ways.matches f key w k due) =
       onMap (ap isFailed (w .ready)) (off-is f w ∙ ap isOutside k) (match-shows (matchOf e arena f .answer) e _)
   steps-sort (Ways.follows f key found w k q) =
       onMap (ap isFailed (w .ready)) (off-is f w ∙ ap isOutside k) (road-shows (roadAt e arena found .predicted .answer) _)
@@ -369,15 +373,15 @@ module _ (P : List ℕ) (e : Engine) (arena : List ℕ) (header : e .shared .pha
   steps-rest : {x : Task} {s : Stepped} → Steps e arena x s → Clears (e .follower) → Rested P e → Rested P (s .engine)
   unfolding arrived offMap
   steps-rest (Ways.repeats o) c r = r
-  steps-rest Ways.fails c r = r
+  steps-rest (Ways.fails failed) c r = r
   steps-rest (Ways.opens p offset len o f q) c r = r
   steps-rest (Ways.spoils key i q s p) c r = r
   steps-rest (Ways.arrives key n q s f) c r = r
-  steps-rest (Ways.rests f s d) c r = λ u o. rests-rest P e (record { shared = e .shared; follower = f }) s d u r u o
+  steps-rest (Ways.rests f s d idle) c r = λ u o. rests-rest P e (record { shared = e .shared; follower = f }) s d u r u o
   steps-rest (Ways.leaves f w o) c r = λ u z.
       (r u z .0, λ m. ap (λ (x : Matcher). isMatched (x .current)) (not-due (e .follower) c (r u z .0)) ∙ cleared-none (e .follower .matcher))
-  steps-rest (Ways.matches f key w k) c r = λ u z.
-      absurd (true≢false (sym z ∙ stays-on (Ways.matches f key w k) (off-is f w ∙ ap isOutside k)))
+  steps-rest (Ways.matches f key w k due) c r = λ u z.
+      absurd (true≢false (sym z ∙ stays-on (Ways.matches f key w k due) (off-is f w ∙ ap isOutside k)))
   steps-rest (Ways.follows f key found w k q) c r = λ u z.
       absurd (true≢false (sym z ∙ stays-on (Ways.follows f key found w k q) (off-is f w ∙ ap isOutside k)))
 
@@ -419,6 +423,264 @@ failed-delivers e arena failure bs failed = by (engineOk e (length arena)) refl
         = and-right (leb (e .follower .due .reloads) (reloadLimit (e .shared .cache .pages .count))) _ (parts .due) in
         unopened (e .shared .phase) (e .shared .cache .pending) failed refl refl (and-right (needOk (e .shared) (e .follower .due .need)) _ due)
     by false ok = refl
+
+-- ---- a step that rests
+
+-- not both a match and a road are due, unless the pack has failed; without a fix neither is
+record Idles (e : Engine) : Type 0 where
+  both : isFailed (e .shared .phase) ≡ false → (e .follower .due .matching && e .follower .due .road) ≡ false
+  none : e .follower .sight .fix ≡ MaybeFix.Nothing → (e .follower .due .matching || e .follower .due .road) ≡ false
+
+-- with a fix
+idles-at : (e : Engine) (f : Fix) → e .follower .sight .fix ≡ MaybeFix.Is f → (e .follower .due .matching && e .follower .due .road) ≡ false → Idles e
+idles-at e f q b = record { both = λ u. b; none = λ z. let o : _≡_ {A = ℕ} 0 1 = cc in absurd (omega arith) }
+
+settled-due : (a b c : Bool) → (a || not (b || c)) ≡ true → a ≡ false → (b ≡ false) × (c ≡ false)
+settled-due true b c q z = absurd (true≢false z)
+settled-due false true c q z = absurd (true≢false (sym q))
+settled-due false false true q z = absurd (true≢false (sym q))
+settled-due false false false q z = (refl, refl)
+
+neither-due : (a b : Bool) → (a || b) ≡ false → (a ≡ false) × (b ≡ false)
+neither-due true b q = absurd (true≢false q)
+neither-due false b q = (refl, q)
+
+rests-idle : (e n : Engine) → Same (e .follower) (n .follower) → Rests (e .follower) (n .follower)
+    → (isFailed (n .shared .phase) ≡ false → isFailed (e .shared .phase) ≡ false) → Idles e → Idles n
+rests-idle e n s d able i = record {
+  both = λ u. rw (d .matching) (on (d .road) (i .both (able u)));
+  none = λ z. rw (d .matching) (off (d .road) (neither-due (e .follower .due .matching) (e .follower .due .road) (i .none (sym (ap (λ (x : Sight). x .fix) (s .sight)) ∙ z))));
+}
+  where
+    Road₁ : Type 0
+    Road₁ = (n .follower .due .road ≡ e .follower .due .road) ⊎ ((n .follower .due .road ≡ false) × (e .follower .matcher .current ≡ Current.Nothing))
+
+    on : Road₁ → (e .follower .due .matching && e .follower .due .road) ≡ false → (e .follower .due .matching && n .follower .due .road) ≡ false
+    on (inl q) b = rw q b
+    on (inr q) b = rw (q .0) (and-off (e .follower .due .matching))
+
+    off : Road₁ → (e .follower .due .matching ≡ false) × (e .follower .due .road ≡ false) → (e .follower .due .matching || n .follower .due .road) ≡ false
+    off (inl q) b = rw (q, b .0, b .1)
+    off (inr q) b = rw (q .0, b .0)
+
+module _ (e : Engine) (arena : List ℕ) (i : Idles e) where
+  -- at a fix, of what a match or a road leaves
+  abbrev NotBoth : Follower → Type 0
+  NotBoth f = (f .due .matching && f .due .road) ≡ false
+
+  either-idle : (t : Bool) (x y : Follower) → NotBoth x → NotBoth y → NotBoth (cond t x y)
+  either-idle true x y p q = p
+  either-idle false x y p q = q
+
+  match-idle : (x : MatchOutcome.Outcome) (fix : Fix) (u : Updated) → NotBoth (e .follower) → NotBoth (matchEndedBy x e (counted (e .follower)) fix u .engine .follower)
+  unfolding matched
+  match-idle (Match.Found m) fix u b = by (u .matcher .current)
+    where
+      by : (c : Current) → NotBoth (matchedBy c (counted (e .follower)) (u .matcher) fix)
+      by Current.Nothing = refl
+      by (Current.Is g) = refl
+  match-idle Match.Nothing fix u b = by (u .matcher .current)
+    where
+      by : (c : Current) → NotBoth (matchedBy c (counted (e .follower)) (u .matcher) fix)
+      by Current.Nothing = refl
+      by (Current.Is g) = refl
+  match-idle (Match.Need key) fix u b = either-idle (mayAsk (e .follower .due) (u .cache .pages .count)) _ _ b refl
+  match-idle (Match.Refused number) fix u b = b
+
+  road-idle : (x : RoadOutcome.Outcome) (fix : Fix) (found : Matched) (r : Predict.After) → NotBoth (e .follower)
+      → isAgain (roadShown x (roadEndedBy x e (counted (e .follower)) fix found r .engine)) ≡ false
+      → NotBoth (roadEndedBy x e (counted (e .follower)) fix found r .engine .follower)
+  unfolding published
+  road-idle (Roads.Road p) fix found r b a = and-off (e .follower .due .matching)
+  road-idle (Roads.Need key) fix found r b a =
+      either-idle (mayAsk (e .follower .due) (r .predicted .cache .pages .count)) _ _ b (and-off (e .follower .due .matching))
+  road-idle Roads.Rematch fix found r b a = absurd (true≢false a)
+  road-idle (Roads.Refused number) fix found r b a = by (eqb number 10) a
+    where
+      left : Bool → Stepped
+      left t = cond t (Work.ended e (r .predicted .cache) (rematch (counted (e .follower))) Status.Working) (refused e number)
+
+      by : (t : Bool) → isAgain (cond t (Shows.again 10 (left t .engine .follower .matcher)) Shows.nothing) ≡ false → NotBoth (left t .engine .follower)
+      by true z = absurd (true≢false z)
+      by false z = b
+
+  open-works : (f : Fix) → Works e f → NotBoth (e .follower)
+  open-works f w = i .both (ap isFailed (w .ready))
+
+  steps-idle : {x : Task} {s : Stepped} → Steps e arena x s → isAgain (taskShown x e arena (s .engine)) ≡ false → Idles (s .engine)
+  unfolding arrived offMap
+  steps-idle (Ways.repeats o) a = i
+  steps-idle (Ways.fails failed) a = i
+  steps-idle (Ways.opens p offset len o f r) a = record { both = i .both; none = i .none }
+  steps-idle (Ways.spoils key j r s p) a = i
+  steps-idle (Ways.arrives key n r s f) a = record { both = i .both; none = i .none }
+  steps-idle (Ways.rests f s d idle) a = rests-idle e (record { shared = e .shared; follower = f }) s d (λ u. u) i
+  steps-idle (Ways.leaves f w o) a = idles-at _ f (w .fix) refl
+  steps-idle (Ways.matches f key w k due) a =
+      idles-at _ f (ap (λ (x : Sight). x .fix) (steps-beside e (Ways.matches f key w k due) .sight) ∙ w .fix)
+      (match-idle (matchOf e arena f .answer) f (matchOf e arena f) (open-works f w))
+  steps-idle (Ways.follows f key found w k q) a =
+      idles-at _ f (ap (λ (x : Sight). x .fix) (steps-beside e (Ways.follows f key found w k q) .sight) ∙ w .fix)
+      (road-idle (roadAt e arena found .predicted .answer) f found (roadAt e arena found) (open-works f w) a)
+
+  step-idles : isAgain (stepShown e arena) ≡ false → Idles (Engines.step e arena .engine)
+  unfolding stepShown Engines.step
+  step-idles = by (engineOk e (length arena))
+    where
+      left : Bool → Stepped
+      left t = cond t (stepped e arena) (refused e 12)
+
+      by : (t : Bool) → isAgain (cond t (taskShown (taskOf e) e arena (left t .engine)) Shows.nothing) ≡ false → Idles (left t .engine)
+      by true a = steps-idle (step-is e arena) a
+      by false a = i
+
+  -- ---- and its answer
+
+  settled-by : (n : Engine) → n .follower .due .matching ≡ false → n .follower .due .road ≡ false → isSettled n ≡ true
+  settled-by n m r = rw (m, r) (or-true (isFailed (n .shared .phase)))
+    where
+      or-true : (t : Bool) → (t || true) ≡ true
+      or-true true = refl
+      or-true false = refl
+
+  open-works-on : (p : Pending) → isResting (requestOf (e .shared) p) ≡ false
+  open-works-on Pending.Nothing = refl
+  open-works-on Pending.Header = refl
+  open-works-on (Pending.Entry key) = refl
+  open-works-on Pending.Chunk = by (e .shared .cache .loading)
+    where
+      by : (x : MaybeLoading) → isResting (chunkRequest x) ≡ false
+      by MaybeLoading.Nothing = refl
+      by (MaybeLoading.Tile l) = refl
+
+  match-rests : (x : MatchOutcome.Outcome) (fix : Fix) (u : Updated) → e .follower .due .matching ≡ true → NotBoth (e .follower)
+      → let s = matchEndedBy x e (counted (e .follower)) fix u in isResting (s .answer) ≡ true → isSettled (s .engine) ≡ true
+  match-rests (Match.Found m) fix u k b z = absurd (true≢false (sym z))
+  match-rests Match.Nothing fix u k b z = absurd (true≢false (sym z))
+  match-rests (Match.Need key) fix u k b z = by (mayAsk (e .follower .due) (u .cache .pages .count)) z
+    where
+      f₂ : Bool → Follower
+      f₂ t = cond t (Work.withDue (counted (e .follower)) (Work.asking (e .follower .due) key (e .follower .due .reloads + 1)))
+          (Work.withDue (counted (e .follower)) (Work.matchDone (e .follower .due) (e .follower .due .road)))
+
+      by : (t : Bool) → isResting (cond t Status.Working Status.Idle) ≡ true
+          → isSettled (Work.ended e (u .cache) (f₂ t) (cond t Status.Working Status.Idle) .engine) ≡ true
+      by true z = absurd (true≢false (sym z))
+      by false z = settled-by (Work.ended e (u .cache) (f₂ false) Status.Idle .engine) refl (rw k at b)
+  match-rests (Match.Refused number) fix u k b z = absurd (true≢false (sym z))
+
+  road-works : (x : RoadOutcome.Outcome) (fix : Fix) (found : Matched) (r : Predict.After)
+      → isResting (roadEndedBy x e (counted (e .follower)) fix found r .answer) ≡ false
+  road-works (Roads.Road p) fix found r = refl
+  road-works (Roads.Need key) fix found r = refl
+  road-works Roads.Rematch fix found r = refl
+  road-works (Roads.Refused number) fix found r = by (eqb number 10)
+    where
+      by : (t : Bool) → isResting (cond t (Work.ended e (r .predicted .cache) (rematch (counted (e .follower))) Status.Working) (refused e number) .answer) ≡ false
+      by true = refl
+      by false = refl
+
+  module _ (P : List ℕ) (header : e .shared .phase ≡ Phase.Ready → e .shared .header ≡ headerOf P) (r : Rested P e) where
+    steps-settle : {x : Task} {s : Stepped} → Steps e arena x s → isResting (s .answer) ≡ true → isSettled (s .engine) ≡ true
+    unfolding arrived offMap
+    steps-settle (Ways.repeats o) z = absurd (true≢false (sym z ∙ open-works-on (e .shared .cache .pending)))
+    steps-settle (Ways.fails failed) z = rw failed
+    steps-settle (Ways.opens p offset len o f q) z = absurd (true≢false (sym z))
+    steps-settle (Ways.spoils key j q s p) z = absurd (true≢false (sym z))
+    steps-settle (Ways.arrives key n q s f) z = absurd (true≢false (sym z))
+    steps-settle (Ways.rests f s d idle) z = by idle
+      where
+        by : (e .follower .sight .fix ≡ MaybeFix.Nothing) ⊎ ((f .due .matching ≡ false) × (f .due .road ≡ false))
+            → isSettled (record { shared = e .shared; follower = f }) ≡ true
+        by (inl q) =
+            let n : Engine = record { shared = e .shared; follower = f } in
+            let due = neither-due (f .due .matching) (f .due .road)
+            (rests-idle e n s d (λ u. u) i .none (ap (λ (x : Sight). x .fix) (s .sight) ∙ q)) in
+            settled-by n (due .0) (due .1)
+        by (inr q) = settled-by (record { shared = e .shared; follower = f }) (q .0) (q .1)
+    steps-settle (Ways.leaves f w o) z =
+        settled-by (record { shared = e .shared; follower = offMap (counted (e .follower)) f }) refl
+        (r (ap isFailed (w .ready)) (off-is P e arena header f w ∙ outside-is (keyOf (e .shared .header) (f .lat) (f .lon)) o) .0)
+    steps-settle (Ways.matches f key w k due) z = match-rests (matchOf e arena f .answer) f (matchOf e arena f) due (open-works f w) z
+    steps-settle (Ways.follows f key found w k q) z =
+        absurd (true≢false (sym z ∙ road-works (roadAt e arena found .predicted .answer) f found (roadAt e arena found)))
+
+    step-settles : isResting (Engines.step e arena .answer) ≡ true → isSettled (Engines.step e arena .engine) ≡ true
+    unfolding Engines.step
+    step-settles = by (engineOk e (length arena))
+      where
+        left : Bool → Stepped
+        left t = cond t (stepped e arena) (refused e 12)
+
+        by : (t : Bool) → isResting (left t .answer) ≡ true → isSettled (left t .engine) ≡ true
+        by true z = steps-settle (step-is e arena) z
+        by false z = absurd (true≢false (sym z))
+
+-- ---- what any call leaves due
+
+deliver-idles : (e : Engine) (arena : List ℕ) (failure : ℕ) (bs : List ℕ) → Idles e → Idles (Engines.deliver e arena failure bs .engine)
+deliver-idles e arena failure bs i = by (isFailed (e .shared .phase)) refl
+  where
+    by : (f : Bool) → isFailed (e .shared .phase) ≡ f → Idles (Engines.deliver e arena failure bs .engine)
+    by true f = subst Idles (sym (failed-delivers e arena failure bs f)) i
+    by false f =
+        let l = deliver-left e failure bs arena in rests-idle e (Engines.deliver e arena failure bs .engine) (l .follower) (l .due) (λ u. f) i
+
+changed-idles : (t : Bool) (x y : Changed) → Idles (x .engine) → Idles (y .engine) → Idles (cond t x y .engine)
+changed-idles true x y p q = p
+changed-idles false x y p q = q
+
+fix-idles : (e : Engine) (f : Fix) → isSettled e ≡ true → Idles e → Idles (record { shared = e .shared; follower = Followers.fixed (e .follower) f })
+unfolding Followers.fixed Fixes.seen
+fix-idles e f settled i = by (Fixes.isSamePlace (e .follower .sight .fix) f)
+  where
+    next : Follower
+    next = record {
+      sight = Fixes.seen (e .follower .sight) f;
+      matcher = e .follower .matcher;
+      due = Followers.withMatching (e .follower .due);
+      ahead = e .follower .ahead;
+      failures = e .follower .failures;
+      «horizon_m» = e .follower .«horizon_m»;
+      steps = e .follower .steps;
+    }
+
+    by : (k : Bool) → Idles (record { shared = e .shared; follower = cond k (e .follower) next })
+    by true = record { both = i .both; none = i .none }
+    by false = record {
+      both = λ u. settled-due (isFailed (e .shared .phase)) (e .follower .due .matching) (e .follower .due .road) settled u .1;
+      none = λ z. let o : _≡_ {A = ℕ} 0 1 = cc in absurd (omega arith);
+    }
+
+lost-idles : (e : Engine) → Idles (record { shared = e .shared; follower = Followers.lost (e .follower) })
+unfolding Followers.lost
+lost-idles e = record { both = λ u. refl; none = λ z. refl }
+
+reset-idles : (e : Engine) → Idles (States.forgotten e .engine)
+unfolding States.forgotten Followers.reset
+reset-idles e = record { both = λ u. and-off (Followers.hasFix (e .follower .sight .fix)); none = λ z. rw z }
+
+call-idles : (w : World) (c : Call) → Settles w c → isAgain (stepShown (w .engine) (w .arena)) ≡ false → Idles (w .engine) → Idles (exec c w .world .engine)
+unfolding exec Engines.fix Engines.lost Engines.reset
+call-idles w (Calls.fix f) settled a i =
+    changed-idles (engineOk (w .engine) (length (w .arena))) _ _
+    (changed-idles (isPoint (f .lat) (f .lon)) _ _ (fix-idles (w .engine) f (settled f refl) i) i) i
+call-idles w Calls.lost settled a i = changed-idles (engineOk (w .engine) (length (w .arena))) _ _ (lost-idles (w .engine)) i
+call-idles w (Calls.reset Q) settled a i = changed-idles (engineOk (w .engine) (length (w .arena))) _ _ (reset-idles (w .engine)) i
+call-idles w Calls.step settled a i = step-idles (w .engine) (w .arena) i a
+call-idles w (Calls.deliver failure bs) settled a i = deliver-idles (w .engine) (w .arena) failure bs i
+call-idles w (Calls.stepFrom Q) settled a i = by (lends-is (w .engine) (w .arena) Q)
+  where
+    by : {r : After} → Lends (w .engine) (w .arena) Q r → Idles (r .engine)
+    by (Ways.plain t) = step-idles (w .engine) (w .arena) i a
+    by (Ways.asks offset len failure bs q fair) =
+        deliver-idles (Engines.step (w .engine) (w .arena) .engine) (w .arena) failure bs (step-idles (w .engine) (w .arena) i a)
+call-idles w (Calls.read r) settled a i = i
+call-idles w (Calls.onCache c) settled a i = record { both = i .both; none = i .none }
+call-idles w (Calls.nearby h p) settled a i = i
+call-idles w (Calls.current m) settled a i = i
+call-idles w (Calls.update m h p heading) settled a i = record { both = i .both; none = i .none }
+call-idles w (Calls.predict h m reach samples behind) settled a i = record { both = i .both; none = i .none }
 
 -- ---- the story told again, without saying where a match was cleared
 
@@ -633,14 +895,8 @@ module _ (at : Lookup) (n : ℕ) (horizon : Float) (answers : Answers n at) wher
         past : p ≡ record { pack = P; held = record { sight = e₁ .follower .sight; matcher = p .held .matcher; last = p .held .last } }
         past = λ i. record { pack = t .pack i; held = record { sight = t .sight i; matcher = p .held .matcher; last = p .held .last } }
 
-        idle : (a b c : Bool) → (a || not (b || c)) ≡ true → a ≡ false → (b ≡ false) × (c ≡ false)
-        idle true b c q z = absurd (true≢false z)
-        idle false true c q z = absurd (true≢false (sym q))
-        idle false false true q z = absurd (true≢false (sym q))
-        idle false false false q z = (refl, refl)
-
         due : isFailed (e₁ .shared .phase) ≡ false → (e₁ .follower .due .matching ≡ false) × (e₁ .follower .due .road ≡ false)
-        due u = idle (isFailed (e₁ .shared .phase)) (e₁ .follower .due .matching) (e₁ .follower .due .road) settled u
+        due u = settled-due (isFailed (e₁ .shared .phase)) (e₁ .follower .due .matching) (e₁ .follower .due .road) settled u
 
         -- so the matcher is the one told
         is : isFailed (e₁ .shared .phase) ≡ false → p .held .matcher ≡ e₁ .follower .matcher
@@ -744,6 +1000,7 @@ module _ (at : Lookup) (n : ℕ) (horizon : Float) (answers : Answers n at) wher
 
   record Ends (p : Past) (P : List ℕ) (w : World) : Type 0 where
     tells : Tells p P (w .engine)
+    idles : Idles (w .engine)
     fit : Fit P n horizon w
     able : Able P n horizon w
 
@@ -754,6 +1011,7 @@ module _ (at : Lookup) (n : ℕ) (horizon : Float) (answers : Answers n at) wher
   list-told (c ∷ cs) P w p e fair settled =
       let ends : Ends (told (events w c) p) (packAfter P c (toldOf w c)) (exec c w .world) = record {
         tells = call-tells P w p (e .fit) (e .able) (e .tells) c (settled .0);
+        idles = call-idles w c (settled .0) (never-again P n horizon w (e .fit) (e .able)) (e .idles);
         fit = fit-after P n horizon w c (e .fit) (fair .0);
         able = able-after P n horizon w (e .fit) (e .able) c (fair .0);
       } in
@@ -771,6 +1029,7 @@ module _ (at : Lookup) (n : ℕ) (horizon : Float) (answers : Answers n at) wher
       clears = start-clears n horizon arena;
       rested = λ u o. (refl, λ m. refl);
     };
+    idles = record { both = λ u. refl; none = λ z. refl };
     fit = fit-start P n horizon arena few;
     able = λ long. record { fit = fit-start P n horizon arena few; ok = start-sound n horizon arena few long; long = long; found = reset-fits P n };
   }
@@ -903,3 +1162,12 @@ all-settled n few horizon P one two cs ds c fair fair' settled settled' same =
     ∙ resettled-without (directly n) made (story cs v) past in
     ends-calls (directly n) n horizon answers (resettled (directly n) made (story cs v) past) _ _ (after cs v) (after ds w) a
     (subst (λ (x : Past). Ends (directly n) n horizon answers x (packOf P ds w) (after ds w)) told-is b) c (f .1) (g .1)
+
+pub all-rested : AllRested
+all-rested n few horizon arena P cs fair settled =
+    let answers : Answers n (directly n) = λ Q key s. refl in
+    let past : Past = record { pack = P; held = newHeld } in
+    let w = after cs (start n horizon arena) in
+    let e = list-told (directly n) n horizon answers cs P (start n horizon arena) past (start-ends (directly n) n horizon answers P arena few) fair settled in
+    step-settles (w .engine) (w .arena) (e .idles) (packOf P cs (start n horizon arena))
+    (header-is (directly n) n horizon answers _ w _ (e .fit) (e .able) (e .tells)) (e .tells .rested)

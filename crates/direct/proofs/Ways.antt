@@ -95,7 +95,7 @@ pub record Rests (f g : Follower) : Type 0 where
 pub data Steps (e : Engine) (arena : List ℕ) : Task → Stepped → Type 0 where
   -- an open fetch repeated; the pack has failed; a fetch opened
   repeats : isOpen (e .shared .cache .pending) ≡ true → Steps e arena none (record { answer = openRead e; engine = e })
-  fails : Steps e arena none (record { answer = Status.NoPack; engine = e })
+  fails : e .shared .phase ≡ Phase.Failed → Steps e arena none (record { answer = Status.NoPack; engine = e })
   opens : (p : Pending) (offset len : ℕ) → isOpen p ≡ true → pendingFits p (e .shared .cache) ≡ true
       → requestOf (withOpen e p .shared) p ≡ Status.Fetch offset len → Steps e arena none (opened e p offset len)
   -- the tile needed is ready and no longer passes; it is settled without a read
@@ -104,11 +104,13 @@ pub data Steps (e : Engine) (arena : List ℕ) : Task → Stepped → Type 0 whe
   arrives : (key : TileKey) (n : Next) → e .shared .phase ≡ Phase.Ready → nextStep (e .shared .cache) key ≡ n
       → fetched (e .shared .cache) n arena (e .shared .header) key ≡ Request.Settled → Steps e arena none (arrived e (settled (e .shared .cache) n key))
   -- nothing to do
-  rests : (f : Follower) → Same (e .follower) f → Rests (e .follower) f → Steps e arena none (ended e (e .shared .cache) f Status.Idle)
+  rests : (f : Follower) → Same (e .follower) f → Rests (e .follower) f
+      → (e .follower .sight .fix ≡ MaybeFix.Nothing) ⊎ ((f .due .matching ≡ false) × (f .due .road ≡ false))
+      → Steps e arena none (ended e (e .shared .cache) f Status.Idle)
   -- off the map; a match; a road
   leaves : (f : Fix) → Works e f → OffGrid (keyOf (e .shared .header) (f .lat) (f .lon))
       → Steps e arena (offMap f) (ended e (e .shared .cache) (Work.offMap (counted (e .follower)) f) Status.OffMap)
-  matches : (f : Fix) (key : TileKey) → Works e f → keyOf (e .shared .header) (f .lat) (f .lon) ≡ Keyed.In key
+  matches : (f : Fix) (key : TileKey) → Works e f → keyOf (e .shared .header) (f .lat) (f .lon) ≡ Keyed.In key → e .follower .due .matching ≡ true
       → Steps e arena (match f) (matchEnded e (counted (e .follower)) f (matchOf e arena f))
   follows : (f : Fix) (key : TileKey) (found : Matched) → Works e f → keyOf (e .shared .header) (f .lat) (f .lon) ≡ Keyed.In key
       → e .follower .matcher .current ≡ Current.Is found
@@ -138,30 +140,30 @@ module _ (e : Engine) (arena : List ℕ) where
 
   module _ (f : Fix) (w : Works e f) where
     road-is : (key : TileKey) (x : Current) → keyOf (e .shared .header) (f .lat) (f .lon) ≡ Keyed.In key → e .follower .matcher .current ≡ x
-        → Goes (roadTask x f) (roadDueBy x e arena f₁ f)
+        → e .follower .due .matching ≡ false → Goes (roadTask x f) (roadDueBy x e arena f₁ f)
     unfolding roadStep
-    road-is key Current.Nothing k q =
+    road-is key Current.Nothing k q m =
         rests (withDue f₁ (roadOff (f₁ .due))) (record { sight = refl; matcher = refl; horizon = refl; ahead = refl })
-        (record { matching = refl; road = inr (refl, q) })
-    road-is key (Current.Is found) k q = follows f key found w k q
+        (record { matching = refl; road = inr (refl, q) }) (inr (m, refl))
+    road-is key (Current.Is found) k q m = follows f key found w k q
 
-    due-is : (key : TileKey) (s t : Bool) → keyOf (e .shared .header) (f .lat) (f .lon) ≡ Keyed.In key
+    due-is : (key : TileKey) (s t : Bool) → e .follower .due .matching ≡ s → e .follower .due .road ≡ t → keyOf (e .shared .header) (f .lat) (f .lon) ≡ Keyed.In key
         → Goes (cond s (match f) (cond t (roadTask (e .follower .matcher .current) f) none))
         (cond s (matchStep e arena f₁ f) (cond t (roadDueBy (e .follower .matcher .current) e arena f₁ f) (ended e (e .shared .cache) f₁ Status.Idle)))
     unfolding matchStep
-    due-is key true t k = matches f key w k
-    due-is key false true k = road-is key (e .follower .matcher .current) k refl
-    due-is key false false k = rests f₁ counted-same counted-rests
+    due-is key true t m r k = matches f key w k m
+    due-is key false true m r k = road-is key (e .follower .matcher .current) k refl m
+    due-is key false false m r k = rests f₁ counted-same counted-rests (inr (m, r))
 
     grid-is : (x : Keyed) → keyOf (e .shared .header) (f .lat) (f .lon) ≡ x → Goes (gridTask x (e .follower) f) (atFixBy x e arena f₁ f)
-    grid-is (Keyed.In key) k = due-is key (e .follower .due .matching) (e .follower .due .road) k
+    grid-is (Keyed.In key) k = due-is key (e .follower .due .matching) (e .follower .due .road) refl refl k
     grid-is Keyed.Outside k = leaves f w (rw k tt)
     grid-is (Keyed.Refused number) k = leaves f w (rw k tt)
 
   module _ (idle : e .shared .cache .pending ≡ Pending.Nothing) (ready : e .shared .phase ≡ Phase.Ready) where
     work-is : (x : MaybeFix) → e .follower .sight .fix ≡ x → Goes (fixTask x e) (workedBy x e arena f₁)
     unfolding atFix
-    work-is MaybeFix.Nothing q = rests f₁ counted-same counted-rests
+    work-is MaybeFix.Nothing q = rests f₁ counted-same counted-rests (inl q)
     work-is (MaybeFix.Is f) q =
         grid-is f (record { idle = idle; ready = ready; fix = q }) (keyOf (e .shared .header) (f .lat) (f .lon)) refl
 
@@ -190,7 +192,7 @@ module _ (e : Engine) (arena : List ℕ) where
     ready-is MaybeKey.Nothing q = work-is (e .follower .sight .fix) refl
 
   phase-is : (x : Phase) → e .shared .cache .pending ≡ Pending.Nothing → e .shared .phase ≡ x → Goes (phaseTask x e) (startedBy x e arena)
-  phase-is Phase.Failed idle q = fails
+  phase-is Phase.Failed idle q = fails q
   phase-is Phase.Unread idle q = opens Pending.Header 0 512 refl refl refl
   phase-is Phase.Ready idle q = ready-is idle q (e .follower .due .need) refl
 

@@ -11,8 +11,11 @@ use Rattle.matcher.specs.Calls as Matching
 use Rattle.engine.specs.Follow.{isMatched}
 use Rattle.engine.specs.State.{isFailed}
 use Rattle.engine.specs.Work.{offMap}
+use Rattle.engine.specs.Calls as Engines
 use Rattle.engine.specs.declared.Engine.{Engine}
 use Rattle.engine.specs.declared.Fix.{Fix}
+use Rattle.engine.specs.declared.Status.{Status}
+use Rattle.engine.specs.declared.Status.the-variants as Status
 use Rattle.direct.specs.Lists as Calls
 use Rattle.direct.specs.Lists.{World, Call, start, Along}
 use Rattle.direct.specs.Finished.{shown}
@@ -51,6 +54,24 @@ isCleared Story.matched = false
 unfoldable pub withoutCleared : List Event → List Event
 withoutCleared [] = []
 withoutCleared (x ∷ xs) = cond (isCleared x) (withoutCleared xs) (x ∷ withoutCleared xs)
+
+-- there is nothing to do before the next fix
+abbrev pub isResting : Status → Bool
+isResting Status.Idle = true
+isResting Status.OffMap = true
+isResting Status.NoPack = true
+isResting Status.Working = false
+isResting (Status.Fetch offset len) = false
+isResting (Status.Refused number) = false
+
+-- so a host that calls `step` until it rests before it gives a fix keeps to this: after a fair list that kept to it, a step that rests leaves the engine
+-- settled
+abbrev pub AllRested : Type 0
+AllRested =
+    (n : ℕ) → n ≤ 96 → (horizon : Float) (arena P : List ℕ) (cs : List Call) → AllFair P cs (start n horizon arena) →
+    Along Settles cs (start n horizon arena) →
+    let w = after cs (start n horizon arena) in
+    isResting (Engines.step (w .engine) (w .arena) .answer) ≡ true → isSettled (Engines.step (w .engine) (w .arena) .engine) ≡ true
 
 -- as `AllStories`, of lists that settle before each fix
 abbrev pub AllSettled : Type 0

@@ -216,52 +216,52 @@ after n = Story.after (take n calls) begin
 -- ---- what is computed with: to name one of these on an `unfolding` line is to name all that its own line names
 
 -- the check sequence
-unfoldable sums : Unit {0}
+unfoldable pub sums : Unit {0}
 unfolding Fcs.add Fcs.lower Fcs.divide Fcs.remainder Fcs.zeros Fcs.bits Fcs.number Fcs.message Fcs.fcs Fcs.crc32 Fcs.zeroed Fcs.crc32Skipping
 sums = tt
 
 -- floats and angles
-unfoldable floats : Unit {0}
+unfoldable pub floats : Unit {0}
 unfolding Ieee.span Ieee.climb Ieee.size Ieee.odd Ieee.units Ieee.round Ieee.neg Ieee.sum Ieee.add Ieee.sub Ieee.mul Ieee.div Ieee.lt Ieee.eq Ieee.le Ieee.isNan Ieee.ofInt Ieee.toUnsigned Ieee.toSigned Ieee.ofFields Ieee.ofBits Convert.narrow Fold.upTo Root.rootIn Root.wholeRoot Root.nearRoot Root.squareRoot Bearing.series Bearing.arc Bearing.quarter Bearing.degrees Bearing.bearing Cosine.cosNear Cosine.cosine Cosine.lonScaleUm
 floats = tt
 
 -- header, directory and tiles
-unfoldable bytes : Unit {0}
+unfoldable pub bytes : Unit {0}
 unfolding Bytes.u16At Bytes.u32At Bytes.i32At Bytes.u64At Sector.rules Sector.parse Grid.checkedOf Grid.keyOf Grid.cornerOf Grid.entryOf Grid.locateOf Grid.read Layout.placeAt Layout.edgeOf Layout.pointOf Parse.allBelow Parse.nodeOk Parse.edgeFits Parse.entryOk Parse.accepts
 bytes = tt
 
 -- points
-unfoldable points : Unit {0}
+unfoldable pub points : Unit {0}
 unfolding Flat.metresOf Flat.lengthOf Flat.turnOf Flat.projectOf Flat.bearingOf Points.pointOf
 points = tt
 
 -- pages and cache
-unfoldable pages : Unit {0}
+unfoldable pub pages : Unit {0}
 unfolding Runs.span Runs.allBelow Runs.runOk Evict.fill Evict.evictedPage Evict.evicted Victim.since Victim.age Victim.leastOf Victim.bestOf Search.lowest Keys.inRing Keys.isReady Keys.readyAt Lookups.landsOn Lookups.passes Lookups.touched Lookups.got Lookups.nextStep Caches.fresh Caches.tileLoads Caches.stateOk Caches.cacheOk CacheCalls.get Looks.look Looks.looked
 pages = tt
 
 -- loads
-unfoldable loads : Unit {0}
+unfoldable pub loads : Unit {0}
 unfolding Loads.chunkLen Loads.moved Loads.dropped Loads.began Loads.entryStep Loads.put Loads.readied Loads.ended Loads.chunkStep CacheCalls.fetch CacheCalls.load CacheCalls.loadFrom Cached.exec
 loads = tt
 
 -- a match
-unfoldable matching : Unit {0}
+unfoldable pub matching : Unit {0}
 unfolding Scan.pointOf Scan.segmentStep Scan.scanned Scan.alongTo Score.aimed Score.height Score.aimAt Score.candidateAt Keeping.insert Tile.edgeStep Tile.search Near.has Near.push Near.add Near.around Near.nearOf Choose.leastTo Choose.pastNode Settle.runnerTo Settle.confidence Settle.settled Settle.matched Gather.runTo Gather.updateOver Gather.updated
 matching = tt
 
 -- a road
-unfoldable roads : Unit {0}
+unfoldable pub roads : Unit {0}
 unfolding Samples.heightAt Samples.pushFrom Incoming.highest Start.partWay Start.startOk Start.place Ridden.backStep Ridden.backsTo Ridden.backs Ridden.lastSample Ridden.ridden Vertex.nodeAt Vertex.reached Vertex.advanced Vertex.vertices Meets.hasMet Meets.meet Visits.visit Walk.withEnding Walk.moved Walk.reached Walk.throughEdge Walk.along Walk.walkTo Predict.walkFrom Predict.prediction Predict.roadOver Predict.forecastOver Predict.predictedIn
 roads = tt
 
 -- the engine
-unfoldable engine : Unit {0}
+unfoldable pub engine : Unit {0}
 unfolding Fixes.push Fixes.movedFrom Fixes.courseOf Fixes.seen Publish.nothingAhead Publish.withMatch Followers.fresh Followers.fixed Engines.sharedOk Engines.placesOk Engines.engineOk Work.matched Work.matchStep Work.published Work.roadStep Work.atFix Work.worked Deliver.sectorOf Deliver.headerFailed Deliver.headerCame Deliver.arrived Deliver.loadFailed Deliver.partCame Deliver.delivered Steps.needStep Steps.started Steps.stepped Calls.fix Calls.step Calls.deliver Calls.answeredFrom Calls.stepFrom
 engine = tt
 
 -- and the calls of a list
-unfoldable lists : Unit {0}
+unfoldable pub lists : Unit {0}
 unfolding sums floats bytes points pages loads matching roads engine shown stepShown taskOf exec
 lists = tt
 
@@ -320,13 +320,13 @@ pub parsed : Parsed pack header
 unfolding lists
 parsed = record { whole = omega arith; accepted = refl; header = refl }
 
-sector-inside : 0 + 512 ≤ length pack
+pub sector-inside : 0 + 512 ≤ length pack
 sector-inside = omega arith
 
-tile-inside : 528 + 68 ≤ length pack
+pub tile-inside : 528 + 68 ≤ length pack
 tile-inside = omega arith
 
-no-failure : {A : Type 0} → _≡_ {A = ℕ} 1 0 → A
+pub no-failure : {A : Type 0} → _≡_ {A = ℕ} 1 0 → A
 no-failure e = absurd (omega (arith, e))
 
 -- of each call in its order: a read that failed brings nothing, what is delivered is what the pack has there, the pack that is lent is the pack, and

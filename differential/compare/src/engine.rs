@@ -2,6 +2,7 @@
 //! deliveries, each answer with the published road, every height of it, what is due, the open
 //! fetch, the clock and sums of the ages and of the arena.
 pub mod bench;
+pub mod finding;
 pub mod list;
 pub mod oracle;
 pub mod orders;
@@ -188,6 +189,6 @@ pub fn compare(scale: &Scale) -> Vec<Tally> {
     let rounds = if scale.every { 10 } else { 1 };
     let pages = Tally::over("engine, page counts", scale, 98 * rounds, special::page_counts);
     let orders = orders::compare(scale);
-    let (refusals, paths) = (refusals::compare(), paths());
-    vec![trips, special, pages, orders, refusals, paths, unaltered::compare(scale)]
+    let (finding, refusals, paths) = (finding::compare(), refusals::compare(), paths());
+    vec![trips, special, pages, orders, finding, refusals, paths, unaltered::compare(scale)]
 }

@@ -1,0 +1,2 @@
+-- Two computed lists with one story.
+pub mod Lists
