@@ -1,7 +1,7 @@
 -- The corollary is not empty: two lists of calls, computed from the definitions, with one story (`story-one`, `story-two`), in which the premises hold
 -- (`fair-one`, `fair-two`). Both have a reset, a match and a road, a fix off the map that clears the match, and a fix for which no match is found. In
 -- the second reads of header and chunk are missed, a fetch is withdrawn, a direct `update` is made, and the tile is cleared away and loaded again. The
--- next step of each finishes a match (`ends-one`, `ends-two`), and by `all-stories` these are equal (`same-match`). A direct `predict` and the empty
+-- next step of each finishes a match, which is none (`ends-one`, `ends-two`, `none-found`), and by `all-stories` these are equal (`same-match`). A direct `predict` and the empty
 -- Memory answer, which takes nineteen loads, are left out as too long to compute.
 use mathlib.Core.Path.{_≡_, refl, sym, _∙_}
 use mathlib.Core.Bool.{true}
@@ -16,6 +16,8 @@ use Rattle.cache_lists.specs.Lists as Cached
 use Rattle.matcher.specs.declared.Heading.the-variants as Heading
 use Rattle.matcher.specs.Calls as Matching
 use Rattle.matcher.specs.State as Matchers
+use Rattle.matcher.specs.Settle as Settle
+use Rattle.matcher.specs.declared.Current.the-variants as Current
 use Rattle.engine.specs.Publish as Publish
 use Rattle.engine.specs.Follow as Followers
 use Rattle.engine.specs.State as Engines
@@ -58,7 +60,7 @@ abbrev pub told : List Event
 told = Story.reset pack ∷ Story.fixed on ∷ Story.matched ∷ Story.fixed off ∷ Story.cleared ∷ Story.fixed far ∷ []
 
 unfoldable all : Unit {0}
-unfolding lists Caches.cleared CacheCalls.clear Matching.update Matchers.callOk Publish.withoutMatch Followers.reset Engines.forgotten Work.offMap Calls.reset
+unfolding lists Caches.cleared CacheCalls.clear Matching.update Matchers.callOk Settle.missed Publish.withoutMatch Followers.reset Engines.forgotten Work.offMap Calls.reset
 all = tt
 
 pub story-one : story one begin ≡ told
@@ -76,6 +78,11 @@ ends-one = refl
 pub ends-two : isMatch (shown (after two begin) step) ≡ true
 unfolding all Story.after
 ends-two = refl
+
+-- the far fix has no match
+pub none-found : matcherOf (shown (after one begin) step) .current ≡ Current.Nothing
+unfolding all Story.after
+none-found = refl
 
 pub fair-one : AllFair pack (one ++ (step ∷ [])) begin
 unfolding all AllFair
