@@ -1,5 +1,5 @@
 /* The functions of libabi.a, which `rt staticlib abi` writes to target/staticlib.
- * A slice is a pointer and a count of bytes; an empty one may have any pointer that is not null.
+ * A slice is a pointer and a count of its elements; an empty one may have any pointer that is not null.
  * Every function is total: each bit pattern has an answer. */
 #ifndef TERRAIN_H
 #define TERRAIN_H
@@ -94,6 +94,11 @@ uint32_t terrain_project(float p_east, float p_north, float a_east, float a_nort
 /* An edge of a tile and a segment of it, which joins the edge's points of its number and the next, that meets the transect from one point to another, touching
  * included; none where no segment does. Which one is named where several meet it is open: 12, 8 for an end, 9 for the key, 4 for the tile's bytes. */
 uint32_t terrain_crossing(int32_t lat, int32_t lon, int32_t to_lat, int32_t to_lon, const uint32_t header[13], uint16_t row, uint16_t col, const uint8_t *bytes, size_t len, uint32_t out[2]);
+
+/* Page `page`, from 0, of the printed profile of a road: `count` heights in decimetres, one every 20 m. 0, and `out` begins with the page and *len is its length, at most
+ * TERRAIN_PAGE bytes; or 12 for more than 501 heights, 14 for an output that is too short for the page, and nothing is written. */
+#define TERRAIN_PAGE 2091
+uint32_t terrain_profile_page(const int16_t *samples, size_t count, uint32_t page, uint8_t *out, size_t room, size_t *len);
 
 /* ---- Scripts of calls.
  * docs/REPLAY.md has their format. Arena and out must not overlap each other or anything else that is lent. */

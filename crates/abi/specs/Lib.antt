@@ -3,3 +3,4 @@ pub mod Answers
 pub mod Figures
 pub mod Format
 pub mod Transects
+pub mod Page

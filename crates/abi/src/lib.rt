@@ -1,6 +1,7 @@
 // The functions that other languages link, each a thin call of the library's own. include/terrain.h declares them for C.
 mod figures;
 mod format;
+mod page;
 mod replay;
 mod transect;
 

@@ -16,7 +16,7 @@ use lib.IntN.{ℤ, pos, negsuc}
 use lib.Signed.{mag}
 use borrow.Author.Tests.{lt-ltb, le-ltb}
 use Rattle.num.specs.Cast.{signed16}
-use Rattle.profile_text.specs.Text.{digits, decimal, signed, wholeMetres, line, lines, samples}
+use Rattle.profile_text.specs.Text.{digits, decimal, signed, wholeMetres, line, linesBy, samples}
 use Rattle.profile_text.specs.Appended.{Appended}
 use Rattle.profile_text.proofs.Rounding.{whole-metres-mag}
 
@@ -117,11 +117,12 @@ length-line i z l h = simp length-append (omega (arith, length-decimal 4 (20 * i
 
 -- ---- the lines of an input
 
-pub lines-more : (j i : ℕ) (zs : List ℤ) (d : ℤ) → i < length zs → lines j (take (suc i) zs) ≡ lines j (take i zs) ++ line (j + i) (getD zs i d)
-unfolding lines
-lines-more j i [] d h = absurd (omega arith)
-lines-more j zero (z ∷ zs) d h = rw (append-nil, add-zero)
-lines-more j (suc i) (z ∷ zs) d h = let next : j + suc i ≡ j + 1 + i = omega arith in rw (lines-more (j + 1) i zs d (omega arith), next, append-assoc)
+module _ (row : ℕ → ℤ → List ℕ) where
+  pub lines-more : (j i : ℕ) (zs : List ℤ) (d : ℤ) → i < length zs → linesBy row j (take (suc i) zs) ≡ linesBy row j (take i zs) ++ row (j + i) (getD zs i d)
+  unfolding linesBy
+  lines-more j i [] d h = absurd (omega arith)
+  lines-more j zero (z ∷ zs) d h = rw (append-nil, add-zero)
+  lines-more j (suc i) (z ∷ zs) d h = let next : j + suc i ≡ j + 1 + i = omega arith in rw (lines-more (j + 1) i zs d (omega arith), next, append-assoc)
 
 pub length-samples : (bs : List ℕ) → length (samples bs) ≡ length bs / 2
 unfolding samples

@@ -19,14 +19,14 @@ far (pos a) (negsuc b) = a + 10 * suc b
 far (negsuc a) (pos b) = suc a + 10 * b
 far (negsuc a) (negsuc b) = (10 * suc b - suc a) + (suc a - 10 * suc b)
 
-abs-sub : (a b : ℕ) → natAbs (subℕ a b) ≡ (a - b) + (b - a)
+pub abs-sub : (a b : ℕ) → natAbs (subℕ a b) ≡ (a - b) + (b - a)
 abs-sub a b = go (ltb a b) refl
   where
     go : (t : Bool) → ltb a b ≡ t → natAbs (cond t (negsuc (b - suc a)) (pos (a - b))) ≡ (a - b) + (b - a)
     go true e = omega (arith, ltb-true a b e)
     go false e = omega (arith, ltb-false a b e)
 
-pos-less : (a b : ℕ) → natAbs (pos a -ℤ pos b) ≡ (a - b) + (b - a)
+pub pos-less : (a b : ℕ) → natAbs (pos a -ℤ pos b) ≡ (a - b) + (b - a)
 pos-less a zero = omega arith
 pos-less a (suc b) = abs-sub a (suc b)
 

@@ -1,4 +1,5 @@
--- The text of the program `profile`, how its writers go about it, and the line that the program `drive` prints for a fix.
+-- The text of the program `profile`, how its writers go about it, the line that the program `drive` prints for a fix, and the printed page.
 pub mod Text
 pub mod Appended
 pub mod Drive
+pub mod Page

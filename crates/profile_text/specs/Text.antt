@@ -47,9 +47,13 @@ wholeMetres (negsuc n) = negℤ (pos (nearer (suc n)))
 unfoldable pub line : ℕ → ℤ → List ℕ
 line i z = decimal (20 * i) ++ (32 ∷ (signed (wholeMetres z) ++ (10 ∷ [])))
 
-unfoldable pub lines : ℕ → List ℤ → List ℕ
-lines i [] = []
-lines i (z ∷ zs) = line i z ++ lines (i + 1) zs
+-- the lines of samples that are numbered from i on
+unfoldable pub linesBy : (ℕ → ℤ → List ℕ) → ℕ → List ℤ → List ℕ
+linesBy row i [] = []
+linesBy row i (z ∷ zs) = row i z ++ linesBy row (i + 1) zs
+
+abbrev pub lines : ℕ → List ℤ → List ℕ
+lines i zs = linesBy line i zs
 
 -- ---- the input
 

@@ -1,11 +1,13 @@
 // The text that the program `profile` prints: a heading and a line for each sample, metres ahead and rise in whole metres.
-// `drive` has the line that the program `drive` prints for a fix.
+// `drive` has the line that the program `drive` prints for a fix, `page` the printed page.
 pub mod drive;
+pub mod page;
 
 ghost use mathlib.Core.Path.{_≡_};
 ghost use mathlib.Core.List.{[], _∷_, _++_};
 ghost use Prim.Native.Nat.{_+_, _*_, _<_, _≤_};
 ghost use lib.ListN.{length, drop, getD};
+ghost use lib.IntN.{natAbs};
 ghost use Rattle.num.specs.Cast.{signed16};
 ghost use Rattle.profile_text.specs.Text as Text;
 ghost use Rattle.profile_text.specs.Appended.{Appended};
@@ -84,15 +86,25 @@ fn sample(input: &[u8], i: usize) -> i16
     -1 - ((65535 - n) as i16)
 }
 
+// The size of a height, without its sign.
+fn size(z: i16) -> u32
+    ensures { λ r. ⌜ (r ≡ natAbs z) × (r ≤ 32768) ⌝ }
+{
+    if z < 0 {
+        return ((-1 - z) as u32) + 1;
+    }
+    z as u32
+}
+
 fn put_signed(out: &mut [u8; 6026], at: usize, z: i16) -> usize
     requires { ⌜ at + 6 ≤ 6026 ⌝ }
     ensures { λ r. ⌜ Appended (now (out .entry)) at (Text.signed z) (now (out .exit)) r ⌝ }
 {
     if z < 0 {
         let next = put(out, at, 45);
-        return put_number(out, next, ((-1 - z) as u32) + 1);
+        return put_number(out, next, size(z));
     }
-    put_number(out, at, z as u32)
+    put_number(out, at, size(z))
 }
 
 fn put_line(out: &mut [u8; 6026], at: usize, i: usize, dm: i16) -> usize

@@ -24,6 +24,21 @@ unsafe extern "C" {
     /// 0, or 8 with `out` left alone.
     pub safe fn terrain_bearing(east: f32, north: f32, out: &mut f32) -> u32;
     pub safe fn terrain_lon_scale_um(lat: i32) -> u32;
+    fn terrain_profile_page(
+        samples: *const i16,
+        count: usize,
+        page: u32,
+        out: *mut u8,
+        room: usize,
+        len: &mut usize,
+    ) -> u32;
+}
+
+/// 0 and the page's length, or the refusal's number with `len` as it was.
+pub fn profile_page(samples: &[i16], page: u32, out: &mut [u8], len: &mut usize) -> u32 {
+    let (heights, text) = (samples.as_ptr(), out.as_mut_ptr());
+    // SAFETY: pointers and counts are the slices'; only `out` and `len` are written.
+    unsafe { terrain_profile_page(heights, samples.len(), page, text, out.len(), len) }
 }
 
 pub fn crc32(bytes: &[u8]) -> u32 {

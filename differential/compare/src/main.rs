@@ -29,6 +29,7 @@ mod list_format;
 mod matching;
 mod numbers;
 mod packs;
+mod page;
 mod panics;
 mod profile;
 mod random;
@@ -67,6 +68,8 @@ pub struct Scale {
     roads: u64,
     /// What the numbers of trips of engines go by.
     engines: u64,
+    /// Roads that are printed as pages.
+    pages: u64,
 }
 
 const GATE: Scale = Scale {
@@ -80,6 +83,7 @@ const GATE: Scale = Scale {
     matches: 2_000,
     roads: 1_000,
     engines: 400,
+    pages: 2_012,
 };
 const FULL: Scale = Scale {
     threads: 2,
@@ -92,12 +96,13 @@ const FULL: Scale = Scale {
     matches: 20_000,
     roads: 10_000,
     engines: 4_000,
+    pages: 50_300,
 };
 
 /// Every part, on as many threads as there are processors where a part takes one itself: each
 /// thread takes the next part that is left. The tallies come in the parts' order.
 fn compare(scale: &Scale) -> Vec<Tally> {
-    let parts: [fn(&Scale) -> Vec<Tally>; 11] = [
+    let parts: [fn(&Scale) -> Vec<Tally>; 12] = [
         numbers::compare,
         engine::compare,
         matching::compare,
@@ -109,6 +114,7 @@ fn compare(scale: &Scale) -> Vec<Tally> {
         crossing::compare,
         |_| drive::compare(),
         |_| profile::compare(),
+        page::compare,
     ];
     let next = AtomicUsize::new(0);
     let done = Mutex::new(parts.map(|_| Vec::new()));
@@ -164,15 +170,18 @@ fn main() -> ExitCode {
         ["panics"] => panics::print(),
         ["gate", "drive"] => drive::compare(),
         ["gate", "profile"] => profile::compare(),
+        ["gate", "page"] => page::compare(&GATE),
+        ["full", "page"] => page::compare(&FULL),
         ["drive", pack, list] => drive::print(pack, list, "0"),
         ["drive", pack, list, every] => drive::print(pack, list, every),
         ["profile"] => profile::print(None),
         ["profile", file] => profile::print(Some(file)),
+        ["page", ref words @ ..] => page::print(words),
         ["sample", pack, list] => drive::write(pack, list),
         ["sample", pack, list, seed] => drive::write_any(pack, list, seed),
         _ => {
             eprintln!(
-                "usage: run [gate [crossing | cache | matching | road | engine | drive | profile] | full [numbers [NAME] | format | crossing | cache | matching | road | engine] | bench [road | engine] | panics | list FILE | list_format FILE | list_cache FILE | list_matches FILE | list_roads FILE | list_engine FILE | drive PACK DRIVE [K] | profile [FILE] | sample PACK DRIVE [SEED]"
+                "usage: run [gate [crossing | cache | matching | road | engine | drive | profile | page] | full [numbers [NAME] | format | crossing | cache | matching | road | engine | page] | bench [road | engine] | panics | list FILE | list_format FILE | list_cache FILE | list_matches FILE | list_roads FILE | list_engine FILE | drive PACK DRIVE [K] | profile [FILE] | sample PACK DRIVE [SEED]"
             );
             return ExitCode::from(2);
         }

@@ -6,10 +6,10 @@ use std::fs;
 use std::io::Write;
 use std::process::{Command, Stdio};
 
-const ROOT: &str = concat!(env!("CARGO_MANIFEST_DIR"), "/../..");
+pub const ROOT: &str = concat!(env!("CARGO_MANIFEST_DIR"), "/../..");
 
 /// The most samples of an input.
-const SAMPLES: usize = 501;
+pub const SAMPLES: usize = 501;
 
 fn whole_metres(dm: i16) -> i32 {
     (f64::from(dm) / 10.0).round() as i32
@@ -31,7 +31,7 @@ fn text(input: &[u8]) -> String {
     table(&samples)
 }
 
-fn bytes(samples: &[i16]) -> Vec<u8> {
+pub fn bytes(samples: &[i16]) -> Vec<u8> {
     samples.iter().flat_map(|dm| dm.to_le_bytes()).collect()
 }
 
@@ -66,15 +66,17 @@ pub fn print(file: Option<&str>) -> Vec<Tally> {
     Vec::new()
 }
 
-/// What a program of the repository prints for an input.
-fn printed(program: &str, input: &[u8]) -> Vec<u8> {
+/// What a program of the repository prints for an input. One that ends before it has read all of it
+/// is no failure.
+pub fn printed(program: &str, words: &[&str], input: &[u8]) -> Vec<u8> {
     let path = format!("{ROOT}/target/bin/{program}");
     let mut child = Command::new(&path)
+        .args(words)
         .stdin(Stdio::piped())
         .stdout(Stdio::piped())
         .spawn()
         .unwrap_or_else(|why| panic!("{path}: {why} (rt check {program} builds it)"));
-    child.stdin.take().expect("piped").write_all(input).expect("the input is taken");
+    let _ = child.stdin.take().expect("piped").write_all(input);
     child.wait_with_output().expect("the program ends").stdout
 }
 
@@ -86,7 +88,7 @@ fn every_height() -> Tally {
     let heights: Vec<i16> = (i16::MIN..=i16::MAX).collect();
     let mut tally = Tally::new("profile, every height");
     for part in heights.chunks(SAMPLES) {
-        let (port, own) = (printed("profile", &bytes(part)), table(part));
+        let (port, own) = (printed("profile", &[], &bytes(part)), table(part));
         let (port, own) = (lines(&port), lines(own.as_bytes()));
         let as_long = port.len() == own.len() && port[0] == own[0];
         tally.told(0, (!as_long).then(|| format!("{}: heading or lines", part[0])));

@@ -17,7 +17,7 @@ use borrow.Author.Needs.{needs}
 use borrow.Author.Tests.{le-leb, lt-leb, eq-eqb, ne-eqb}
 use Rattle.num.specs.Cast.{signed16}
 use Rattle.profile_text.specs.Appended.{Appended}
-use Rattle.profile_text.specs.Text.{profile, heading, badInput, line, lines, samples}
+use Rattle.profile_text.specs.Text.{profile, heading, badInput, line, lines, linesBy, samples}
 use Rattle.profile_text.proofs.Laws.{append-none, append-more, whole, length-line, lines-more, length-samples, sample-at}
 use Rattle.profile_text.proofs.text.Statement.{statement}
 use Rattle.profile_text.proofs.text.Tie as tie
@@ -50,7 +50,7 @@ module _ (bs : List ℕ) where
       read = toZ-ofZ {w = w16} (record { sfits = ok })
 
       one-more : lines 0 (take (i + 1) (samples bs)) ≡ lines 0 (take i (samples bs)) ++ line i (toZ w16 (ofZ w16 z))
-      one-more = rw (read, is, ← sample-at bs i i<, add-one, lines-more 0 i (samples bs) (pos 0) (omega (arith, length-samples bs)), zero-add)
+      one-more = rw (read, is, ← sample-at bs i i<, add-one, lines-more line 0 i (samples bs) (pos 0) (omega (arith, length-samples bs)), zero-add)
 
       line-fits : i < 501 → length (line i (toZ w16 (ofZ w16 z))) ≤ 12
       line-fits h = rw read (length-line i z h ok)
@@ -82,7 +82,7 @@ put-bytes-requires-3 : tie.Need-put-bytes-requires-3 Inv-loop μ-loop
 put-bytes-requires-3 c κs = search needs
 
 loop-holds : tie.Need-loop-holds Inv-loop μ-loop
-unfolding lines
+unfolding linesBy
 loop-holds c = (omega arith, (omega arith, append-none _ _))
 
 sample-requires : tie.Need-sample-requires Inv-loop μ-loop
