@@ -1,9 +1,9 @@
 -- The customer's corollary: "a finished match or road shows memory only through the page count, and failed reads, dropped loads, evictions and resets
 -- only through which fixes were matched before it and what a reset clears" (demand 3). Of the Rust, and so of the port, that holds but for one thing: a
--- step that finds the fix off the map clears the matcher where a road stands published, and a missed read can keep that road from being published
--- before the fix leaves the map (docs/DEMAND3.md has such a list). So `story`, which is what is left of a list of calls once reads, failures, loads,
--- evictions and direct calls are left out, has the fixes and losses that were taken, the resets, which fixes were matched, and where the match was
--- cleared. Lists with the same story finish the same. Settled.antt says when the last can be left out.
+-- step that finds the fix off the map clears the matcher where a road stands published, and a missed read can put that road off until the fix has left
+-- the map, or that step until the next fix has come (docs/DEMAND3.md has such lists). So `story`, which is what is left of a list of calls once reads,
+-- failures, loads, evictions and direct calls are left out, has the fixes and losses that were taken, the resets, which fixes were matched, and where
+-- the match was cleared. Lists with the same story finish the same. Settled.antt says when the last can be left out.
 use Prim.Native.Nat.{ℕ, _≤_}
 use mathlib.Core.Path.{_≡_}
 use mathlib.Core.Bool.{true, cond}
