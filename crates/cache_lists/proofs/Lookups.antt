@@ -1,8 +1,9 @@
 -- What a lookup tells of the state: a key in the ring stands in some place of it, the ready run that a lookup lands on is below the count,
--- ready and of that key, and what the next step towards a tile says. By the laws of a search. Assumes nothing.
+-- ready and of that key, and starts a run in any state that number 12 lets be (`found-run`); and what the next step towards a tile says. By the
+-- laws of a search. Assumes nothing.
 use Prim.Native.Nat.{ℕ, _<_}
 use mathlib.Core.Path.{_≡_, refl, sym, ap, _∙_}
-use mathlib.Core.Bool.{Bool, true, false, _&&_, cond, true≢false}
+use mathlib.Core.Bool.{Bool, true, false, not, _&&_, cond, true≢false}
 use native.Mathlib.Omega.{arith}
 use borrow.Author.Tests.{eqb-true, eqb-false, eq-eqb}
 use lib.Dec.{eqb}
@@ -12,8 +13,9 @@ use Rattle.cache.specs.declared.MaybeKey.{MaybeKey}
 use Rattle.cache.specs.declared.MaybeKey.the-variants as MaybeKey
 use Rattle.cache.specs.declared.victim.Found.{Found}
 use Rattle.cache.specs.declared.victim.Found.the-variants as Found
-use Rattle.cache.specs.Runs.{slotAt}
+use Rattle.cache.specs.Runs.{slotAt, Kind, bare, run, piece, kindAt, isRun, noKey, Sound}
 use Rattle.cache.proofs.Below.{and-left, and-right}
+use Rattle.cache.proofs.RunLaws.{key-is-run}
 use Rattle.cache.specs.declared.Cache.{Cache}
 use Rattle.cache.specs.declared.Ring.{Ring}
 use Rattle.cache.specs.declared.Loading.{Loading}
@@ -74,6 +76,16 @@ ready-at g key i e =
       ready = and-left (slotAt (g .slots) i .ready) _ (r .1);
       keyIs = holds-key (slotAt (g .slots) i .key) key (and-right (slotAt (g .slots) i .ready) _ (r .1));
     }
+
+is-run : (k : Kind) → false ≡ not (isRun k) → k ≡ run
+is-run run e = refl
+is-run bare e = absurd (true≢false (sym e))
+is-run (piece h) e = absurd (true≢false (sym e))
+
+-- it starts a run, whatever is marked ready: a page that starts none has no key
+pub found-run : (g : Pages) → Sound g → (key : TileKey) (i : ℕ) → readyAt g key ≡ Found.At i → kindAt (g .slots) i ≡ run
+found-run g f key i e =
+    is-run (kindAt (g .slots) i) (ap noKey (sym (ready-at g key i e .keyIs)) ∙ key-is-run (g .slots) (g .count) (f .good) i)
 
 -- ---- what a lookup lands on, and what the next step towards a tile says of the state
 

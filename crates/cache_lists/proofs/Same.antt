@@ -38,9 +38,9 @@ use Rattle.cache.specs.declared.Request.the-variants as Request
 use Rattle.cache.specs.Loads.{After, fetched, dropped, chunkLen}
 use Rattle.cache_lists.specs.Lists.{World, Call, capacity, loads, pages, get, fetch, load, loadFrom, clear, found, exec, Along}
 use Rattle.cache_lists.specs.Claims.{ofCount, ofLookup, ofRequest, ofProgress, Parsed, FairBytes, Fair, SameLook, SameAs, Open}
-use Rattle.cache_lists.proofs.Lookups.{in-ring, ReadyAt, ready-at, next-is}
+use Rattle.cache_lists.proofs.Lookups.{in-ring, ReadyAt, ready-at, found-run, next-is}
 use Rattle.cache_lists.proofs.Steps.{Refusal, named, unasked, outside, stale, Gets, denied, ringed, unknown, handed, get-is, Came, came-loading, came-holds, Lacks, none, long, wide, Step, refuses, knows, uses, noPages, fails, lacks, begins, goesOn, readies, spoils, load-is, fetch-came, FetchIs, fetch-is, From, from-is}
-use Rattle.cache_lists.proofs.Inv.{Inv, inv-ok, ready-run, dropped-load}
+use Rattle.cache_lists.proofs.Inv.{sound-in, Inv, inv-ok, dropped-load}
 use Rattle.cache_lists.proofs.Safe.{clear-is, written-call}
 use Rattle.cache_lists.proofs.Direct.{direct-ready, direct-none, direct-entry, at-long, at-wide, at-tile}
 use Rattle.cache_lists.proofs.Kept.{Kept, kept-cleared, kept-touched, kept-forgot, kept-dropped, kept-began, kept-further, kept-readied, kept-spoiled}
@@ -122,7 +122,7 @@ module _ (P : List ℕ) (h : Header) (n : ℕ) (key : TileKey) where
       unfolding passes
       kept-passes i e =
           let r : ReadyAt (c .pages) key i = ready-at (c .pages) key i e in
-          let end = inside (c .pages .slots) (c .pages .count) (k .inv .pages .good) i (ready-run (c .pages) (k .inv .pages) i (r .ready)) in
+          let end = inside (c .pages .slots) (c .pages .count) (k .inv .pages .good) i (found-run (c .pages) (sound-in (c .pages) (k .inv .pages)) key i e) in
           rw (le-leb (i * 8192 + lenAt c i) (length arena) (omega (arith, end, span-holds (lenAt c i), k .count)))
           (direct-ready P h n key _ (k .slots i key (r .ready) (r .keyIs)))
 
