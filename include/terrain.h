@@ -1,6 +1,15 @@
 /* The functions of libabi.a, which `rt staticlib abi` writes to target/staticlib.
  * A slice is a pointer and a count of its elements; an empty one may have any pointer that is not null.
- * Every function is total: each bit pattern has an answer. */
+ * Every function is total: each bit pattern has an answer.
+ *
+ * The numbers that refuse a call:
+ *   1 a read was missed                       8 a point beyond 360 degrees, a figure not finite, a heading beyond 360
+ *   2 a read passes the pack's end            9 a key outside the grid
+ *   3 a header rule is broken                10 a start outside its tile
+ *   4 a CRC, a tile rule, a bad entry        11 a delivery that no open fetch fits
+ *   5 a tile is neither ready nor missing    12 a state, header, count or arena that can't be
+ *   6 the start's tile is missing or another 13 given to a writer: what a reader would refuse
+ *   7 an index past the tile                 14 the output is too short, or a total passes 32 bits */
 #ifndef TERRAIN_H
 #define TERRAIN_H
 

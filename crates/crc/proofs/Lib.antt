@@ -3,3 +3,4 @@ pub mod Table
 pub mod Laws
 pub mod Euclid
 pub mod Rule
+pub mod Below

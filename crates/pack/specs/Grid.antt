@@ -7,6 +7,7 @@ use lib.Dec.{leb, ltb, eqb}
 use lib.IntN.{ℤ, pos, negsuc, _+ℤ_, _-ℤ_}
 use lib.ListN.{length}
 use lib.Signed.{ltZ, leZ}
+use Rattle.pack.specs.Offsets as At
 use Rattle.pack.specs.Bytes.{u32At}
 use Rattle.pack.specs.Sector.{rules}
 use Rattle.pack.specs.declared.Header.{Header}
@@ -75,8 +76,10 @@ entryOf h k = h .directory + (k .row * h .cols + k .col) * 8
 -- a directory entry: offset and length; length 0 means no tile, offset unread; else it lies within data and total, or is refused with 4
 unfoldable pub locateOf : Header → List ℕ → Located
 locateOf h e =
-    cond (eqb (u32At e 4) 0) Located.NoTile
-    (cond (leb (h .«data») (u32At e 0) && leb (u32At e 0 + u32At e 4) (h .total)) (Located.Tile (u32At e 0) (u32At e 4)) (Located.Refused 4))
+    cond (eqb (u32At e At.lengthAt) 0) Located.NoTile
+    (cond (leb (h .«data») (u32At e At.offsetAt) && leb (u32At e At.offsetAt + u32At e At.lengthAt) (h .total))
+    (Located.Tile (u32At e At.offsetAt) (u32At e At.lengthAt))
+    (Located.Refused 4))
 
 -- ---- the public functions, with their refusals
 

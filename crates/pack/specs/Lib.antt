@@ -1,4 +1,5 @@
--- The pack: bytes, header, grid and directory.
+-- The pack: bytes, where its fields stand, header, grid and directory.
 pub mod Bytes
+pub mod Offsets
 pub mod Sector
 pub mod Grid

@@ -8,6 +8,7 @@ use lib.IntN.{ℤ, pos, negsuc, _+ℤ_}
 use lib.ListN.{take}
 use lib.Signed.{leZ}
 use Rattle.crc.specs.Fcs.{crc32}
+use Rattle.pack.specs.Offsets as At
 use Rattle.pack.specs.Bytes.{byteAt, u16At, u32At, i32At, u64At}
 use Rattle.pack.specs.declared.Header.{Header}
 use Rattle.pack.specs.declared.Answer.{Answer}
@@ -22,30 +23,35 @@ allOf (b ∷ bs) = b && allOf bs
 
 abbrev pub headerAt : List ℕ → Header
 headerAt s = record {
-  tile = u32At s 20;
-  south = i32At s 24;
-  west = i32At s 28;
-  rows = u16At s 32;
-  cols = u16At s 34;
-  directory = u32At s 36;
-  «data» = u32At s 40;
-  total = u32At s 44;
-  tiles = u32At s 48;
-  created = u64At s 52;
-  «attribution_offset» = u32At s 60;
-  «attribution_len» = u32At s 64;
+  tile = u32At s At.tileSizeAt;
+  south = i32At s At.southAt;
+  west = i32At s At.westAt;
+  rows = u16At s At.rowsAt;
+  cols = u16At s At.colsAt;
+  directory = u32At s At.directoryAt;
+  «data» = u32At s At.dataAt;
+  total = u32At s At.totalAt;
+  tiles = u32At s At.tilesAt;
+  created = u64At s At.createdAt;
+  «attribution_offset» = u32At s At.attributionOffsetAt;
+  «attribution_len» = u32At s At.attributionLenAt;
 }
 
 -- CRC of the first 508 bytes at 508
 abbrev pub isSum : List ℕ → Bool
-isSum s = eqb (crc32 (take 508 s)) (u32At s 508)
+isSum s = eqb (crc32 (take At.sumAt s)) (u32At s At.sumAt)
 
 -- "VANA-TERRAIN" and four zeros, as four numbers: "VANA", "-TER", "RAIN" and 0, the low byte first
 abbrev pub isMagic : List ℕ → Bool
-isMagic s = allOf (eqb (u32At s 0) 0x414e4156 ∷ eqb (u32At s 4) 0x5245542d ∷ eqb (u32At s 8) 0x4e494152 ∷ eqb (u32At s 12) 0 ∷ [])
+isMagic s =
+    allOf (eqb (u32At s At.magicAt) 0x414e4156
+    ∷ eqb (u32At s (At.magicAt + 4)) 0x5245542d
+    ∷ eqb (u32At s (At.magicAt + 8)) 0x4e494152
+    ∷ eqb (u32At s (At.magicAt + 12)) 0
+    ∷ [])
 
 abbrev pub isVersion : List ℕ → Bool
-isVersion s = eqb (u16At s 16) 2
+isVersion s = eqb (u16At s At.versionAt) 2
 
 -- ---- the rules of a header
 

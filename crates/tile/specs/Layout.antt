@@ -6,6 +6,7 @@ use mathlib.Core.List.{List}
 use lib.Dec.{leb, ltb, eqb}
 use Rattle.pack.specs.Bytes.{byteAt, u16At, u32At}
 use Rattle.pack.specs.declared.TileKey.{TileKey}
+use Rattle.tile.specs.Offsets as At
 use Rattle.tile.specs.declared.Node.{Node}
 use Rattle.tile.specs.declared.Edge.{Edge}
 use Rattle.tile.specs.declared.Head.{Head}
@@ -15,25 +16,25 @@ use Rattle.tile.specs.declared.Incident.{Incident}
 -- ---- the head: key at 4 and 6, nodes 8, edges 10, vertices 12 (4 bytes), lon_um 16, CRC 24
 
 abbrev pub nodesOf : List ℕ → ℕ
-nodesOf bs = u16At bs 8
+nodesOf bs = u16At bs At.nodesAt
 
 abbrev pub edgesOf : List ℕ → ℕ
-edgesOf bs = u16At bs 10
+edgesOf bs = u16At bs At.edgesAt
 
 abbrev pub verticesOf : List ℕ → ℕ
-verticesOf bs = u32At bs 12
+verticesOf bs = u32At bs At.verticesAt
 
 abbrev pub headOf : List ℕ → Head
 headOf bs = record {
-  key = record { row = u16At bs 4; col = u16At bs 6 };
+  key = record { row = u16At bs At.rowAt; col = u16At bs At.colAt };
   nodes = nodesOf bs;
   edges = edgesOf bs;
   vertices = verticesOf bs;
-  «lon_um» = u32At bs 16;
+  «lon_um» = u32At bs At.lonUmAt;
 }
 
 abbrev pub idOf : List ℕ → TileId
-idOf bs = record { key = record { row = u16At bs 4; col = u16At bs 6 }; crc = u32At bs 24; edges = edgesOf bs }
+idOf bs = record { key = record { row = u16At bs At.rowAt; col = u16At bs At.colAt }; crc = u32At bs At.sumAt; edges = edgesOf bs }
 
 -- ---- how long a tile is: 32 + 8 × nodes + 20 × edges + 6 × vertices
 
@@ -62,14 +63,14 @@ vertexStart bs v = 32 + nodesOf bs * 8 + edgesOf bs * 20 + v * 6
 
 -- x, y and z: of a node and of a vertex alike
 unfoldable pub placeAt : List ℕ → ℕ → Node
-placeAt bs at = record { x = u16At bs at; y = u16At bs (at + 2); z = u16At bs (at + 4) }
+placeAt bs at = record { x = u16At bs at; y = u16At bs (at + At.yAt); z = u16At bs (at + At.zAt) }
 
 abbrev pub nodeOf : List ℕ → ℕ → Node
 nodeOf bs i = placeAt bs (nodeStart i)
 
 -- a node's first adjacency entry
 abbrev pub adjacencyStart : List ℕ → ℕ → ℕ
-adjacencyStart bs i = u16At bs (nodeStart i + 6)
+adjacencyStart bs i = u16At bs (nodeStart i + At.startAt)
 
 -- an entry is edge << 1, plus 1 where the edge ends at the node
 abbrev pub entryOf : List ℕ → ℕ → Incident
@@ -83,12 +84,12 @@ unfoldable pub edgeOf : List ℕ → ℕ → Edge
 edgeOf bs i =
     let at = edgeStart bs i in record {
       from = u16At bs at;
-      to = u16At bs (at + 2);
-      «first_vertex» = u32At bs (at + 4);
-      vertices = u16At bs (at + 8);
-      class = byteAt bs (at + 10);
-      flags = byteAt bs (at + 11);
-      group = u16At bs (at + 12);
+      to = u16At bs (at + At.toAt);
+      «first_vertex» = u32At bs (at + At.firstVertexAt);
+      vertices = u16At bs (at + At.edgeVerticesAt);
+      class = byteAt bs (at + At.classAt);
+      flags = byteAt bs (at + At.flagsAt);
+      group = u16At bs (at + At.groupAt);
     }
 
 abbrev pub vertexOf : List ℕ → ℕ → Node

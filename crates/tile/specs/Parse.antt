@@ -9,6 +9,7 @@ use Rattle.crc.specs.Fcs.{crc32Skipping}
 use Rattle.pack.specs.Bytes.{byteAt, u16At, u32At}
 use Rattle.pack.specs.Sector.{allOf}
 use Rattle.pack.specs.declared.TileKey.{TileKey}
+use Rattle.tile.specs.Offsets as At
 use Rattle.tile.specs.Layout.{nodesOf, edgesOf, verticesOf, length, nodeStart, entryStart, edgeStart, headOf}
 use Rattle.tile.specs.declared.Parsed.{Parsed}
 use Rattle.tile.specs.declared.Parsed.the-variants as Parsed
@@ -25,23 +26,23 @@ isLong bs = leb 32 (ListN.length bs)
 
 -- "VT"
 abbrev pub isMagic : List ℕ → Bool
-isMagic bs = eqb (u16At bs 0) 0x5456
+isMagic bs = eqb (u16At bs At.magicAt) 0x5456
 
 abbrev pub isVersion : List ℕ → Bool
-isVersion bs = eqb (byteAt bs 2) 1
+isVersion bs = eqb (byteAt bs At.versionAt) 1
 
 -- CRC at 24, taken as zero when summed
 abbrev pub isSum : List ℕ → Bool
-isSum bs = eqb (crc32Skipping bs 24) (u32At bs 24)
+isSum bs = eqb (crc32Skipping bs At.sumAt) (u32At bs At.sumAt)
 
 abbrev pub isKey : List ℕ → TileKey → Bool
-isKey bs key = eqb (u16At bs 4) (key .row) && eqb (u16At bs 6) (key .col)
+isKey bs key = eqb (u16At bs At.rowAt) (key .row) && eqb (u16At bs At.colAt) (key .col)
 
 abbrev pub isLength : List ℕ → Bool
 isLength bs = eqb (length (nodesOf bs) (edgesOf bs) (verticesOf bs)) (ListN.length bs)
 
 abbrev pub hasLon : List ℕ → Bool
-hasLon bs = ltb 0 (u32At bs 16)
+hasLon bs = ltb 0 (u32At bs At.lonUmAt)
 
 -- ---- the records
 
@@ -49,8 +50,8 @@ hasLon bs = ltb 0 (u32At bs 16)
 unfoldable pub nodeOk : List ℕ → ℕ → ℕ → Bool
 nodeOk bs size i =
     leb (u16At bs (nodeStart i)) size
-    && (leb (u16At bs (nodeStart i + 2)) size
-    && leb (u16At bs (nodeStart i + 6)) (edgesOf bs * 2))
+    && (leb (u16At bs (nodeStart i + At.yAt)) size
+    && leb (u16At bs (nodeStart i + At.startAt)) (edgesOf bs * 2))
 
 -- any size is cut to 65,535
 abbrev pub nodesGood : List ℕ → ℕ → Bool
@@ -59,7 +60,9 @@ nodesGood bs size = allBelow (nodeOk bs (min size 65535)) (nodesOf bs)
 -- the edge that stands at `at`: its two nodes are there, and its vertices
 unfoldable pub edgeFits : List ℕ → ℕ → ℕ → ℕ → Bool
 edgeFits bs nodes vertices at =
-    ltb (u16At bs at) nodes && (ltb (u16At bs (at + 2)) nodes && leb (u32At bs (at + 4) + u16At bs (at + 8)) vertices)
+    ltb (u16At bs at) nodes
+    && (ltb (u16At bs (at + At.toAt)) nodes
+    && leb (u32At bs (at + At.firstVertexAt) + u16At bs (at + At.edgeVerticesAt)) vertices)
 
 abbrev pub edgeOk : List ℕ → ℕ → Bool
 edgeOk bs i = edgeFits bs (nodesOf bs) (verticesOf bs) (edgeStart bs i)

@@ -3,6 +3,7 @@
 use crate::engine::packs;
 use crate::engine::sled::{self, Sled};
 use crate::matching::roads::{Grid, Place, Road};
+use crate::packs::seal_sector;
 use crate::profile;
 use crate::random::Random;
 use crate::road::networks;
@@ -191,11 +192,22 @@ fn streets() -> Vec<Road> {
     crossings.flat_map(two).collect()
 }
 
+/// The pack with its count of tiles in the sector, as `write_pack` writes it.
+fn counted(mut bytes: Vec<u8>) -> Vec<u8> {
+    let data = u32::from_le_bytes(bytes[40..44].try_into().expect("4 bytes")) as usize;
+    let tiles = bytes[512..data].chunks(8).filter(|entry| entry[4..] != [0; 4]).count() as u32;
+    bytes[48..52].copy_from_slice(&tiles.to_le_bytes());
+    let mut sector = bytes[..512].try_into().expect("512 bytes");
+    seal_sector(&mut sector);
+    bytes[..512].copy_from_slice(&sector);
+    bytes
+}
+
 fn sample_pack() -> Vec<u8> {
     let ways = [(&LEFT[..], 6, 3), (&RIGHT[..], 6, 4), (&SIDE[..], 7, 2)];
     let roads = [(&VALLEY[..], 5, 1), (&UPPER[..], 5, 1)].into_iter().chain(ways);
     let roads = roads.map(|(spots, class, group)| road(spots, class, group));
-    networks::plain(GRID, roads.chain(streets()).collect()).pack.bytes
+    counted(networks::plain(GRID, roads.chain(streets()).collect()).pack.bytes)
 }
 
 /// East and north of a place so many metres along the valley and on.
@@ -260,9 +272,12 @@ pub fn compare() -> Vec<Tally> {
     let (pack, drive) = (sample_pack(), sample_drive());
     let mut tally = Tally::new("drive, stored sample");
     let printed = text(&pack, &drive, 0).into_bytes();
-    for (name, made) in
-        [("data/pack", pack), ("data/drive", drive.into_bytes()), ("stdout", printed)]
-    {
+    for (name, made) in [
+        ("../write_pack/stdout", pack.clone()),
+        ("data/pack", pack),
+        ("data/drive", drive.into_bytes()),
+        ("stdout", printed),
+    ] {
         tally.count(stored(name) == made, name, stored(name), made);
     }
     vec![tally]

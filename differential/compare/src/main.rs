@@ -35,6 +35,7 @@ mod profile;
 mod random;
 mod road;
 mod tally;
+mod write;
 
 use std::{
     env,
@@ -60,6 +61,8 @@ pub struct Scale {
     packs: u64,
     /// Tiles that transects are laid about.
     crossings: u64,
+    /// Packs that are told as text and written.
+    written: u64,
     /// What the numbers of scripts go by.
     cache: u64,
     /// Networks that are ridden on.
@@ -79,6 +82,7 @@ const GATE: Scale = Scale {
     crc_len: 512,
     packs: 1_000,
     crossings: 50_000,
+    written: 200,
     cache: 200,
     matches: 2_000,
     roads: 1_000,
@@ -92,6 +96,7 @@ const FULL: Scale = Scale {
     crc_len: 4_096,
     packs: 20_000,
     crossings: 1_000_000,
+    written: 10_000,
     cache: 8_000,
     matches: 20_000,
     roads: 10_000,
@@ -102,7 +107,7 @@ const FULL: Scale = Scale {
 /// Every part, on as many threads as there are processors where a part takes one itself: each
 /// thread takes the next part that is left. The tallies come in the parts' order.
 fn compare(scale: &Scale) -> Vec<Tally> {
-    let parts: [fn(&Scale) -> Vec<Tally>; 12] = [
+    let parts: [fn(&Scale) -> Vec<Tally>; 13] = [
         numbers::compare,
         engine::compare,
         matching::compare,
@@ -115,6 +120,7 @@ fn compare(scale: &Scale) -> Vec<Tally> {
         |_| drive::compare(),
         |_| profile::compare(),
         page::compare,
+        write::compare,
     ];
     let next = AtomicUsize::new(0);
     let done = Mutex::new(parts.map(|_| Vec::new()));
@@ -148,6 +154,8 @@ fn main() -> ExitCode {
         ["full", "format"] => {
             crc::compare(&FULL).into_iter().chain(format_and_geometry(&FULL)).collect()
         }
+        ["gate", "write"] => write::compare(&GATE),
+        ["full", "write"] => write::compare(&FULL),
         ["gate", "crossing"] => crossing::compare(&GATE),
         ["full", "crossing"] => crossing::compare(&FULL),
         ["gate", "cache"] => cache::compare(&GATE),
@@ -181,7 +189,7 @@ fn main() -> ExitCode {
         ["sample", pack, list, seed] => drive::write_any(pack, list, seed),
         _ => {
             eprintln!(
-                "usage: run [gate [crossing | cache | matching | road | engine | drive | profile | page] | full [numbers [NAME] | format | crossing | cache | matching | road | engine | page] | bench [road | engine] | panics | list FILE | list_format FILE | list_cache FILE | list_matches FILE | list_roads FILE | list_engine FILE | drive PACK DRIVE [K] | profile [FILE] | sample PACK DRIVE [SEED]"
+                "usage: run [gate [crossing | cache | matching | road | engine | drive | profile | page | write] | full [numbers [NAME] | format | crossing | cache | matching | road | engine | page | write] | bench [road | engine] | panics | list FILE | list_format FILE | list_cache FILE | list_matches FILE | list_roads FILE | list_engine FILE | drive PACK DRIVE [K] | profile [FILE] | sample PACK DRIVE [SEED]"
             );
             return ExitCode::from(2);
         }

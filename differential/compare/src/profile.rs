@@ -74,6 +74,7 @@ pub fn printed(program: &str, words: &[&str], input: &[u8]) -> Vec<u8> {
         .args(words)
         .stdin(Stdio::piped())
         .stdout(Stdio::piped())
+        .stderr(Stdio::null())
         .spawn()
         .unwrap_or_else(|why| panic!("{path}: {why} (rt check {program} builds it)"));
     let _ = child.stdin.take().expect("piped").write_all(input);

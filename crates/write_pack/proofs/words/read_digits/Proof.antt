@@ -1,0 +1,65 @@
+-- `words::read_digits` is safe and ends: a digit is taken only where one more fits, and each turn passes a byte.
+use Prim.Native.Nat.{_<_, _-_}
+use mathlib.Core.Path.{_≡_}
+use lib.ListN.{length}
+use native.Mathlib.Omega.{arith}
+use borrow.Author.Needs.{needs}
+use Rattle.write_pack.proofs.words.read_digits.Statement.{statement}
+use Rattle.write_pack.proofs.words.read_digits.Tie as tie
+
+abbrev Inv-loop : tie.InvT-loop
+Inv-loop line at value₀ i₀ value i = value < 2814749767106560
+
+abbrev μ-loop : tie.MeasureT-loop
+μ-loop line at value₀ i₀ value i = length line - i
+
+loop-holds : tie.Need-loop-holds Inv-loop μ-loop
+loop-holds c = search needs
+
+shared-slice-read-digit : tie.Need-shared-slice-read-digit Inv-loop μ-loop
+shared-slice-read-digit c = search needs
+
+digit-requires : tie.Need-digit-requires Inv-loop μ-loop
+digit-requires c κs = search needs
+
+mul-value : tie.Need-mul-value Inv-loop μ-loop
+mul-value c = search needs
+
+add-value : tie.Need-add-value Inv-loop μ-loop
+add-value c = search needs
+
+add-i : tie.Need-add-i Inv-loop μ-loop
+add-i c = search needs
+
+loop-less : tie.Need-loop-less Inv-loop μ-loop
+loop-less c = search needs
+
+loop-again : tie.Need-loop-again Inv-loop μ-loop
+loop-again c = search needs
+
+returns : tie.Need-returns Inv-loop μ-loop
+returns c = search needs
+
+returns-2 : tie.Need-returns-2 Inv-loop μ-loop
+returns-2 c = search needs
+
+returns-3 : tie.Need-returns-3 Inv-loop μ-loop
+returns-3 c = search needs
+
+pub read-digits-spec : {M : Type 1} → statement M
+read-digits-spec =
+    tie.close
+    (tie.spec
+    Inv-loop
+    μ-loop
+    loop-holds
+    shared-slice-read-digit
+    digit-requires
+    mul-value
+    add-value
+    add-i
+    loop-less
+    loop-again
+    returns
+    returns-2
+    returns-3)

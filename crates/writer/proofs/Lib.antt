@@ -1,0 +1,20 @@
+-- Laws of the writer's definitions.
+pub mod FieldLaws
+pub mod Putting
+pub mod EntryLaws
+pub mod NodeLaws
+pub mod GivenLaws
+pub mod TileMade
+pub mod TileReads
+pub mod TileParsed
+pub mod PackRules
+pub mod CutLaws
+pub mod KeyLaws
+pub mod EntryBytes
+pub mod PlaceLaws
+pub mod TileSums
+pub mod LayLaws
+pub mod WriteLaws
+pub mod SectorReads
+pub mod PackReads
+pub mod TileOnly

@@ -1,0 +1,23 @@
+-- `writer::pack_rules::again` meets its contract: a key below all others is new, any other is searched.
+use mathlib.Core.Path.{sym}
+use native.Mathlib.Omega.{arith}
+use borrow.Author.Needs.{needs}
+use Rattle.writer.proofs.pack_rules.again.Statement.{statement}
+use Rattle.writer.proofs.pack_rules.again.Tie as tie
+
+rank-requires : tie.Need-rank-requires
+rank-requires c κs = search needs
+
+returns : tie.Need-returns
+returns c =
+    let pre = c .before .before .before .before .pre in
+    sym (pre .1 (omega (arith, c .if1 .taken, c .before .rank .ensures)))
+
+has-key-requires : tie.Need-has-key-requires
+has-key-requires c κs = search needs
+
+returns-2 : tie.Need-returns-2
+returns-2 c = search needs
+
+pub again-spec : {M : Type 1} → statement M
+again-spec = tie.close (tie.spec rank-requires returns has-key-requires returns-2)

@@ -1,0 +1,2 @@
+-- Looking up directly in a pack that was written: the proof.
+pub mod Found

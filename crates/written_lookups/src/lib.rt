@@ -1,0 +1,1 @@
+// Looking up directly in a pack that was written: the promise (specs/) and its proof (proofs/), no code.
