@@ -35,6 +35,7 @@ use Rattle.pack.specs.Bytes as Bytes
 use Rattle.pack.specs.Sector as Sector
 use Rattle.pack.specs.Grid as Grid
 use Rattle.tile.specs.Layout as Layout
+use Rattle.tile.specs.Order as Order
 use Rattle.tile.specs.Parse as Parse
 use Rattle.geo.specs.Flat as Flat
 use Rattle.geo.specs.Points as Points
@@ -227,7 +228,7 @@ floats = tt
 
 -- header, directory and tiles
 unfoldable pub bytes : Unit {0}
-unfolding Bytes.u16At Bytes.u32At Bytes.i32At Bytes.u64At Sector.rules Sector.parse Grid.checkedOf Grid.keyOf Grid.cornerOf Grid.entryOf Grid.locateOf Grid.read Layout.placeAt Layout.edgeOf Layout.pointOf Parse.allBelow Parse.nodeOk Parse.edgeFits Parse.entryOk Parse.accepts
+unfolding Bytes.u16At Bytes.u32At Bytes.i32At Bytes.u64At Sector.rules Sector.parse Grid.checkedOf Grid.keyOf Grid.cornerOf Grid.entryOf Grid.locateOf Grid.read Layout.placeAt Layout.edgeOf Layout.pointOf Parse.allBelow Order.follows Parse.nodeOk Parse.edgeFits Parse.entryOk Parse.accepts
 bytes = tt
 
 -- points

@@ -1,7 +1,7 @@
--- Laws about conjunctions, about a test of every number below a bound, and about a list of clauses. Assumes nothing.
+-- Laws about conjunctions, about a test of every number below a bound and of any, and about a list of clauses. Assumes nothing.
 use Prim.Native.Nat.{ℕ, zero, suc, _+_, _<_}
 use mathlib.Core.Path.{_≡_, refl, sym, ap, _∙_}
-use mathlib.Core.Bool.{Bool, true, false, _&&_, true≢false}
+use mathlib.Core.Bool.{Bool, true, false, _&&_, _||_, true≢false}
 use mathlib.Core.List.{List, [], _∷_}
 use native.Mathlib.Numerals.{add-one}
 use native.Mathlib.Omega.{arith}
@@ -9,7 +9,7 @@ use lib.Dec.{eqb}
 use lib.ListN.{getD}
 use borrow.Author.Tests.{eqb-true, eqb-false}
 use Rattle.pack.specs.Sector.{allOf}
-use Rattle.tile.specs.Parse.{allBelow}
+use Rattle.tile.specs.Below.{allBelow, anyBelow}
 
 -- ---- a conjunction
 
@@ -20,6 +20,10 @@ and-left false b e = absurd (true≢false (sym e))
 pub and-right : (a b : Bool) → (a && b) ≡ true → b ≡ true
 and-right true b e = e
 and-right false b e = absurd (true≢false (sym e))
+
+pub and-miss : (a b : Bool) → b ≡ false → (a && b) ≡ false
+and-miss true b e = e
+and-miss false b e = refl
 
 -- ---- every number below a bound
 
@@ -51,6 +55,25 @@ all-miss p i n h t = go (allBelow p n) refl
     go : (b : Bool) → allBelow p n ≡ b → b ≡ false
     go true e = absurd (true≢false (sym (all-at p i n h e) ∙ t))
     go false e = refl
+
+-- ---- some number below a bound
+
+-- one that has it
+pub any-at : (p : ℕ → Bool) (i n : ℕ) → i < n → p i ≡ true → anyBelow p n ≡ true
+unfolding anyBelow
+any-at p i zero h t = absurd (omega arith)
+any-at p i (suc n) h t = go (eqb i n) refl (anyBelow p n) refl (λ k. any-at p i n k t)
+  where
+    go : (same : Bool) → eqb i n ≡ same → (b : Bool) → anyBelow p n ≡ b → (i < n → anyBelow p n ≡ true) → (b || p n) ≡ true
+    go same q true e r = refl
+    go true q false e r = rw (← eqb-true i n q) t
+    go false q false e r = absurd (true≢false (sym (r (omega (arith, eqb-false i n q))) ∙ e))
+
+-- where none has it
+pub any-none : (p : ℕ → Bool) (n : ℕ) → ((i : ℕ) → i < n → p i ≡ false) → anyBelow p n ≡ false
+unfolding anyBelow
+any-none p zero h = refl
+any-none p (suc n) h = rw (any-none p n (λ (i : ℕ) (k : i < n). h i (omega arith)), h n (omega arith))
 
 -- ---- a list of clauses
 

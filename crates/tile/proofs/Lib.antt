@@ -1,5 +1,6 @@
 -- Laws about a tile's definitions.
 pub mod Laws
 pub mod Clauses
+pub mod Ordered
 pub mod Search
 pub mod Within

@@ -1,49 +1,23 @@
 -- The binary search of `nodeAt`. A step keeps the answer, and more steps than there are nodes between low and high change nothing.
--- What is found is a node at the place asked for; and where no later node comes before an earlier one, a node that is there is found.
+-- What is found is a node at the place asked for; and in an accepted tile, whose nodes stand in order, a node that is there is found.
 -- Assumes nothing.
 use Prim.Native.Nat.{ℕ, zero, suc, _+_, _-_, _/_, _≤_, _<_}
 use mathlib.Core.Path.{_≡_, refl, sym, _∙_}
-use mathlib.Core.Bool.{Bool, true, false, _&&_, _||_, cond, true≢false}
+use mathlib.Core.Bool.{Bool, true, false, _&&_, cond, true≢false}
 use mathlib.Core.List.{List}
 use native.Mathlib.Omega.{arith}
 use lib.Dec.{ltb, eqb, leb}
 use borrow.Author.Tests.{ltb-true, ltb-false, eqb-true, eqb-false, leb-true, leb-false, lt-ltb, le-ltb, eq-eqb}
+use Rattle.pack.specs.declared.TileKey.{TileKey}
 use Rattle.tile.specs.Layout.{nodesOf, nodeOf}
-use Rattle.tile.specs.Readers.{before, search, nodeAt}
+use Rattle.tile.specs.Order.{before, inOrder}
+use Rattle.tile.specs.Parse.{accepts, nodesOrdered}
+use Rattle.tile.specs.Readers.{search, nodeAt, standsAt, isThere, isFound}
 use Rattle.tile.specs.declared.Found.{Found}
 use Rattle.tile.specs.declared.Found.the-variants as Found
-
--- ---- the order of places
-
-or-left : (a b : Bool) → (a || b) ≡ false → a ≡ false
-or-left true b e = e
-or-left false b e = refl
-
-or-right : (a b : Bool) → (a || b) ≡ false → b ≡ false
-or-right true b e = absurd (true≢false e)
-or-right false b e = e
-
--- no place comes before itself
-before-itself : (y x : ℕ) → before y x y x ≡ false
-before-itself y x =
-    let y≤ : y ≤ y = omega arith in
-    let x≤ : x ≤ x = omega arith in
-    rw (le-ltb y y y≤, eq-eqb y y refl, le-ltb x x x≤)
-
--- where the one is not before the other, y is not less, and at the same y neither is x
-not-before : (ay ax by bx : ℕ) → before ay ax by bx ≡ false → (by ≤ ay) × (ay ≡ by → bx ≤ ax)
-not-before ay ax by bx e = (
-  ltb-false ay by (or-left (ltb ay by) (eqb ay by && ltb ax bx) e),
-  λ same. ltb-false ax bx (rw (eq-eqb ay by same) at (or-right (ltb ay by) (eqb ay by && ltb ax bx) e)),
-)
-
--- two places of which neither comes before the other are the same
-same-place : (ay ax by bx : ℕ) → before ay ax by bx ≡ false → before by bx ay ax ≡ false → (ax ≡ bx) × (ay ≡ by)
-same-place ay ax by bx e f =
-    let one : (by ≤ ay) × (ay ≡ by → bx ≤ ax) = not-before ay ax by bx e in
-    let two : (ay ≤ by) × (by ≡ ay → ax ≤ bx) = not-before by bx ay ax f in
-    let same : ay ≡ by = omega arith in
-    (omega (arith, one .1 same, two .1 (sym same)), same)
+use Rattle.tile.proofs.Laws.{and-left, and-right, any-at, any-none}
+use Rattle.tile.proofs.Ordered.{before-itself, same-place, in-order-all}
+use Rattle.tile.proofs.Within.{accepted-order}
 
 -- ---- steps
 
@@ -147,7 +121,7 @@ node-at-there bs x y i e = search-there bs x y i (nodesOf bs) 0 (nodesOf bs) e
 -- ---- what is there is found
 
 -- no later node comes before an earlier one
-abbrev pub Ordered : List ℕ → Type 0
+abbrev Ordered : List ℕ → Type 0
 Ordered bs =
     (i j : ℕ) → i < j → j < nodesOf bs → before (nodeOf bs j .y) (nodeOf bs j .x) (nodeOf bs i .y) (nodeOf bs i .x) ≡ false
 
@@ -194,7 +168,37 @@ module _ (bs : List ℕ) (ordered : Ordered bs) (x y i : ℕ) (at-x : nodeOf bs 
       go false false q r right low-half =
           nothing-found (middle low high) (sym (rw (search-some bs x y left low high (omega arith), q, r) at e))
 
-pub node-at-found : (bs : List ℕ) → Ordered bs → (x y i : ℕ) → i < nodesOf bs → nodeOf bs i .x ≡ x → nodeOf bs i .y ≡ y → nodeAt bs x y ≡ Found.Nothing → ⊥
+node-at-found : (bs : List ℕ) → Ordered bs → (x y i : ℕ) → i < nodesOf bs → nodeOf bs i .x ≡ x → nodeOf bs i .y ≡ y → nodeAt bs x y ≡ Found.Nothing → ⊥
 unfolding nodeAt
 node-at-found bs ordered x y i h at-x at-y e =
     search-found bs ordered x y i at-x at-y (nodesOf bs) 0 (nodesOf bs) (omega arith) (omega arith) h (omega arith) e
+
+-- ---- exactly
+
+stands : (bs : List ℕ) (x y i : ℕ) → nodeOf bs i .x ≡ x → nodeOf bs i .y ≡ y → standsAt bs x y i ≡ true
+stands bs x y i p q = rw (eq-eqb (nodeOf bs i .x) x p, eq-eqb (nodeOf bs i .y) y q)
+
+stands-not : (bs : List ℕ) (x y i : ℕ) → (nodeOf bs i .x ≡ x → nodeOf bs i .y ≡ y → ⊥) → standsAt bs x y i ≡ false
+stands-not bs x y i not-there = go (eqb (nodeOf bs i .x) x) (eqb (nodeOf bs i .y) y) refl refl
+  where
+    go : (a b : Bool) → eqb (nodeOf bs i .x) x ≡ a → eqb (nodeOf bs i .y) y ≡ b → (a && b) ≡ false
+    go true true p q = absurd (not-there (eqb-true (nodeOf bs i .x) x p) (eqb-true (nodeOf bs i .y) y q))
+    go true false p q = refl
+    go false b p q = refl
+
+-- document 02, request 7: a node is found exactly if one stands at that place
+ordered-exact : (bs : List ℕ) → nodesOrdered bs ≡ true → (x y : ℕ) → isFound (nodeAt bs x y) ≡ isThere bs x y
+ordered-exact bs e x y = go (nodeAt bs x y) refl
+  where
+    ordered : Ordered bs
+    ordered i j h k = in-order-all (nodeOf bs) (nodesOf bs) i j e h k
+
+    go : (found : Found) → nodeAt bs x y ≡ found → isFound found ≡ isThere bs x y
+    go (Found.At i) q =
+        let there = node-at-there bs x y i q in sym (any-at (standsAt bs x y) i (nodesOf bs) (there .0) (stands bs x y i (there .1 .0) (there .1 .1)))
+    go Found.Nothing q =
+        sym (any-none (standsAt bs x y) (nodesOf bs)
+        (λ (i : ℕ) (h : i < nodesOf bs). stands-not bs x y i (λ at-x at-y. node-at-found bs ordered x y i h at-x at-y q)))
+
+pub node-at-exact : (bs : List ℕ) (key : TileKey) (size : ℕ) → accepts bs key size ≡ true → (x y : ℕ) → isFound (nodeAt bs x y) ≡ isThere bs x y
+node-at-exact bs key size ok = ordered-exact bs (accepted-order bs key size ok)

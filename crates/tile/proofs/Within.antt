@@ -1,4 +1,5 @@
--- What an accepted tile tells a caller: its length, its key, that each record lies within its bytes, and that each number of a record is in range.
+-- What an accepted tile tells a caller: its length, its key, that each record lies within its bytes, that each number of a record is in range, and
+-- that its nodes stand in order.
 -- So a reader of an accepted tile succeeds. Then what an answer of `parse` says. All of it is about the definitions alone. Assumes nothing.
 use Prim.Native.Nat.{ℕ, _+_, _-_, _*_, _/_, _≤_, _<_, min, max}
 use mathlib.Core.Path.{_≡_, refl}
@@ -12,7 +13,7 @@ use borrow.Author.Tests.{ltb-true, ltb-false, leb-true, eqb-true, eqb-false, lt-
 use Rattle.pack.specs.Bytes.{u16At, u32At}
 use Rattle.pack.specs.declared.TileKey.{TileKey}
 use Rattle.tile.specs.Layout.{nodesOf, edgesOf, verticesOf, headOf, length, nodeStart, entryStart, edgeStart, vertexStart, placeAt, nodeOf, edgeOf, entryOf, pointOf, adjacencyStart, adjacencyEnd}
-use Rattle.tile.specs.Parse.{accepts, parse, clauses, nodeOk, edgeFits, edgeOk, entryOk}
+use Rattle.tile.specs.Parse.{accepts, parse, clauses, nodeOk, edgeFits, edgeOk, entryOk, nodesOrdered}
 use Rattle.tile.specs.Readers as Readers
 use Rattle.tile.specs.declared.Head.{Head}
 use Rattle.tile.specs.declared.Parsed.{Parsed}
@@ -134,6 +135,9 @@ module _ (bs : List ℕ) (key : TileKey) (size : ℕ) (ok : accepts bs key size 
   pub entry-good : (j : ℕ) → j < edgesOf bs * 2 → entryOf bs j .edge < edgesOf bs
   unfolding entryOk
   entry-good j h = ltb-true (u16At bs (entryStart bs j) / 2) (edgesOf bs) (all-at (entryOk bs) j (edgesOf bs * 2) h (holds 9))
+
+  pub accepted-order : nodesOrdered bs ≡ true
+  accepted-order = holds 10
 
   -- a node's entries are among all entries
   pub incident-within : (i : ℕ) → i < nodesOf bs → entriesEnd bs i ≤ edgesOf bs * 2

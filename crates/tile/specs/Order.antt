@@ -1,10 +1,14 @@
 -- Nodes in order of y, then x, equal ones allowed: document 02, requests 1 and 7. Over any numbering of nodes, so that a writer asks it of
 -- what it is given and a reader of what stands in a tile's bytes.
 use Prim.Native.Nat.{ℕ, zero, suc}
-use mathlib.Core.Bool.{Bool, true, not}
+use mathlib.Core.Bool.{Bool, true, _&&_, _||_, not}
+use lib.Dec.{ltb, eqb}
 use Rattle.tile.specs.declared.Node.{Node}
-use Rattle.tile.specs.Parse.{allBelow}
-use Rattle.tile.specs.Readers.{before}
+use Rattle.tile.specs.Below.{allBelow}
+
+-- (ay, ax) comes before (by, bx)
+abbrev pub before : ℕ → ℕ → ℕ → ℕ → Bool
+before ay ax by bx = ltb ay by || (eqb ay by && ltb ax bx)
 
 -- one node lies below another
 abbrev pub isBelow : Node → Node → Bool

@@ -1,7 +1,7 @@
--- When a tile's bytes are accepted: document 01, "tile.rs", as a list of named clauses. Whatever fails, the number is 4.
+-- When a tile's bytes are accepted: document 01, "tile.rs", and document 02, request 7, as a list of named clauses. Whatever fails, the number is 4.
 -- Assumes nothing.
-use Prim.Native.Nat.{ℕ, zero, suc, _+_, _*_, _/_, min}
-use mathlib.Core.Bool.{Bool, true, _&&_, cond}
+use Prim.Native.Nat.{ℕ, _+_, _*_, _/_, min}
+use mathlib.Core.Bool.{Bool, _&&_, cond}
 use mathlib.Core.List.{List, [], _∷_}
 use lib.Dec.{leb, ltb, eqb}
 use lib.ListN as ListN
@@ -10,14 +10,11 @@ use Rattle.pack.specs.Bytes.{byteAt, u16At, u32At}
 use Rattle.pack.specs.Sector.{allOf}
 use Rattle.pack.specs.declared.TileKey.{TileKey}
 use Rattle.tile.specs.Offsets as At
-use Rattle.tile.specs.Layout.{nodesOf, edgesOf, verticesOf, length, nodeStart, entryStart, edgeStart, headOf}
+use Rattle.tile.specs.Layout.{nodesOf, edgesOf, verticesOf, length, nodeStart, entryStart, edgeStart, nodeOf, headOf}
+unfoldable pub use Rattle.tile.specs.Below.{allBelow}
+use Rattle.tile.specs.Order.{inOrder}
 use Rattle.tile.specs.declared.Parsed.{Parsed}
 use Rattle.tile.specs.declared.Parsed.the-variants as Parsed
-
--- every number below n has it
-unfoldable pub allBelow : (ℕ → Bool) → ℕ → Bool
-allBelow p zero = true
-allBelow p (suc n) = allBelow p n && p n
 
 -- ---- the head
 
@@ -77,6 +74,10 @@ entryOk bs j = ltb (u16At bs (entryStart bs j) / 2) (edgesOf bs)
 abbrev pub entriesGood : List ℕ → Bool
 entriesGood bs = allBelow (entryOk bs) (edgesOf bs * 2)
 
+-- document 02, request 7: no later node lies below an earlier one by y, then x, equals allowed. The writer's 13 asks the same of what it is given
+abbrev pub nodesOrdered : List ℕ → Bool
+nodesOrdered bs = inOrder (nodeOf bs) (nodesOf bs)
+
 -- ---- parse
 
 abbrev pub clauses : List ℕ → TileKey → ℕ → List Bool
@@ -91,6 +92,7 @@ clauses bs key size =
     ∷ nodesGood bs size
     ∷ edgesGood bs
     ∷ entriesGood bs
+    ∷ nodesOrdered bs
     ∷ []
 
 unfoldable pub accepts : List ℕ → TileKey → ℕ → Bool

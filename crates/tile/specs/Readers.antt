@@ -1,9 +1,11 @@
 -- The public readers, each with its refusal: an index past its count is 7 (document 01, "Refused"). Assumes nothing.
 use Prim.Native.Nat.{ℕ, zero, suc, _+_, _-_, _*_, _/_, max}
-use mathlib.Core.Bool.{Bool, _&&_, _||_, cond}
+use mathlib.Core.Bool.{Bool, true, false, _&&_, cond}
 use mathlib.Core.List.{List}
-use lib.Dec.{leb, ltb, eqb}
+use lib.Dec.{ltb, eqb}
 use Rattle.tile.specs.Layout.{nodesOf, edgesOf, verticesOf, nodeOf, edgeOf, vertexOf, entryOf, pointOf, adjacencyStart, adjacencyEnd}
+use Rattle.tile.specs.Below.{anyBelow}
+pub use Rattle.tile.specs.Order.{before}
 use Rattle.tile.specs.declared.Node.{Node}
 use Rattle.tile.specs.declared.Edge.{Edge}
 use Rattle.tile.specs.declared.NodeRead.{NodeRead}
@@ -42,10 +44,6 @@ point bs e index = cond (hasPoint bs e index) (NodeRead.At (pointOf bs e index))
 
 -- ---- node_at: the binary search over the order of y, then x
 
--- (ay, ax) comes before (by, bx)
-abbrev pub before : ℕ → ℕ → ℕ → ℕ → Bool
-before ay ax by bx = ltb ay by || (eqb ay by && ltb ax bx)
-
 -- between low and high, the middle is looked at first; `left` bounds the steps, and as many as there are nodes are enough
 unfoldable pub search : ℕ → List ℕ → ℕ → ℕ → ℕ → ℕ → Found
 search zero bs x y low high = Found.Nothing
@@ -59,3 +57,17 @@ search (suc left) bs x y low high =
 
 unfoldable pub nodeAt : List ℕ → ℕ → ℕ → Found
 nodeAt bs x y = search (nodesOf bs) bs x y 0 (nodesOf bs)
+
+-- ---- which places are found: document 02, request 7. Of several nodes at one place the search finds one, and which is the search's own
+
+-- node i stands at (x, y)
+abbrev pub standsAt : List ℕ → ℕ → ℕ → ℕ → Bool
+standsAt bs x y i = eqb (nodeOf bs i .x) x && eqb (nodeOf bs i .y) y
+
+-- a node stands at (x, y)
+abbrev pub isThere : List ℕ → ℕ → ℕ → Bool
+isThere bs x y = anyBelow (standsAt bs x y) (nodesOf bs)
+
+abbrev pub isFound : Found → Bool
+isFound (Found.At i) = true
+isFound Found.Nothing = false

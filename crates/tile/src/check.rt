@@ -57,17 +57,25 @@ fn node_ok(bytes: &[u8], size: u32, last: u32, index: u32) -> bool
     pack::bytes::u16_at(bytes, at + 6) as u32 <= last
 }
 
-// Every node lies within the tile, and its adjacency start within the entries.
+// Every node lies within the tile, its adjacency start within the entries, and none lies below the node before it: (x, y). No place lies below (0, 0).
 fn all_nodes(bytes: &[u8], size: u32) -> bool
-    ensures { λ r. ⌜ r ≡ Parse.allBelow (Parse.nodeOk (now (bytes .entry)) size) (Layout.nodesOf (now (bytes .entry))) ⌝ }
+    ensures { λ r. ⌜ r ≡ (Parse.allBelow (Parse.nodeOk (now (bytes .entry)) size) (Layout.nodesOf (now (bytes .entry))) && Parse.nodesOrdered (now (bytes .entry))) ⌝ }
 {
     let nodes = pack::bytes::u16_at(bytes, 8) as u32;
     let last = (pack::bytes::u16_at(bytes, 10) as u32) * 2;
+    let mut x: u16 = 0;
+    let mut y: u16 = 0;
     let mut index: u32 = 0;
     while index < nodes {
         if !node_ok(bytes, size, last, index) {
             return false;
         }
+        let node = crate::raw::node(bytes, index as u16);
+        if crate::raw::before(node.y, node.x, y, x) {
+            return false;
+        }
+        x = node.x;
+        y = node.y;
         index += 1;
     }
     true
@@ -75,7 +83,7 @@ fn all_nodes(bytes: &[u8], size: u32) -> bool
 
 // Any size is cut to 65,535.
 pub fn nodes_good(bytes: &[u8], size: u32) -> bool
-    ensures { λ r. ⌜ r ≡ Parse.nodesGood (now (bytes .entry)) size ⌝ }
+    ensures { λ r. ⌜ r ≡ (Parse.nodesGood (now (bytes .entry)) size && Parse.nodesOrdered (now (bytes .entry))) ⌝ }
 {
     if 65535 < size {
         return all_nodes(bytes, 65535);

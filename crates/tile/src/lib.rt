@@ -8,7 +8,7 @@
 // | Edges     | 16 B   | from node, to node, first vertex u32, vertices u16, class, flags, road group, reserved                                              |
 // | Vertices  | 6 B    | x, y, z: the edge's interior points, from `from` to `to`                                                                            |
 //
-// Elevation `z` is fifths of a metre above -500 m. Nodes are sorted by (y, x). A node on the tile boundary continues in the neighbouring tile at the same point.
+// Elevation `z` is fifths of a metre above -500 m. Nodes are sorted by (y, x), which `parse` tests. A node on the tile boundary continues in the neighbouring tile at the same point.
 // The functions work on the tile's bytes and numbers; a byte past the end counts as 0.
 pub mod check;
 pub mod class;
@@ -115,7 +115,8 @@ pub fn length(nodes: u32, edges: u32, vertices: u32) -> u64
     32 + (nodes as u64) * 8 + (edges as u64) * 20 + (vertices as u64) * 6
 }
 
-// Check the CRC, the key, every count against the length, and every index, so that no reader of an accepted tile leaves its bytes.
+// Check the CRC, the key, every count against the length, and every index, so that no reader of an accepted tile leaves its bytes; and the order of its
+// nodes, so that `read::node_at` finds every node that is there.
 pub fn parse(bytes: &[u8], key: TileKey, size: u32) -> Parsed
     ensures { λ r. ⌜ r ≡ Parse.parse (now (bytes .entry)) key size ⌝ }
 {

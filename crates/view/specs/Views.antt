@@ -1,5 +1,6 @@
 -- The tile view: document 01, "The tile view is a record that holds the lent tile bytes". Assumes nothing.
 use Prim.Native.Nat.{ℕ}
+use mathlib.Core.Bool.{Bool, true, false}
 use mathlib.Core.List.{List}
 use denote.Ref.{RefT, now}
 use Rattle.pack.specs.declared.TileKey.{TileKey}
@@ -30,3 +31,9 @@ nodeAtIn (Parsed.Tile h) bs x y = foundAs (Readers.nodeAt bs x y)
 
 abbrev pub nodeAt : List ℕ → TileKey → ℕ → ℕ → ℕ → NodeFound
 nodeAt bs key size x y = nodeAtIn (Parse.parse bs key size) bs x y
+
+-- a node is found: document 02, request 7
+abbrev pub isAt : NodeFound → Bool
+isAt (NodeFound.At i) = true
+isAt NodeFound.Nothing = false
+isAt (NodeFound.Refused n) = false

@@ -84,7 +84,7 @@ module _ (g : GivenPack) (good : packGood g ≡ true) where
     key = keyIn (numbered (g .lengths) (g .tiles) i)
 
     in-grid : (ltb (key .row) (g .rows) && ltb (key .col) (g .cols)) ≡ true
-    in-grid = clause 3 (tileRules g (numbered (g .lengths) (g .tiles) i)) (good-at g (g .lengths) (g .tiles) i h (rule 2))
+    in-grid = clause 2 (tileRules g (numbered (g .lengths) (g .tiles) i)) (good-at g (g .lengths) (g .tiles) i h (rule 2))
 
     pub in-rows : key .row < g .rows
     in-rows = ltb-true _ _ (and-left (ltb (key .row) (g .rows)) (ltb (key .col) (g .cols)) in-grid)

@@ -77,6 +77,18 @@ module _ (g : Given) (ok : tileGood g ≡ true) (w : Widths g) where
   entry-ok j h =
       lt-ltb (u16At tile (entryStart tile j) / 2) (edgesOf tile) (omega (arith, written-entry g ok w j h, value-below g ok w j h, edges-read g ok w))
 
+  follows-same : (i : ℕ) → i < nodeCount g → follows (nodeOf tile) i ≡ follows (placeGiven (g .nodes)) i
+  unfolding follows
+  follows-same zero h = refl
+  follows-same (suc i) h = rw (written-node g ok w (suc i) h, written-node g ok w i (omega arith))
+
+  pub written-ordered : inOrder (nodeOf tile) (nodesOf tile) ≡ true
+  written-ordered =
+      every (follows (nodeOf tile)) (nodesOf tile)
+      (λ (i : ℕ) (h : i < nodesOf tile).
+      let l : i < nodeCount g = omega (arith, nodes-read g ok w) in
+      follows-same i l ∙ all-at (follows (placeGiven (g .nodes))) i (nodeCount g) l (good-order g ok))
+
   pub written-accepts : accepts tile (g .key) (g .size) ≡ true
   unfolding accepts
   written-accepts =
@@ -93,26 +105,13 @@ module _ (g : Given) (ok : tileGood g ≡ true) (w : Widths g) where
       (both (lt-ltb 0 (u32At tile At.lonUmAt) (omega (arith, lon-read g ok w, good-lon g ok)))
       (both (every (nodeOk tile (min (g .size) 65535)) (nodesOf tile) (λ (i : ℕ) (h : i < nodesOf tile). node-ok i (omega (arith, nodes-read g ok w))))
       (both (every (edgeOk tile) (edgesOf tile) (λ (i : ℕ) (h : i < edgesOf tile). edge-ok i (omega (arith, edges-read g ok w))))
-      (both (every (entryOk tile) (edgesOf tile * 2) (λ (j : ℕ) (h : j < edgesOf tile * 2). entry-ok j (omega (arith, edges-read g ok w)))) refl)))))))))
+      (both (every (entryOk tile) (edgesOf tile * 2) (λ (j : ℕ) (h : j < edgesOf tile * 2). entry-ok j (omega (arith, edges-read g ok w))))
+      (both written-ordered refl))))))))))
 
   pub written-parses : parse tile (g .key) (g .size)
       ≡ Parsed.Tile (record { key = g .key; nodes = nodeCount g; edges = edgeCount g; vertices = vertexCount g; «lon_um» = g .lonUm })
   unfolding parse
   written-parses = rw (written-accepts, written-head g ok w)
-
-  -- ---- in order
-
-  follows-same : (i : ℕ) → i < nodeCount g → follows (nodeOf tile) i ≡ follows (placeGiven (g .nodes)) i
-  unfolding follows
-  follows-same zero h = refl
-  follows-same (suc i) h = rw (written-node g ok w (suc i) h, written-node g ok w i (omega arith))
-
-  pub written-ordered : inOrder (nodeOf tile) (nodesOf tile) ≡ true
-  written-ordered =
-      every (follows (nodeOf tile)) (nodesOf tile)
-      (λ (i : ℕ) (h : i < nodesOf tile).
-      let l : i < nodeCount g = omega (arith, nodes-read g ok w) in
-      follows-same i l ∙ all-at (follows (placeGiven (g .nodes))) i (nodeCount g) l (good-order g ok))
 
   -- ---- the public readers
 

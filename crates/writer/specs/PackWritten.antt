@@ -13,9 +13,8 @@ use Rattle.pack.specs.Offsets as At
 use Rattle.pack.specs.Sector.{allOf, isTileSize, hasRows, hasCols, spansRows, spansCols}
 use Rattle.pack.specs.Grid.{inGrid}
 use Rattle.num.specs.Cast.{bits32}
-use Rattle.tile.specs.Layout.{headOf, nodeOf, nodesOf}
+use Rattle.tile.specs.Layout.{headOf}
 use Rattle.tile.specs.Parse.{accepts}
-use Rattle.tile.specs.Order.{inOrder}
 use Rattle.writer.specs.declared.Answer.{Answer}
 use Rattle.writer.specs.declared.Answer.the-variants as Answer
 use Rattle.writer.specs.Fields.{Field, put, holding}
@@ -171,7 +170,6 @@ abbrev pub tileRules : GivenPack → List ℕ → List Bool
 tileRules g bs =
     leb (length bs) 49152
     ∷ accepts bs (keyIn bs) (g .size)
-    ∷ inOrder (nodeOf bs) (nodesOf bs)
     ∷ inGrid (headerOf g) (keyIn bs)
     ∷ []
 

@@ -8,8 +8,6 @@ ghost use Prim.Native.Nat.{_≤_, _<_};
 ghost use lib.Dec.{eqb};
 ghost use lib.ListN.{length};
 ghost use Rattle.pack.specs.Sector as Sector;
-ghost use Rattle.tile.specs.Layout as Layout;
-ghost use Rattle.tile.specs.Order as Order;
 ghost use Rattle.tile.specs.Parse as Parse;
 ghost use Rattle.writer.specs.PackWritten as PackWritten;
 ghost use Rattle.writer.specs.PackSteps as Steps;
@@ -64,33 +62,6 @@ fn is_whole(tiles: &[u8], lengths: &[u32]) -> bool
     at == tiles.len()
 }
 
-// A node is not below the one before it.
-fn follows(bytes: &[u8], index: u16) -> bool
-    ensures { λ r. ⌜ r ≡ Order.follows (Layout.nodeOf (now (bytes .entry))) index ⌝ }
-{
-    if index == 0 {
-        return true;
-    }
-    let node = tile::raw::node(bytes, index);
-    let last = tile::raw::node(bytes, index - 1);
-    !tile::raw::before(node.y, node.x, last.y, last.x)
-}
-
-// Nodes in order of y, then x.
-fn in_order(bytes: &[u8]) -> bool
-    ensures { λ r. ⌜ r ≡ Order.inOrder (Layout.nodeOf (now (bytes .entry))) (Layout.nodesOf (now (bytes .entry))) ⌝ }
-{
-    let nodes = pack::bytes::u16_at(bytes, 8);
-    let mut index: u16 = 0;
-    while index < nodes {
-        if !follows(bytes, index) {
-            return false;
-        }
-        index += 1;
-    }
-    true
-}
-
 // The key that a tile's bytes name.
 pub fn key_in(bytes: &[u8]) -> TileKey
     ensures { λ r. ⌜ r ≡ PackWritten.keyIn (now (bytes .entry)) ⌝ }
@@ -111,7 +82,7 @@ fn accepts(bytes: &[u8], key: TileKey, size: u32) -> bool
     }
 }
 
-// One tile: its length, what `tile::parse` asks, the order of its nodes, and its place in the grid.
+// One tile: its length, what `tile::parse` asks, the order of its nodes among it, and its place in the grid.
 fn tile_is_good(grid: Grid, bytes: &[u8]) -> bool
     ensures { λ r. ⌜ r ≡ PackWritten.tileIsGood (Steps.given grid [] []) (now (bytes .entry)) ⌝ }
 {
@@ -120,9 +91,6 @@ fn tile_is_good(grid: Grid, bytes: &[u8]) -> bool
     }
     let key = key_in(bytes);
     if !accepts(bytes, key, grid.size) {
-        return false;
-    }
-    if !in_order(bytes) {
         return false;
     }
     if grid.rows <= key.row {

@@ -6,6 +6,7 @@ pub mod oracle;
 pub mod packs;
 pub mod refusals;
 pub mod script;
+pub mod unordered;
 
 use crate::random::{Random, pick};
 use crate::{Scale, ffi_cache, tally::Tally};
@@ -327,6 +328,9 @@ pub fn compare(scale: &Scale) -> Vec<Tally> {
         Tally::over("cache, all pages", scale, n / 20, all_pages),
         Tally::over("cache, orders of reads", scale, orders / stride, |tally, _, n| {
             ordered(&pack, n * stride).iter().for_each(|case| case.count(tally, "order"));
+        }),
+        Tally::over("cache, unordered tiles", scale, n, |tally, random, _| {
+            unordered::count(tally, random)
         }),
         refusals::compare(),
     ]

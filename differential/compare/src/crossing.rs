@@ -181,7 +181,7 @@ fn tile(random: &mut Random, key: TileKey, size: u32) -> Plain {
     let edges = edges.collect();
     let (starts, entries) = (Vec::new(), Vec::new());
     let mut plain = Plain { key, lon_um: 1, nodes, starts, entries, edges, vertices };
-    plain.link();
+    plain.sort();
     plain
 }
 

@@ -1,7 +1,7 @@
 //! What the port has to answer: what the Rust does, or the document's number where the Rust has
 //! no such refusal, panics or doesn't end.
 use crate::ffi_format::Answer;
-use crate::packs::{LIMIT, Words, edge_words, sector, words};
+use crate::packs::{LIMIT, Words, edge_words, place, sector, words};
 use oracle::geo::{self, Point};
 use oracle::pack::{Error, Header, Source, TileKey};
 use oracle::tile::{Edge, Node, Tile};
@@ -119,7 +119,7 @@ pub fn header_locate(grid: &Grid, entry: &[u8; 8]) -> Answer<2> {
     located.map(|(offset, length)| [offset, length]).ok_or(NONE)
 }
 
-/// A tile that the Rust accepted, with the bytes and counts that it keeps to itself.
+/// A tile that the Rust accepted and whose nodes stand in order, with the bytes and counts that it keeps to itself.
 pub struct View<'a> {
     pub bytes: &'a [u8],
     pub tile: Tile<'a>,
@@ -134,6 +134,10 @@ impl<'a> View<'a> {
         let tile = of_rust(|| Tile::parse(bytes, key, size))?.map_err(number)?;
         let vertices = u32::from_le_bytes(bytes[12..16].try_into().expect("4 bytes"));
         let (nodes, edges) = (tile.node_count() as u32, tile.edge_count() as u32);
+        // The Rust takes nodes in any order.
+        let sorted =
+            (0..nodes).map(|index| tile.node(index as u16)).is_sorted_by_key(|node| place(&node));
+        refuse(4, !sorted)?;
         Ok(Self { bytes, tile, nodes, edges, vertices })
     }
 

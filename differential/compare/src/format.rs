@@ -162,7 +162,7 @@ fn count_edges(tally: &mut Tally, random: &mut Random, v: &View, g: &Grid) {
     }
 }
 
-/// At every node and beside it, whether or not they are in the order that the search assumes.
+/// At every node and beside it.
 fn count_search(tally: &mut Tally, v: &View) {
     for node in (0..v.nodes).map(|index| v.tile.node(index as u16)) {
         for (right, up) in [(0, 0), (0, 1), (1, 0), (0, -1), (-1, 0)] {
@@ -216,6 +216,19 @@ fn sizes_and_keys(tally: &mut Tally, random: &mut Random) {
     }
 }
 
+/// Nodes out of order: the Rust takes them, the port answers 4. In order they are accepted.
+fn unordered(tally: &mut Tally, random: &mut Random) {
+    let (mut plain, size) = packs::unordered(random);
+    let (bytes, key @ [row, col]) = (plain.bytes(), plain.key());
+    let taken = Tile::parse(&bytes, plain.key, size).is_ok();
+    tally.count(taken, (key, size, &bytes), "the Rust refuses it", "");
+    let port = port::tile_parse(&bytes, row, col, size);
+    tally.same((key, size, &bytes), ("tile_parse", port, Err(4)));
+    plain.sort();
+    let view = count_parse(tally, &plain.bytes(), key, size).is_some();
+    tally.count(view, (key, size, plain.bytes()), "refused in order", "");
+}
+
 /// A field at its limit or one past it.
 fn tile_limits(tally: &mut Tally, random: &mut Random, n: u64) {
     let ((plain, size), g) = (packs::small(random), grid(random));
@@ -254,7 +267,7 @@ fn readers(tally: &mut Tally, random: &mut Random, n: u64) {
     let len = if n % 64 == 1 { MAX_TILE_BYTES } else { random.below(most) as usize };
     let (mut plain, size) = if n == 0 { packs::small(random) } else { packs::lone(random, len) };
     if n == 0 {
-        plain.nodes.resize(65_535, plain.nodes[0]);
+        plain.nodes.resize(65_535, plain.nodes[plain.nodes.len() - 1]);
         plain.edges.resize(65_535, plain.edges[0]);
         plain.link();
     }
@@ -342,6 +355,7 @@ pub fn compare(scale: &Scale) -> Vec<Tally> {
         over("tile parse, limits", n * SPOILT, tile_limits),
         over("tile parse, truncated", n, |tally, random, _| truncated(tally, random)),
         over("tile parse, bit flips", n / 8, |tally, random, _| bit_flips(tally, random)),
+        over("tile parse, unordered", 8 * n, |tally, random, _| unordered(tally, random)),
         over("tile readers", 8 * n, readers),
         over("tile readers, any bytes", 100 * n, |tally, random, _| any_bytes(tally, random)),
         over("whole packs", n / 2, |tally, random, _| whole_pack(tally, random)),

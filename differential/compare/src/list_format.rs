@@ -87,6 +87,10 @@ impl List {
             let (plain, _) = packs::small(random);
             self.tile(&plain.bytes(), plain.key(), size);
         }
+        for _ in 0..4 {
+            let (plain, size) = packs::unordered(random);
+            self.tile(&plain.bytes(), plain.key(), size);
+        }
         let empty = packs::lone(random, 32).0;
         (0..=32).step_by(8).for_each(|len| self.tile(&empty.bytes()[..len], empty.key(), 1));
     }

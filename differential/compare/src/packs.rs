@@ -127,6 +127,11 @@ pub struct Plain {
     pub vertices: Vec<Node>,
 }
 
+/// What nodes are ordered by: y, then x.
+pub fn place(node: &Node) -> (u16, u16) {
+    (node.y, node.x)
+}
+
 /// Repairs a tile's CRC, if it is long enough to hold one.
 pub fn seal(bytes: &mut [u8]) {
     if bytes.len() >= 28 {
@@ -177,6 +182,24 @@ impl Plain {
         self.entries = lists.concat();
     }
 
+    /// Nodes by y, then x, as `Tile::parse` wants them; edges and entries follow.
+    pub fn sort(&mut self) {
+        let mut order: Vec<usize> = (0..self.nodes.len()).collect();
+        order.sort_by_key(|&n| place(&self.nodes[n]));
+        let mut number = vec![0; order.len()];
+        order.iter().enumerate().for_each(|(to, &from)| number[from] = to as u16);
+        self.nodes = order.iter().map(|&n| self.nodes[n]).collect();
+        for edge in &mut self.edges {
+            (edge.from, edge.to) = (number[usize::from(edge.from)], number[usize::from(edge.to)]);
+        }
+        self.link();
+    }
+
+    /// Whether no later node lies below an earlier one.
+    pub fn is_sorted(&self) -> bool {
+        self.nodes.is_sorted_by_key(place)
+    }
+
     /// An edge between two of the nodes, with vertices about the line, so some past the tile.
     fn road(&mut self, random: &mut Random, size: u32, count: usize) {
         let [from, to] = [0; 2].map(|_| random.below(self.nodes.len() as u64) as u16);
@@ -223,24 +246,24 @@ pub fn tile(random: &mut Random, key: TileKey, size: u32, nodes: Vec<Node>, len:
     plain
 }
 
-/// Some nodes anywhere in a tile, often on its edge.
+/// Some nodes anywhere in a tile, often on its edge, in order.
 pub fn nodes(random: &mut Random, size: u32, count: usize) -> Vec<Node> {
-    let mut place = || {
+    let mut some = || {
         let some = random.below(u64::from(size) + 1) as u16;
         pick(&[0, size as u16, some, some, some, some], random)
     };
-    (0..count).map(|_| Node { x: place(), y: place(), z: place() }).collect()
+    let mut nodes: Vec<Node> =
+        (0..count).map(|_| Node { x: some(), y: some(), z: some() }).collect();
+    nodes.sort_by_key(place);
+    nodes
 }
 
-/// A tile alone and its size: in order, or with nodes out of order or starts that fall.
+/// A tile alone and its size; one in four has starts that fall.
 pub fn lone(random: &mut Random, len: usize) -> (Plain, u32) {
     let size = pick(&[1, 1_000, 20_000, 65_535, 1 + random.below(65_535) as u32], random);
     let key = TileKey { row: random.below(4) as u16, col: random.below(4) as u16 };
     let count = random.below(len.saturating_sub(32) as u64 / 16 + 1) as usize;
-    let mut nodes = nodes(random, size, count);
-    if random.below(4) > 0 {
-        nodes.sort_by_key(|node| (node.y, node.x));
-    }
+    let nodes = nodes(random, size, count);
     let mut plain = tile(random, key, size, nodes, len);
     if random.below(4) == 0 {
         let last = plain.entries.len().min(65_535) as u64;
@@ -255,6 +278,24 @@ pub fn small(random: &mut Random) -> (Plain, u32) {
         let len = 70 + 2 * random.below(60) as usize;
         let (plain, size) = lone(random, len);
         if !plain.edges.is_empty() && !plain.vertices.is_empty() {
+            return (plain, size);
+        }
+    }
+}
+
+/// A tile of under 200 bytes that is good but for the order of its nodes, and its size: two change
+/// places, or one lies below the one before it by y, or by x at the same y.
+pub fn unordered(random: &mut Random) -> (Plain, u32) {
+    loop {
+        let (mut plain, size) = small(random);
+        let n = random.below(plain.nodes.len() as u64) as usize;
+        let (last, before) = (plain.nodes.len() - 1, plain.nodes[n.saturating_sub(1)]);
+        match random.below(3) {
+            0 => plain.nodes.swap(n, random.below(last as u64 + 1) as usize),
+            1 => plain.nodes[n].y = before.y.saturating_sub(1),
+            _ => (plain.nodes[n].y, plain.nodes[n].x) = (before.y, before.x.saturating_sub(1)),
+        }
+        if !plain.is_sorted() {
             return (plain, size);
         }
     }
@@ -304,7 +345,7 @@ pub fn pack(random: &mut Random) -> Pack {
         let inner = random.below(20) as usize;
         let mut nodes = [portals(seed, row, col, size), nodes(random, size, inner)].concat();
         nodes.truncate(if random.below(8) == 0 { 0 } else { 100 });
-        nodes.sort_by_key(|node| (node.y, node.x));
+        nodes.sort_by_key(place);
         let len = pick(&[0, 600, 600, 2_000, 2_000, 8_192, MAX_TILE_BYTES], random);
         let key = TileKey { row: row as u16, col: col as u16 };
         let roads = Some(tile(random, key, size, nodes, len)).filter(|_| random.below(6) > 0);
@@ -340,6 +381,10 @@ pub fn spoilt(random: &mut Random, plain: &Plain, size: u32, way: u64) -> Vec<u8
         14 | 15 => tile.entries[entry] = 2 * (edges as u16 - 1 + past) + random.below(2) as u16,
         16 | 17 => tile.lon_um = u32::from(1 - past),
         _ => {}
+    }
+    // A node at the tile's far edge stands behind the others.
+    if way < 4 {
+        tile.sort();
     }
     let mut bytes = tile.bytes();
     match way {

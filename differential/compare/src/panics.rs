@@ -163,6 +163,12 @@ fn tiles(tally: &mut Tally) {
     let (north, given) = (north(south), format!("a node with y 1 in row 0, south {south}"));
     let port = port::edge_point(&words(&north), bytes, &edge_words(&edge, 0), 0);
     row!(tally, "geo::edge_point", given, geo::edge_point(&north, &one, &edge, 0), port, 12);
+    let nodes = [1, 0].map(|x| Node { x, y: 0, z: 0 }).to_vec();
+    let bytes = &tile(random, key, 1, nodes, 48).bytes();
+    let given = "48 bytes: two nodes at y 0, the first at x 1, the second at x 0";
+    let taken = Tile::parse(bytes, key, 1).is_ok();
+    let told = if taken { "accepts it" } else { "refuses it" };
+    row!(tally, "Tile::parse", given, told: told, port::tile_parse(bytes, 0, 0, 1), 4);
 }
 
 fn geometry(tally: &mut Tally) {

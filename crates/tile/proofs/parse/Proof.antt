@@ -6,7 +6,8 @@ use native.Mathlib.Omega.{arith}
 use borrow.Author.Tests.{not-true, not-false, lt-ltb}
 use borrow.Author.Needs.{needs}
 use Rattle.tile.specs.Parse as Parse
-use Rattle.tile.proofs.Clauses.{refused-by, head-first}
+use Rattle.tile.proofs.Laws.{and-left, and-right}
+use Rattle.tile.proofs.Clauses.{refused-by, refused-by-nodes, head-first}
 use Rattle.tile.proofs.parse.Statement.{statement}
 use Rattle.tile.proofs.parse.Tie as tie
 
@@ -45,7 +46,7 @@ nodes-good-requires : tie.Need-nodes-good-requires
 nodes-good-requires c κs = search needs
 
 returns-6 : tie.Need-returns-6
-returns-6 c = refused-by _ _ _ 7 (sym (c .before .nodes-good .ensures) ∙ not-true _ (c .if6 .taken))
+returns-6 c = refused-by-nodes _ _ _ (sym (c .before .nodes-good .ensures) ∙ not-true _ (c .if6 .taken))
 
 edges-good-requires : tie.Need-edges-good-requires
 edges-good-requires c κs = search needs
@@ -65,6 +66,9 @@ head-requires c κs = search needs
 returns-9 : tie.Need-returns-9
 unfolding Parse.parse
 returns-9 c =
+    let bytes = c .before .before .before .before .before .before .before .before .before .before .before .before .before .before .before .before .before .before .args .bytes .now in
+    let size = c .before .before .before .before .before .before .before .before .before .before .before .before .before .before .before .before .before .before .args .size in
+    let nodes = sym (c .before .before .before .before .before .before .nodes-good .ensures) ∙ not-false _ (c .before .before .before .before .before .if6 .left) in
     let positive : 0 < c .before .before .before .before .before .before .before .before .u32-at .result = omega arith in
     rw (
       c .head .ensures,
@@ -75,7 +79,8 @@ returns-9 c =
       sym (c .before .before .before .before .before .before .before .before .before .before .is-length .ensures) ∙ not-false _ (c .before .before .before .before .before .before .before .before .before .if4 .left),
       ← c .before .before .before .before .before .before .before .before .u32-at .ensures,
       lt-ltb _ _ positive,
-      sym (c .before .before .before .before .before .before .nodes-good .ensures) ∙ not-false _ (c .before .before .before .before .before .if6 .left),
+      and-left (Parse.nodesGood bytes size) (Parse.nodesOrdered bytes) nodes,
+      and-right (Parse.nodesGood bytes size) (Parse.nodesOrdered bytes) nodes,
       sym (c .before .before .before .before .edges-good .ensures) ∙ not-false _ (c .before .before .before .if7 .left),
       sym (c .before .before .entries-good .ensures) ∙ not-false _ (c .before .if8 .left),
     )

@@ -202,6 +202,13 @@ pub fn many(random: &mut Random) -> Pack {
     built.pack()
 }
 
+/// One tile, at key 0.
+pub fn one(bytes: &[u8], size: u32) -> Pack {
+    let mut built = begun(1, 1, size);
+    built.put(bytes);
+    built.pack()
+}
+
 /// Tiles of the given lengths, one column.
 pub fn of(lens: &[usize]) -> Pack {
     let random = &mut Random(lens.len() as u64);

@@ -152,7 +152,7 @@ fn words(kind: u32, key: u32) -> Vec<u32> {
     if kind == LOAD { vec![key, 0, ENTRY, 8] } else { vec![key] }
 }
 
-fn refuse(writer: &mut Writer, kinds: &[u32], key: u32, number: u32) {
+pub fn refuse(writer: &mut Writer, kinds: &[u32], key: u32, number: u32) {
     for &kind in kinds {
         let record = record(kind, &words(kind, key));
         writer.put_ending(record, [REFUSED, number, 0, 0]);
@@ -160,7 +160,7 @@ fn refuse(writer: &mut Writer, kinds: &[u32], key: u32, number: u32) {
 }
 
 /// Calls that end as the Rust's.
-fn ask(writer: &mut Writer, kinds: &[u32], key: u32) {
+pub fn ask(writer: &mut Writer, kinds: &[u32], key: u32) {
     for &kind in kinds {
         writer.put(kind, &[key]);
     }

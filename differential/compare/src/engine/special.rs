@@ -6,7 +6,7 @@ use super::trips::{Host, aged};
 use super::{Case, Writer, packs};
 use crate::matching::roads::{Fate, Grid, Network, Place, Road};
 use crate::random::{Random, pick};
-use crate::road::networks::{highway, plain, sort};
+use crate::road::networks::{highway, plain};
 use crate::tally::Tally;
 use oracle_angles::cache::PAGE_BYTES;
 
@@ -41,7 +41,7 @@ fn ring(random: &mut Random) -> Case {
         let there = u64::from(key.row) * 10 + u64::from(key.col);
         if (there + kept) % 9 == 0 { Fate::There } else { Fate::Left }
     };
-    let network = Network::with(grid, roads, fate, sort);
+    let network = Network::new(grid, roads, fate);
     let sled = Sled::new(&network);
     let arena = vec![random.next() as u8; (1 + random.below(3) as usize) * PAGE_BYTES];
     Case::new(vec![network.pack.bytes.clone()], arena, |writer| {

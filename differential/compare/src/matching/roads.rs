@@ -226,7 +226,7 @@ fn plain(key: TileKey, lon_um: u32, tile: Tile) -> Plain {
     let Tile { nodes, edges, vertices, .. } = tile;
     let (starts, entries) = (Vec::new(), Vec::new());
     let mut plain = Plain { key, lon_um, nodes, starts, entries, edges, vertices };
-    plain.link();
+    plain.sort();
     plain
 }
 

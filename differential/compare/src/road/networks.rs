@@ -1,5 +1,5 @@
-//! Packs with networks of roads for predictions, from a seed: their tiles have their nodes in
-//! order, so that twins are found, and some are changed as no builder would.
+//! Packs with networks of roads for predictions, from a seed; some tiles are changed as no builder
+//! would.
 use super::town::{Kind, Town, Trail};
 use crate::matching::roads::{Fate, Grid, LARGEST, Network, Road};
 use crate::packs::Plain;
@@ -9,19 +9,6 @@ use oracle::tile::{Edge, Node};
 /// Bytes of a tile.
 fn len(plain: &Plain) -> usize {
     32 + 8 * plain.nodes.len() + 20 * plain.edges.len() + 6 * plain.vertices.len()
-}
-
-/// Nodes by row and column, as the search for a twin goes by; edges and entries follow.
-pub fn sort(plain: &mut Plain) {
-    let mut order: Vec<usize> = (0..plain.nodes.len()).collect();
-    order.sort_by_key(|&n| (plain.nodes[n].y, plain.nodes[n].x));
-    let mut place = vec![0; order.len()];
-    order.iter().enumerate().for_each(|(to, &from)| place[from] = to as u16);
-    plain.nodes = order.iter().map(|&n| plain.nodes[n]).collect();
-    for edge in &mut plain.edges {
-        (edge.from, edge.to) = (place[usize::from(edge.from)], place[usize::from(edge.to)]);
-    }
-    plain.link();
 }
 
 /// Edges without length between an edge and its end, each with a node of its own.
@@ -42,6 +29,7 @@ fn stretch(plain: &mut Plain, random: &mut Random) {
         let vertices = 0;
         plain.edges.push(Edge { from, to: last, first_vertex: 0, vertices, ..plain.edges[n] });
     }
+    plain.sort();
 }
 
 /// Vertices of no edge, so that the tile takes another number of pages.
@@ -69,7 +57,6 @@ struct Changes {
     stretched: u64,
     padded: u64,
     scrambled: u64,
-    unsorted: u64,
     /// Another scale of longitude for one tile in so many.
     scaled: u64,
 }
@@ -84,7 +71,6 @@ impl Changes {
             stretched: pick(&[0, 0, 0, 2], random),
             padded: pick(&[0, 0, 0, 1, 3], random),
             scrambled: pick(&[0, 0, 0, 0, 0, 0, 0, 3], random),
-            unsorted: pick(&[0, 0, 0, 0, 0, 0, 0, 2], random),
             scaled: pick(&[0, 0, 0, 0, 0, 0, 0, 0, 0, 0, 0, 2], random),
         }
     }
@@ -92,11 +78,6 @@ impl Changes {
     fn change(&self, plain: &mut Plain, random: &mut Random) {
         if one_in(random, self.stretched) {
             stretch(plain, random);
-        }
-        if one_in(random, self.unsorted) {
-            plain.link();
-        } else {
-            sort(plain);
         }
         if one_in(random, self.scrambled) {
             scramble(plain, random);
@@ -144,9 +125,9 @@ fn built(grid: Grid, roads: Vec<Road>, random: &mut Random) -> Network {
     Network::with(grid, roads, fate, |plain| changes.change(plain, &mut other))
 }
 
-/// Tiles in order and nothing else changed.
+/// Every tile there, and none changed.
 pub fn plain(grid: Grid, roads: Vec<Road>) -> Network {
-    Network::with(grid, roads, |_| Fate::There, sort)
+    Network::new(grid, roads, |_| Fate::There)
 }
 
 /// One road of one name that goes east over all columns of a grid of one row, in pieces of so many

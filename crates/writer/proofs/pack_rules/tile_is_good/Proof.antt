@@ -28,31 +28,21 @@ returns-2 c =
     let args = c .before .before .before .before .before .args in
     sym (tile-broken (given (args .grid) [] []) (args .bytes .now) 1 (rw (← key-in .ensures) (sym (c .before .accepts .ensures) ∙ not-true _ (c .if2 .taken))))
 
-in-order-requires : tie.Need-in-order-requires
-in-order-requires c κs = search needs
-
 returns-3 : tie.Need-returns-3
 returns-3 c =
-    let args = c .before .before .before .before .before .before .before .args in
-    sym (tile-broken (given (args .grid) [] []) (args .bytes .now) 2 (sym (c .before .in-order .ensures) ∙ not-true _ (c .if3 .taken)))
+    let key-in = c .before .before .before .before .before .key-in in
+    let args = c .before .before .before .before .before .before .before .before .args in
+    let row = ap (λ (k : TileKey). k .row) (key-in .ensures) in sym (tile-broken (given (args .grid) [] []) (args .bytes .now) 2 (rw (← row, le-ltb _ _ (c .if3 .taken))))
 
 returns-4 : tie.Need-returns-4
 returns-4 c =
+    let if3 = c .before .before .if3 in
+    let if2 = c .before .before .before .before .before .if2 in
+    let accepts = c .before .before .before .before .before .before .accepts in
     let key-in = c .before .before .before .before .before .before .before .key-in in
+    let if1 = c .before .before .before .before .before .before .before .before .if1 in
     let args = c .before .before .before .before .before .before .before .before .before .before .args in
-    let row = ap (λ (k : TileKey). k .row) (key-in .ensures) in sym (tile-broken (given (args .grid) [] []) (args .bytes .now) 3 (rw (← row, le-ltb _ _ (c .if4 .taken))))
-
-returns-5 : tie.Need-returns-5
-returns-5 c =
-    let if4 = c .before .before .if4 in
-    let if3 = c .before .before .before .before .before .if3 in
-    let in-order = c .before .before .before .before .before .before .in-order in
-    let if2 = c .before .before .before .before .before .before .before .if2 in
-    let accepts = c .before .before .before .before .before .before .before .before .accepts in
-    let key-in = c .before .before .before .before .before .before .before .before .before .key-in in
-    let if1 = c .before .before .before .before .before .before .before .before .before .before .if1 in
-    let args = c .before .before .before .before .before .before .before .before .before .before .before .before .args in
-    let row = ap (λ (k : TileKey). k .row) (key-in .ensures) in let col = ap (λ (k : TileKey). k .col) (key-in .ensures) in rw (le-leb _ _ (if1 .left), ← key-in .ensures, sym (accepts .ensures) ∙ not-false _ (if2 .left), sym (in-order .ensures) ∙ not-false _ (if3 .left), ← row, ← col, lt-ltb _ _ (if4 .left), and-true (ltb (key-in .result .col) (args .grid .cols)))
+    let row = ap (λ (k : TileKey). k .row) (key-in .ensures) in let col = ap (λ (k : TileKey). k .col) (key-in .ensures) in rw (le-leb _ _ (if1 .left), ← key-in .ensures, sym (accepts .ensures) ∙ not-false _ (if2 .left), ← row, ← col, lt-ltb _ _ (if3 .left), and-true (ltb (key-in .result .col) (args .grid .cols)))
 
 pub tile-is-good-spec : {M : Type 1} → statement M
 tile-is-good-spec =
@@ -62,7 +52,5 @@ tile-is-good-spec =
     key-in-requires
     accepts-requires
     returns-2
-    in-order-requires
     returns-3
-    returns-4
-    returns-5)
+    returns-4)
