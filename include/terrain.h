@@ -8,7 +8,7 @@
  *   3 a header rule is broken                10 a start outside its tile
  *   4 a CRC, a tile rule, a bad entry        11 a delivery that no open fetch fits
  *   5 a tile is neither ready nor missing    12 a state, header, count or arena that can't be
- *   6 the start's tile is missing or another 13 given to a writer: what a reader would refuse
+ *   6 the start's tile is missing or another 13 (the writer's, which is not among these functions)
  *   7 an index past the tile                 14 the output is too short, or a total passes 32 bits */
 #ifndef TERRAIN_H
 #define TERRAIN_H

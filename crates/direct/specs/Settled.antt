@@ -1,6 +1,6 @@
 -- The customer's corollary in its own words: "only through which fixes were matched before it and what a reset clears" (demand 3). It holds of hosts that
--- call `step` until it is idle before they give the next fix: where a fix is taken, nothing is due. Then where a match was cleared is decided by what
--- the story says beside it, and can be left out. What carries it is a law of every list, `AllCleared`: unless a road is due, a step off the map
+-- call `step` until it answers neither Working nor Fetch before they give the next fix: where a fix is taken, nothing is due. Then where a match was
+-- cleared is decided by what the story says beside it, and can be left out. What carries it is a law of every list, `AllCleared`: unless a road is due, a step off the map
 -- clears the matcher where it has a match.
 use Prim.Native.Nat.{ℕ, _≤_}
 use mathlib.Core.Path.{_≡_}
