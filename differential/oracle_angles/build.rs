@@ -1,4 +1,4 @@
-//! Copies the original to target/terrain_angles, changes its two angle functions, links libabi.a.
+//! Copies the original to target/terrain_angles, changes its two angle functions, links libterrain.a.
 //! The fields of a matcher's, a cache's and an engine's state are made public, and matcher,
 //! prediction and engine count which of their ways they take: neither changes an answer.
 mod engine;
@@ -31,8 +31,8 @@ const BEARING: &str = "    let degrees = libm::atan2f(east, north).to_degrees();
         degrees + 360.0
 ";
 /// The port's degrees as a whole; what it refuses goes on to the Rust's own lines.
-const BEARING_OF_PORT: &str = "    let mut degrees = 0.0;
-    if crate::terrain_bearing(east, north, &mut degrees) == 0 { return degrees; }
+const BEARING_OF_PORT: &str = "    let answer = crate::terrain_bearing(east, north);
+    if answer.number == 0 { return answer.degrees; }
     let degrees = libm::atan2f(east, north).to_degrees();
     if degrees < 0.0 {
         degrees + 360.0
@@ -264,10 +264,10 @@ fn main() {
         let text = changes.iter().fold(text, |text, (old, new)| changed(file, &text, old, new));
         fs::write(copies.join(file), text).expect(file);
     }
-    let library = env::var_os("ABI_LIB_DIR")
+    let library = env::var_os("TERRAIN_LIB_DIR")
         .map_or_else(|| differential.join("../target/staticlib"), PathBuf::from);
-    println!("cargo:rerun-if-env-changed=ABI_LIB_DIR");
-    println!("cargo:rerun-if-changed={}", library.join("libabi.a").display());
+    println!("cargo:rerun-if-env-changed=TERRAIN_LIB_DIR");
+    println!("cargo:rerun-if-changed={}", library.join("libterrain.a").display());
     println!("cargo:rustc-link-search=native={}", library.display());
-    println!("cargo:rustc-link-lib=static=abi");
+    println!("cargo:rustc-link-lib=static=terrain");
 }

@@ -1,5 +1,4 @@
 -- The steps of the arc tangent: the square of a ratio is a ratio, the series gives the value, and that is at most 45 degrees.
--- Assumes nothing.
 use Prim.Native.Nat.{ℕ, _*_, _/_, _^_, _≤_, _<_, min}
 use native.Mathlib.Nat.{mul-le-mul, min-le-right, min-eq-left, min-eq-right, le-of-lt}
 use native.Mathlib.Omega.{arith}

@@ -1,7 +1,6 @@
 -- The bearing of a vector that is not zero lies in every closed eighth of the circle that holds the vector: `in-eighth`.
 -- An eighth's place, its two sides of the compass and its half of their quarter, tells how `angle` mirrors the quarter's angle, and so between which two whole degrees
 -- the angle lies. Rounding keeps the order, and the marks are those degrees rounded. A vector due north or south has no angle worked out: its bearing is a zero or 180.
--- Assumes nothing.
 use Prim.Native.Nat.{ℕ, _+_, _-_, _*_, _≤_, _<_, zero-le}
 use mathlib.Core.Path.{_≡_, refl}
 use mathlib.Core.Logic.{_↔_}

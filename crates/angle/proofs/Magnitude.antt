@@ -1,6 +1,5 @@
 -- The magnitude of a single float from its pattern: by the pattern's fields, in the order of the patterns, and the same with the sign's bit cleared.
 -- The idea: below the infinity's, patterns are in the order of what their fields count, since a field's largest count is below the next field's least.
--- Assumes nothing.
 use Prim.Native.Nat.{ℕ, zero, suc, _+_, _-_, _*_, _/_, _%_, _^_, _≤_, _<_}
 use native.Mathlib.Nat.{mul-one, zero-mul, mul-div-cancel, div-eq-of-lt, mod-eq-of-lt, le-of-lt, le-of-eq, lt-of-lt-of-le, lt-of-not-le, eq-or-lt-of-le, mul-le-mul, mul-lt-mul-of-pos-right, pow-suc}
 use native.Mathlib.Omega.{arith}

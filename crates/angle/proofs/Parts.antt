@@ -1,6 +1,6 @@
 -- A finite single float counted in the smallest one, 2 ^ -149: how far it lies above zero, `ahead`, and how far below, `behind`. One of the two is 0.
 -- Then x < y is `ahead x + behind y < ahead y + behind x`, and x = y the same with `≡`: statements about whole numbers, which `omega` reads (`compared`, `le-parts`).
--- Against zero: `negative-is`, `zero-is`, `only-zeros`, and `mirrored`, for an angle that is mirrored where a value is negative. Assumes nothing.
+-- Against zero: `negative-is`, `zero-is`, `only-zeros`, and `mirrored`, for an angle that is mirrored where a value is negative.
 use Prim.Native.Nat.{ℕ, zero, suc, _+_, _-_, _*_, _/_, _^_, _≤_, _<_, min}
 use mathlib.Core.Path.{_≡_, refl, sym, ap, _∙_}
 use mathlib.Core.Logic.{_↔_, Iff·trans}

@@ -1,6 +1,6 @@
 -- The angle of a vector whose parts are not negative, `quarter`: at most 45 degrees where the vector reaches no further east than north, between 45 and 90 where it
 -- reaches no further north than east, and 90 where it has no part to the north. The arc tangent is cut at 45 degrees, and at the ratio 1 it is exactly 45,
--- as the coefficients add up to that. So nothing here rests on how near the series comes to the arc tangent. Assumes nothing.
+-- as the coefficients add up to that. So nothing here rests on how near the series comes to the arc tangent.
 use Prim.Native.Nat.{ℕ, _-_, _*_, _^_, _≤_, _<_}
 use mathlib.Core.Path.{_≡_, refl}
 use mathlib.Core.Bool.{Bool, true, false, cond}

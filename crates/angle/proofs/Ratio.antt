@@ -1,6 +1,5 @@
 -- The ratio of two magnitudes from their digits and shifts: the powers of 2 cancel, and only the difference of the shifts is left.
 -- The idea: the leading digit is set unless the shift is 0, so the larger magnitude has the larger shift.
--- Assumes nothing.
 use Prim.Native.Nat.{ℕ, suc, _-_, _*_, _/_, _^_, _≤_, _<_}
 use native.Mathlib.Nat.{mul-assoc, mul-right-comm, lt-of-not-le, le-of-suc-le-suc, mul-le-mul, mul-le-mul-right, mul-lt-mul-of-pos-right, sub-add-cancel, div-le-of-le-mul, div-div-eq-div-mul, div-eq-of-lt, lt-of-le-of-lt, lt-of-lt-of-le, div-le-self, mul-div-mul-right, pow-suc}
 use native.Mathlib.Omega.{arith}

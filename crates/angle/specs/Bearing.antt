@@ -1,6 +1,5 @@
 -- The bearing of a vector, as docs/ANGLES.md states its steps: document 01, `geo::bearing`, degrees clockwise from north.
 -- It is worked out in whole numbers, from the vector's magnitudes to an angle in 2 ^ -32 degree, and rounded to a single float once.
--- Assumes nothing.
 use Prim.Native.Nat.{ℕ, _-_, _*_, _/_, _^_, min}
 use mathlib.Core.Bool.{false, _&&_, cond}
 use mathlib.Core.List.{List, [], _∷_}

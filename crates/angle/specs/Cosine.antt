@@ -1,6 +1,5 @@
 -- The cosine for `lon_scale_um`, and that function, as docs/ANGLES.md states their steps: `engine.rs`, L433 to L436, where the cosine alone is replaced.
 -- Each step is one operation of IEEE 754, rounded once: the cosine's in double floats, those around it in single ones.
--- Assumes nothing.
 use Prim.Native.Nat.{ℕ, _%_}
 use mathlib.Core.Bool.{cond}
 use lib.Dec.{eqb}

@@ -1,6 +1,5 @@
 -- The closed eighths of the circle: document 01, "a bearing lies in the same closed eighth of the circle as its vector, if that is not zero; 0 and 360 are one direction".
 -- An eighth has the name of the compass point at its middle: nne is from north to north-east, 0 to 45 degrees, both ends in it. A vector on the line between two lies in both.
--- Assumes nothing.
 use Prim.Native.Nat.{ℕ, _+_}
 use mathlib.Core.Bool.{Bool, false, _&&_, _||_}
 use lib.IntN.{pos}

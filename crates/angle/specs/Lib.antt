@@ -3,3 +3,5 @@ pub mod Bearing
 pub mod Eighths
 pub mod Cosine
 pub mod Significand
+-- The number of each answer.
+pub mod Numbers

@@ -1,4 +1,4 @@
--- What the private `significand` answers of a pattern. Assumes nothing.
+-- What the private `significand` answers of a pattern.
 use Prim.Native.Nat.{ℕ, _*_, _^_, _≤_, _<_}
 use mathlib.Core.Path.{_≡_}
 use lib.Ieee.{binary32, ofBits}

@@ -1,11 +1,12 @@
--- The table of bench lines holds: every line is computed from the definitions. Assumes nothing.
+-- The table of bench lines holds: every line is computed from the definitions.
 use mathlib.Core.Path.{_≡_, refl}
 use mathlib.Core.List.{[]}
 use lib.Ieee.{Float}
 use lib.Ieee.{ofInt, ofBits, toBits, units}
 use Rattle.crc.specs.Fcs.{add, lower, divide, remainder, zeros, bits, number, message, fcs, crc32}
 use Rattle.num.specs.Root.{rootIn, wholeRoot, nearRoot, squareRoot}
-use Rattle.pack.specs.Grid.{keyOf, checkedOf, entryOf}
+use Rattle.pack.specs.Sector.{rules}
+use Rattle.pack.specs.Grid.{key, entry, keyOf, checkedOf, entryOf}
 use Rattle.cache.specs.Runs.{span}
 use Rattle.cache.specs.Victim.{age, leastOf, bestOf}
 use Rattle.num.specs.Fold.{upTo}
@@ -25,7 +26,7 @@ unfolding fix
 past-limit horizon = rw (new-ok [] horizon)
 
 pub lines : Lines
-unfolding add lower divide remainder zeros bits number message fcs crc32 ofInt rootIn wholeRoot nearRoot squareRoot ofBits toBits units keyOf checkedOf entryOf span age leastOf bestOf upTo push twinStep twinsTo
+unfolding add lower divide remainder zeros bits number message fcs crc32 ofInt rootIn wholeRoot nearRoot squareRoot ofBits toBits units rules key entry keyOf checkedOf entryOf span age leastOf bestOf upTo push twinStep twinsTo
 lines = record {
   crc-of-digits = refl;
   crc-of-nothing = refl;

@@ -1,6 +1,5 @@
 -- Document 01, "Bench lines, all marked": each line as a fact about the definitions, together as one table. `proofs/Table` proves it.
--- Assumes nothing.
-use Prim.Native.Nat.{ℕ}
+use Prim.Native.Nat.{ℕ, _+_, _*_}
 use mathlib.Core.Path.{_≡_}
 use mathlib.Core.Bool.{false}
 use mathlib.Core.List.{[], _∷_}
@@ -9,10 +8,11 @@ use lib.IntN.{ℤ, pos, negsuc}
 use lib.Ieee.{Float, fin, binary32, ofInt, ofBits, toBits}
 use Rattle.crc.specs.Fcs.{crc32}
 use Rattle.num.specs.Root.{squareRoot}
-use Rattle.pack.specs.Grid.{keyOf, entryOf}
+use Rattle.pack.specs.Grid.{key, entry}
 use Rattle.pack.specs.declared.Header.{Header}
 use Rattle.pack.specs.declared.TileKey.{TileKey}
 use Rattle.pack.specs.declared.Keyed.the-variants.{In, Outside}
+use Rattle.pack.specs.declared.Offset.the-variants as Offset
 use Rattle.tile.specs.Layout.{length}
 use Rattle.cache.specs.Runs.{span, emptySlot}
 use Rattle.cache.specs.Victim.{victim}
@@ -25,7 +25,7 @@ use Rattle.engine.specs.Calls.{new, fix}
 use Rattle.engine.specs.declared.Taken.the-variants as Taken
 use Rattle.predict.specs.declared.twins.Twin.{Twin}
 
--- a header with these grid fields and all others 0
+-- a header with these grid fields, its data behind the directory and nothing behind them
 abbrev gridOf : ℕ → ℕ → ℕ → ℕ → Header
 gridOf size rows cols directory = record {
   tile = size;
@@ -34,16 +34,16 @@ gridOf size rows cols directory = record {
   rows = rows;
   cols = cols;
   directory = directory;
-  «data» = 0;
-  total = 0;
+  «data» = directory + rows * cols * 8;
+  total = directory + rows * cols * 8;
   tiles = 0;
   created = 0;
   «attribution_offset» = 0;
   «attribution_len» = 0;
 }
 
-abbrev key : ℕ → ℕ → TileKey
-key row col = record { row = row; col = col }
+abbrev cell : ℕ → ℕ → TileKey
+cell row col = record { row = row; col = col }
 
 -- south 0, size 1,000, 2 rows
 abbrev twoRows : Header
@@ -70,12 +70,12 @@ pub record Lines : Type 0 where
   -- the root of 2.0, by its bits
   pub root-of-two : toBits binary32 (squareRoot binary32 (ofBits binary32 0x40000000)) ≡ 0x3fb504f3
   -- the row of latitude -1, 0, 1,999 and 2,000: none, 0, 1, none
-  pub row-below : keyOf twoRows (negsuc 0) (pos 0) ≡ Outside
-  pub row-first : keyOf twoRows (pos 0) (pos 0) ≡ In (key 0 0)
-  pub row-last : keyOf twoRows (pos 1999) (pos 0) ≡ In (key 1 0)
-  pub row-above : keyOf twoRows (pos 2000) (pos 0) ≡ Outside
+  pub row-below : key twoRows (negsuc 0) (pos 0) ≡ Outside
+  pub row-first : key twoRows (pos 0) (pos 0) ≡ In (cell 0 0)
+  pub row-last : key twoRows (pos 1999) (pos 0) ≡ In (cell 1 0)
+  pub row-above : key twoRows (pos 2000) (pos 0) ≡ Outside
   -- the entry of row 1, column 2 with the directory at 512 and 3 columns
-  pub entry-offset : entryOf (gridOf 1000 2 3 512) (key 1 2) ≡ 552
+  pub entry-offset : entry (gridOf 1000 2 3 512) (cell 1 2) ≡ Offset.At 552
   -- the length for 2 nodes, 1 edge, 3 vertices
   pub tile-length : length 2 1 3 ≡ 86
   -- pages for 0, 8,192, 8,193 and 49,152 bytes

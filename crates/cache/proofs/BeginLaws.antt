@@ -1,5 +1,5 @@
 -- A load begun leaves well-formed pages (`sound-begun`; by the test, `ok-begun`), and each run that does not touch the new one as it was
--- (`kept-begun`). Assumes nothing.
+-- (`kept-begun`).
 use Prim.Native.Nat.{ℕ, _+_, _<_, _≤_}
 use mathlib.Core.Path.{_≡_, refl, _∙_}
 use mathlib.Core.Bool.{true}

@@ -1,4 +1,4 @@
--- Cases on two numbers, and the laws of `allBelow`: both ways between the test and each number. Assumes nothing.
+-- Cases on two numbers, and the laws of `allBelow`: both ways between the test and each number.
 use Prim.Native.Nat.{ℕ, zero, suc, _<_, _≤_}
 use mathlib.Core.Path.{_≡_, refl, sym, ap, _∙_}
 use mathlib.Core.Bool.{Bool, true, false, _&&_, true≢false}

@@ -1,7 +1,7 @@
 -- Evicting and placing keep the pages well-formed. A range that is evicted is empty (`evicted-empty`), each page is then as before or
 -- empty (`evicted-either`), and a run beside the range is as before, slots and ages (`evicted-kept`). Placing on empty pages writes the
 -- head, its pieces and nothing else. The idea: one page evicted clears a range that no link crosses (`Step`), and a range of pages is an
--- induction over single ones. Assumes nothing.
+-- induction over single ones.
 use Prim.Native.Nat.{ℕ, zero, suc, _+_, _-_, _<_, _≤_}
 use mathlib.Core.Path.{_≡_, refl, sym, ap, _∙_}
 use mathlib.Core.Bool.{Bool, true, false, cond}

@@ -1,5 +1,5 @@
 -- A stretch of a list set to one value (`fill`): its length, its turns, that it does nothing past the end, and its elements by index.
--- `Out a e i` says that i lies before a or from e on. Assumes nothing.
+-- `Out a e i` says that i lies before a or from e on.
 use Prim.Native.Nat.{ℕ, zero, suc, _+_, _-_, _<_, _≤_}
 use mathlib.Core.Path.{_≡_, refl, _∙_}
 use mathlib.Core.List.{List}

@@ -1,6 +1,6 @@
 -- A step over a lent pack is `fetch` followed by `load` (`from-steps`): what `load_from` does in one pass is what its definition says in two.
 -- The idea: by the next step; the bytes that the pack yields have the read's length, and a chunk of a load that is not refused has at least
--- one byte, so that failure 2 answers it. Assumes nothing.
+-- one byte, so that failure 2 answers it.
 use Prim.Native.Nat.{ℕ, _+_, _-_, _<_, _≤_}
 use mathlib.Core.Path.{_≡_, refl, sym, ap, _∙_}
 use mathlib.Core.Bool.{Bool, true, false, _&&_, not, cond}
@@ -84,7 +84,7 @@ pack-length pack offset n e = length-take-le n (drop offset pack) (rw length-dro
 module _ (c : Cache) (arena : List ℕ) (h : Header) (key : TileKey) (pack : List ℕ) (ok : cacheOk c h (length arena) ≡ true) (grid : inGrid h key ≡ true) where
   state-ok : stateOk c ≡ true
   unfolding cacheOk
-  state-ok = and-left (stateOk c) (rules h && arenaOk c (length arena)) ok
+  state-ok = and-left (stateOk c) _ ok
 
   ready-by : (i : ℕ) (t : Bool) → nextStep c key ≡ Next.Ready i → passes arena i (lenAt c i) key (h .tile) ≡ t
       → requestLoad (fetched c (Next.Ready i) arena h key) c arena h key pack ≡ steppedFrom c (Next.Ready i) arena h key pack

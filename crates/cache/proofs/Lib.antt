@@ -18,7 +18,9 @@ pub mod SearchLaws
 pub mod LookLaws
 -- Laws of loads, for the proofs of this crate and for callers to cite.
 -- StepLaws: a read of a lent pack, an entry's bytes. FromLaws: a step over a lent pack is `fetch`, then `load`.
+-- UnreadLaws: a step without a read.
 pub mod StepLaws
 pub mod FromLaws
+pub mod UnreadLaws
 -- Laws of the lookups of one call, for callers to cite. ReaderLaws: what is carried stands for the keys found.
 pub mod ReaderLaws

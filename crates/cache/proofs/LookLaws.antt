@@ -1,7 +1,6 @@
 -- Lookups: they change clock and ages alone (`got-aged`, `looked-aged`), and no lookup and no next step reads those (`touched-look`,
 -- `touched-next`), so that all lookups of one call agree, in whatever order they come (`looked-look`). What `get` answers is the look in
 -- pages (`got-ready`, `got-missing`). The idea: `touched` has the record outside, so that what a lookup reads is the old by computation.
--- Assumes nothing.
 use Prim.Native.Nat.{ℕ, _+_, _*_, _≤_}
 use mathlib.Core.Path.{_≡_, refl, sym, _∙_}
 use mathlib.Core.Bool.{Bool, true, false, _&&_, cond}

@@ -1,7 +1,7 @@
 -- The pass of `runs_ok` answers whether the runs are well-formed. What it carries is the last run, and of the pages passed all is known but
 -- what lies ahead of that run (`Passed`): no run ends behind the last, and a later page lies in its run. A page that fits keeps it (`passed`);
 -- where the runs are well-formed every page fits, so one that does not settles the answer (`pass-fails`), and so does the end
--- (`pass-ends`). Assumes nothing.
+-- (`pass-ends`).
 use Prim.Native.Nat.{ℕ, _+_, _<_, _≤_}
 use mathlib.Core.Path.{_≡_, refl, sym, ap, _∙_}
 use mathlib.Core.Bool.{Bool, true, false, _&&_, cond, true≢false}

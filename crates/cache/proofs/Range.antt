@@ -1,5 +1,5 @@
 -- A change within a range that no link crosses keeps the pages outside well-formed (`kept-page`). So do emptying such a range
--- (`good-cleared`), placing a run on bare pages (`good-placed`), and a change in what the runs do not say (`good-same`). Assumes nothing.
+-- (`good-cleared`), placing a run on bare pages (`good-placed`), and a change in what the runs do not say (`good-same`).
 use Prim.Native.Nat.{ℕ, _+_, _<_, _≤_}
 use mathlib.Core.Path.{_≡_, refl, ap, _∙_}
 use mathlib.Core.List.{List}

@@ -1,6 +1,6 @@
 -- What the code carries stands for the keys found: before the first lookup (`stands-start`) and after each tile found (`stands-found`). While
 -- it does, a lookup answers as the look at the cache given (`stands-at`), and a run that was answered lies in the arena (`found-length`).
--- The idea: a slot is one key's, so that a mark spares only a check that would pass. Assumes nothing.
+-- The idea: a slot is one key's, so that a mark spares only a check that would pass.
 use Prim.Native.Nat.{ℕ, zero, suc, _+_, _*_, _≤_}
 use mathlib.Core.Path.{_≡_, refl, sym, ap, _∙_}
 use mathlib.Core.Bool.{Bool, true, false, cond, true≢false}

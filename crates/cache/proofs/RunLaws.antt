@@ -1,14 +1,14 @@
 -- Well-formed runs: the test `runsOk` is the same as the facts `Good`, both ways (`ok-is-good`, `good-is-ok`; for pages as a whole
 -- `sound`, `sound-ok`), and what they tell: runs lie within the count (`inside`) and apart (`apart`), and a page has a key just where a
 -- run starts (`key-is-run`), which is what the Rust asks: so a page that a lookup finds by its key starts a run, whatever else is marked ready.
--- Before that, what a span holds. Assumes nothing.
-use Prim.Native.Nat.{ℕ, _+_, _*_, _-_, _<_, _≤_}
+-- Before that, what a span holds, and an arena.
+use Prim.Native.Nat.{ℕ, _+_, _*_, _-_, _/_, _<_, _≤_}
 use mathlib.Core.Path.{_≡_, refl, sym, ap}
-use mathlib.Core.Bool.{true, not, _&&_, true≢false}
+use mathlib.Core.Bool.{Bool, true, false, not, _&&_, true≢false}
 use mathlib.Core.List.{List}
 use mathlib.Core.Logic.{⊎-elim}
 use native.Mathlib.Omega.{arith}
-use borrow.Author.Tests.{ltb-true, leb-true, eqb-true, lt-ltb, le-leb, eq-eqb}
+use borrow.Author.Tests.{ltb-true, leb-true, leb-false, eqb-true, lt-ltb, le-leb, lt-leb, eq-eqb}
 use lib.Dec.{ltb, leb}
 use lib.ListN.{length, List·getD-eq-default}
 use Rattle.cache.specs.declared.Slot.{Slot}
@@ -35,6 +35,14 @@ span-holds len = omega arith
 pub span-least : (len : ℕ) → 0 < len → (span len - 1) * 8192 < len
 unfolding span
 span-least len h = omega arith
+
+-- n pages are no more than an arena has where their bytes are no more than its bytes
+pub room : (n size : ℕ) → leb n (size / 8192) ≡ leb (n * 8192) size
+room n size = by (leb n (size / 8192)) refl
+  where
+    by : (t : Bool) → leb n (size / 8192) ≡ t → t ≡ leb (n * 8192) size
+    by true e = sym (le-leb (n * 8192) size (omega (arith, leb-true n (size / 8192) e)))
+    by false e = sym (lt-leb (n * 8192) size (omega (arith, leb-false n (size / 8192) e)))
 
 -- ---- from the test to the facts, and back
 

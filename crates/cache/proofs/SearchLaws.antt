@@ -1,5 +1,5 @@
 -- The lowest number below a bound that has p: the turns of a loop that looks for it, whose invariant is that none was found so far, and
--- what an answer tells. Assumes nothing.
+-- what an answer tells.
 use Prim.Native.Nat.{ℕ, zero, suc, _+_, _<_, _≤_}
 use mathlib.Core.Path.{_≡_, refl, ap, _∙_}
 use mathlib.Core.Bool.{Bool, true, false, cond}

@@ -1,6 +1,6 @@
 -- What a step of a load reads: a chunk is part of what is left of the tile (`chunk-less`), the eight bytes of an entry as an array are read
 -- as they are from the answer (`locate-read`), and a range of a lent pack is there or passes its end (`read-there`, `read-part`,
--- `read-past`). Assumes nothing.
+-- `read-past`).
 use Prim.Native.Nat.{ℕ, _+_, _-_, _≤_}
 use mathlib.Core.Path.{_≡_, refl, ap, _∙_}
 use mathlib.Core.Bool.{Bool, true, false, cond}

@@ -1,4 +1,4 @@
--- The turns of the loops that clear, evict and write runs: one page and the rest, none left, and past the last page. Assumes nothing.
+-- The turns of the loops that clear, evict and write runs: one page and the rest, none left, and past the last page.
 use Prim.Native.Nat.{ℕ, zero, suc, _+_, _-_, _<_, _≤_}
 use mathlib.Core.Path.{_≡_, refl, ap, _∙_}
 use mathlib.Core.List.{List}

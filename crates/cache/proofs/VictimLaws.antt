@@ -1,6 +1,6 @@
 -- The victim lies below the count, no start has an older youngest page, and none below it one as old (`victim-is`); when there is one
 -- (`victim-there`, `victim-none`). Before that the turns of a least and of a first greatest, that they are such (`least-below`,
--- `best-first`), and that a list of ages serves in place of the pages (`victim-in`). Assumes nothing.
+-- `best-first`), and that a list of ages serves in place of the pages (`victim-in`).
 use Prim.Native.Nat.{ℕ, zero, suc, _+_, _-_, _<_, _≤_}
 use mathlib.Core.Path.{_≡_, refl, ap, _∙_}
 use mathlib.Core.Bool.{Bool, true, false, cond}

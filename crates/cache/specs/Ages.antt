@@ -1,6 +1,6 @@
 -- The lookups of one call that makes many: "A call checks each run it lands on once" (document 01, "Refused"). What lookups change, the clock
 -- and the ages, is carried beside the cache, with a mark for each run checked. Each lookup is `Lookups.got`'s, but that a marked run is not
--- read again. Assumes nothing.
+-- read again.
 use Prim.Native.Nat.{ℕ, _+_, _*_}
 use mathlib.Core.Bool.{Bool, true, false, cond}
 use mathlib.Core.List.{List, []}

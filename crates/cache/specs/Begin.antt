@@ -1,5 +1,5 @@
 -- The beginning of a load: `cache.rs`, load, from the tile's length on: its span, the victim, the victim's runs evicted, the new run
--- placed over it, not ready. With no victim nothing changes. That the tile is within MAX_TILE_BYTES is tested before. Assumes nothing.
+-- placed over it, not ready. With no victim nothing changes. That the tile is within MAX_TILE_BYTES is tested before.
 use Prim.Native.Nat.{ℕ}
 use Rattle.pack.specs.declared.TileKey.{TileKey}
 use Rattle.cache.specs.declared.Pages.{Pages}

@@ -1,5 +1,5 @@
 -- Looking up directly in the pack: document 01, "Looking up directly in the pack", in its order, knowing no cache; and a lookup of the
--- cache in the same terms, bytes and no page. A pack is its bytes; the header is the pack's, parsed. Assumes nothing.
+-- cache in the same terms, bytes and no page. A pack is its bytes; the header is the pack's, parsed.
 use Prim.Native.Nat.{ℕ, _+_}
 use mathlib.Core.Path.{_≡_}
 use mathlib.Core.Bool.{Bool, true, false, _||_, cond}

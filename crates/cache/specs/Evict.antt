@@ -1,7 +1,7 @@
 -- Evicting and placing: `cache.rs`, evict ("empty every tile overlapping the `pages` pages from `first`": the slots and their ages, as
 -- far as they lie below the count), and in load the writing of a new run. A page past the last changes nothing: `set` past the end of a
 -- list is the list. On well-formed runs the pages of a new run were emptied before, so that to point them at the head, as the Rust does,
--- and to write them whole is the same. Assumes nothing.
+-- and to write them whole is the same.
 use Prim.Native.Nat.{ℕ, zero, suc, _+_, _-_}
 use mathlib.Core.Bool.{false, cond}
 use mathlib.Core.List.{List}

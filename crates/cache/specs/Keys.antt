@@ -1,4 +1,4 @@
--- Keys, the ring of missing tiles and the ready run of a key: `cache.rs`, `forget`, and the two searches of `get`. Assumes nothing.
+-- Keys, the ring of missing tiles and the ready run of a key: `cache.rs`, `forget`, and the two searches of `get`.
 use Prim.Native.Nat.{ℕ, _+_, _%_}
 use mathlib.Core.Bool.{Bool, false, _&&_}
 use lib.Dec.{eqb}

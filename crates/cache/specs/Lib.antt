@@ -16,3 +16,5 @@ pub mod Loads
 -- The lookups of one call that makes many, and a lookup as a definition reads it.
 pub mod Ages
 pub mod Reader
+-- The number of each answer.
+pub mod Numbers

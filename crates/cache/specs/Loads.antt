@@ -1,6 +1,6 @@
 -- One step of a load: `cache.rs`, `load`, with its read answered. `next` says which read it is: the tile's directory entry, or the next
 -- chunk of the load that is under way. On a failure the load and its run are dropped and the arena is untouched; a bad entry fails with 4.
--- A chunk writes its own bytes of the arena and no others. Assumes nothing.
+-- A chunk writes its own bytes of the arena and no others.
 use Prim.Native.Nat.{ℕ, _+_, _-_, _*_}
 use mathlib.Core.Bool.{Bool, true, false, cond}
 use mathlib.Core.List.{List, [], _∷_}
@@ -206,6 +206,19 @@ stepped c Next.Missing arena h key failure bs = over (done c) arena
 stepped c Next.NoPages arena h key failure bs = over (done (forgot c key)) arena
 stepped c Next.Entry arena h key failure bs = over (entryStep c h key failure bs) arena
 stepped c (Next.Chunk l) arena h key failure bs = chunkStep c l arena (h .tile) failure bs
+
+-- ---- the step without a read: this restates private code
+
+-- a load that has all of its tile is checked; any other is to be read first
+abbrev pub chunkUnread : Cache → Loading → List ℕ → ℕ → Loaded
+chunkUnread c l arena size = cond (leb (l .len) (l .done)) (done (ended c arena l size)) (refused c 11)
+
+abbrev pub unreadStep : Cache → Next → List ℕ → TileKey → ℕ → Loaded
+unreadStep c (Next.Ready i) arena key size = readyStep c i arena key size
+unreadStep c Next.Missing arena key size = done c
+unreadStep c Next.NoPages arena key size = done (forgot c key)
+unreadStep c Next.Entry arena key size = refused c 11
+unreadStep c (Next.Chunk l) arena key size = chunkUnread c l arena size
 
 -- ---- the step over a lent pack
 

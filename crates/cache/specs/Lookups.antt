@@ -1,6 +1,6 @@
 -- Lookups: `cache.rs`, `get` and `pages`, and what the next step towards a tile is. A ready run is handed out only if it still passes
 -- `Tile::parse` (document 01, number 12: "a ready run looked up that no longer passes"). Order of refusals: 12, 9, then the late 12
--- (DESIGN 4). Ready moves clock and age; nothing else does. Assumes nothing.
+-- (document 01: it "waits for its lookup"). Ready moves clock and age; nothing else does.
 use Prim.Native.Nat.{ℕ, _+_, _*_, _%_, _^_}
 use mathlib.Core.Bool.{Bool, _&&_, cond}
 use mathlib.Core.List.{List}

@@ -1,5 +1,5 @@
 -- The pass of `runs_ok` over the pages: what it carries and what it tests of each page. It restates private code and nothing public is
--- stated by it; that it answers `runsOk` is proved (`PassLaws`). Assumes nothing.
+-- stated by it; that it answers `runsOk` is proved (`PassLaws`).
 use Prim.Native.Nat.{ℕ, _+_}
 use mathlib.Core.Bool.{Bool, _&&_, cond}
 use lib.Dec.{eqb, ltb, leb}

@@ -1,5 +1,5 @@
 -- A lookup as a definition reads it: what stands at a key, and what is carried on once a tile was found there. A walk is defined over any
--- reader. `plain` is a look that knows no cache and carries the keys found, in order; `inCache` is what the code does. Assumes nothing.
+-- reader. `plain` is a look that knows no cache and carries the keys found, in order; `inCache` is what the code does.
 use Prim.Native.Nat.{ℕ}
 use mathlib.Core.Path.{_≡_}
 use mathlib.Core.Bool.{true, false}

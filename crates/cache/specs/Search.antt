@@ -1,4 +1,4 @@
--- A search by index. Assumes nothing.
+-- A search by index.
 use Prim.Native.Nat.{ℕ, zero, suc}
 use mathlib.Core.Bool.{Bool, true, false, cond}
 use Rattle.cache.specs.declared.victim.Found.{Found}

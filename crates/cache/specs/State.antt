@@ -1,13 +1,14 @@
 -- The empty state (`Cache::new`), and the states that number 12 names (document 01, "Refused", the cache's part), each cause by name:
 -- page runs that overlap, pass the page count or lack a part, or a count above its array (`runsOk` of Runs); a ring place past its
 -- ring; a load without its run, or done not below its length; an open fetch that the state would not make; a header that `Header::parse`
--- would refuse; an arena shorter than its pages. Assumes nothing.
+-- would refuse; an arena shorter than its pages.
 use Prim.Native.Nat.{ℕ, _*_, _/_, min}
 use mathlib.Core.Bool.{Bool, true, false, _&&_, not, cond}
 use mathlib.Core.List.{List, [], _∷_}
 use lib.Dec.{eqb, ltb, leb}
 use lib.ListN.{length, replicate}
 use Rattle.pack.specs.Sector.{allOf, rules}
+use Rattle.pack.specs.Grid.{inGrid}
 use Rattle.pack.specs.declared.TileKey.{TileKey}
 use Rattle.pack.specs.declared.Header.{Header}
 use Rattle.cache.specs.declared.Slot.{Slot}
@@ -123,6 +124,17 @@ stateOk c = allOf (runsOk c ∷ ringOk c ∷ loadOk c ∷ pendingOk c ∷ [])
 abbrev pub arenaOk : Cache → ℕ → Bool
 arenaOk c size = leb (c .pages .count * 8192) size
 
--- and those of a call that is given a header and an arena of `size` bytes beside it
+-- of a call that is given no header, and an arena of `size` bytes
+unfoldable pub lentOk : Cache → ℕ → Bool
+lentOk c size = stateOk c && arenaOk c size
+
+-- an open entry is of a key in the grid of the header that the call is given
+abbrev pub entryIn : Pending → Header → Bool
+entryIn Pending.Nothing h = true
+entryIn Pending.Header h = true
+entryIn (Pending.Entry key) h = inGrid h key
+entryIn Pending.Chunk h = true
+
+-- of a call that is given a header too
 unfoldable pub cacheOk : Cache → Header → ℕ → Bool
-cacheOk c h size = stateOk c && (rules h && arenaOk c size)
+cacheOk c h size = stateOk c && (rules h && (entryIn (c .pending) h && arenaOk c size))

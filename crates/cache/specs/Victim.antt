@@ -1,6 +1,6 @@
 -- The run to replace: `cache.rs`, victim (document 01: "the run whose youngest page is oldest, lowest start among equals"), a greatest
 -- over the starts of a least over the pages. Empty pages count as oldest; ages are wrapping differences of the clock. No victim where
--- the count is less than the pages wanted, or above the 96 slots, which number 12 refuses before. Assumes nothing.
+-- the count is less than the pages wanted, or above the 96 slots, which number 12 refuses before.
 use Prim.Native.Nat.{ℕ, zero, suc, _+_, _-_, _%_, _<_, _≤_}
 use mathlib.Core.Bool.{cond}
 use mathlib.Core.List.{List}

@@ -102,7 +102,7 @@ fn ready_run(g: Pages, key: TileKey) -> Run
             return Run {
                 ready: true,
                 at: i,
-                len: s.len,
+                len: s.len as usize,
             };
         }
         i += 1;

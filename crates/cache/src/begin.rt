@@ -11,10 +11,10 @@ pub(crate) struct Begun {
     pub at: Found,
 }
 
-pub(crate) fn begin(g: Pages, key: TileKey, len: usize) -> Begun
+pub(crate) fn begin(g: Pages, key: TileKey, len: u16) -> Begun
     ensures { λ r. ⌜ r ≡ begun g key len ⌝ }
 {
-    let n = crate::runs::span(len);
+    let n = crate::runs::span(len as usize);
     let f = crate::victim::victim(g, n);
     match f {
         Found::Nothing => Begun {

@@ -15,7 +15,7 @@ pub(crate) fn head_of(s: Slot, p: usize) -> usize
 {
     let part = s.part;
     match part {
-        Part::Of(h) => h,
+        Part::Of(h) => h as usize,
         Part::Head => p,
     }
 }
@@ -25,7 +25,7 @@ fn whole_of(s: Slot) -> usize
     ensures { λ r. ⌜ r ≡ Evict.wholeOf s ⌝ }
 {
     if crate::runs::is_run(s) {
-        return crate::runs::span(s.len);
+        return crate::runs::span(s.len as usize);
     }
     1
 }
@@ -99,7 +99,7 @@ pub(crate) fn evict(g: Pages, first: usize, pages: usize) -> Pages
 }
 
 // `n` pages from `from` on as pieces of the run at `head`; none past the last.
-fn piece_run(g: Pages, head: usize, from: usize, n: usize) -> Pages
+fn piece_run(g: Pages, head: u8, from: usize, n: usize) -> Pages
     ensures { λ r. ⌜ r ≡ Evict.pieceRun n from head g ⌝ }
 {
     let mut d = g;
@@ -123,7 +123,7 @@ fn piece_run(g: Pages, head: usize, from: usize, n: usize) -> Pages
 }
 
 // A run for a tile of `len` bytes written from `slot` on, not ready yet.
-pub(crate) fn place(g: Pages, slot: usize, key: TileKey, len: usize) -> Pages
+pub(crate) fn place(g: Pages, slot: usize, key: TileKey, len: u16) -> Pages
     ensures { λ r. ⌜ r ≡ Evict.placed g slot key len ⌝ }
 {
     if crate::MAX_PAGES <= slot {
@@ -136,6 +136,6 @@ pub(crate) fn place(g: Pages, slot: usize, key: TileKey, len: usize) -> Pages
         ready: false,
         part: Part::Head,
     };
-    let pages = crate::runs::span(len);
-    piece_run(d, slot, slot + 1, pages - 1)
+    let pages = crate::runs::span(len as usize);
+    piece_run(d, slot as u8, slot + 1, pages - 1)
 }

@@ -49,13 +49,13 @@ pub enum MaybeKey {
 // Whether a page is a first one or, as a continuation page, which the tile's first page is.
 pub enum Part {
     Head,
-    Of(usize),
+    Of(u8),
 }
 
 // A page: the first of a tile's pages holds its key and length, the rest point back at it.
 pub struct Slot {
     pub key: MaybeKey,
-    pub len: usize,
+    pub len: u16,
     pub ready: bool,
     pub part: Part,
 }
@@ -154,10 +154,10 @@ impl Cache {
     }
 
     // Pages in the arena.
-    pub fn capacity(self) -> Count
-        ensures { λ r. ⌜ r ≡ Calls.capacity self ⌝ }
+    pub fn capacity(self, arena: &[u8]) -> Count
+        ensures { λ r. ⌜ r ≡ Calls.capacity self (now (arena .entry)) ⌝ }
     {
-        if !state::state_ok(self) {
+        if !state::lent_ok(self, arena.len()) {
             return Count::Refused(12);
         }
         let g = self.pages;
@@ -165,23 +165,20 @@ impl Cache {
     }
 
     // Tiles read since start.
-    pub fn loads(self) -> Count
-        ensures { λ r. ⌜ r ≡ Calls.loads self ⌝ }
+    pub fn loads(self, arena: &[u8]) -> Count
+        ensures { λ r. ⌜ r ≡ Calls.loads self (now (arena .entry)) ⌝ }
     {
-        if !state::state_ok(self) {
+        if !state::lent_ok(self, arena.len()) {
             return Count::Refused(12);
         }
         Count::Is(self.loads as usize)
     }
 
     // Pages that a ready tile takes, one for anything else.
-    pub fn pages(self, header: Header, key: TileKey) -> Count
-        ensures { λ r. ⌜ r ≡ Calls.pages self header key ⌝ }
+    pub fn pages(self, arena: &[u8], header: Header, key: TileKey) -> Count
+        ensures { λ r. ⌜ r ≡ Calls.pages self (now (arena .entry)) header key ⌝ }
     {
-        if !state::state_ok(self) {
-            return Count::Refused(12);
-        }
-        if !header.rules() {
+        if !state::cache_ok(self, header, arena.len()) {
             return Count::Refused(12);
         }
         if !pack::grid::in_grid(header, key) {
@@ -211,10 +208,10 @@ impl Cache {
     }
 
     // Drop everything, for a pack that changed. Ages, clock, the ring's next place and the count of loads stay.
-    pub fn clear(self) -> Cleared
-        ensures { λ r. ⌜ r ≡ Calls.clear self ⌝ }
+    pub fn clear(self, arena: &[u8]) -> Cleared
+        ensures { λ r. ⌜ r ≡ Calls.clear self (now (arena .entry)) ⌝ }
     {
-        if !state::state_ok(self) {
+        if !state::lent_ok(self, arena.len()) {
             return Cleared {
                 answer: Clearing::Refused(12),
                 cache: self,

@@ -40,7 +40,7 @@ pub(crate) fn pages_of(g: Pages, key: TileKey) -> usize
     match crate::keys::ready_at(g, key) {
         Found::At(i) => {
             let s = crate::runs::slot_at(g, i);
-            crate::runs::span(s.len)
+            crate::runs::span(s.len as usize)
         }
         Found::Nothing => 1,
     }
@@ -78,7 +78,7 @@ fn set_age(used: &mut [u32; crate::MAX_PAGES], i: usize, age: u32)
 }
 
 // The run from page `i` on as the most recently used. The state is written in place.
-pub fn touch(c: Cache, i: usize) -> Cache
+pub(crate) fn touch(c: Cache, i: usize) -> Cache
     ensures { λ r. ⌜ r ≡ Lookups.touched c i ⌝ }
 {
     let mut d = c;
@@ -106,10 +106,11 @@ pub fn got(c: Cache, arena: &[u8], size: u32, key: TileKey) -> Got
         Landing::At(i) => {
             let g = c.pages;
             let s = crate::runs::slot_at(g, i);
-            if passes(arena, i, s.len, key, size) {
+            let len = s.len as usize;
+            if passes(arena, i, len, key, size) {
                 let d = touch(c, i);
                 return Got {
-                    answer: Lookup::Ready(i, s.len),
+                    answer: Lookup::Ready(i, len),
                     cache: d,
                 };
             }

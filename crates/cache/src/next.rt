@@ -31,7 +31,7 @@ fn next_read(loading: MaybeLoading, key: TileKey) -> Next
     }
 }
 
-pub fn next_step(c: Cache, key: TileKey) -> Next
+pub(crate) fn next_step(c: Cache, key: TileKey) -> Next
     ensures { λ r. ⌜ r ≡ Lookups.nextStep c key ⌝ }
 {
     match crate::look::lands_on(c, key) {

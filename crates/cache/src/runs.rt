@@ -73,10 +73,10 @@ fn fits(s: Slot, p: usize, last: LastRun, count: usize) -> bool
     match part {
         Part::Of(h) => match key {
             MaybeKey::Key(_) => false,
-            MaybeKey::Nothing => p < last.end && h == last.head,
+            MaybeKey::Nothing => p < last.end && h as usize == last.head,
         },
         Part::Head => match key {
-            MaybeKey::Key(_) => last.end <= p && p + span(s.len) <= count,
+            MaybeKey::Key(_) => last.end <= p && p + span(s.len as usize) <= count,
             MaybeKey::Nothing => last.end <= p,
         },
     }
@@ -90,7 +90,7 @@ fn after(s: Slot, p: usize, last: LastRun) -> LastRun
     if is_run(s) {
         return LastRun {
             head: p,
-            end: p + span(s.len),
+            end: p + span(s.len as usize),
         };
     }
     last

@@ -102,7 +102,7 @@ fn tile_loads(g: Pages, l: Loading) -> bool
     if !crate::keys::holds(k, l.key) {
         return false;
     }
-    if s.len != l.len as usize {
+    if s.len as u32 != l.len {
         return false;
     }
     if s.ready {
@@ -183,6 +183,29 @@ pub fn state_ok(c: Cache) -> bool
     pending_ok(c)
 }
 
+// The causes of number 12 in a call that is given the state and an arena of `size` bytes.
+pub(crate) fn lent_ok(c: Cache, size: usize) -> bool
+    ensures { λ r. ⌜ r ≡ State.lentOk c size ⌝ }
+{
+    if !state_ok(c) {
+        return false;
+    }
+    let g = c.pages;
+    g.count <= size / crate::PAGE_BYTES
+}
+
+// Whether an open entry is of a key in the header's grid.
+fn entry_in(pending: Pending, header: Header) -> bool
+    ensures { λ r. ⌜ r ≡ State.entryIn pending header ⌝ }
+{
+    match pending {
+        Pending::Nothing => true,
+        Pending::Header => true,
+        Pending::Entry(key) => pack::grid::in_grid(header, key),
+        Pending::Chunk => true,
+    }
+}
+
 // The causes of number 12 in a call that is given the state, a header and an arena of `size` bytes.
 pub fn cache_ok(c: Cache, header: Header, size: usize) -> bool
     ensures { λ r. ⌜ r ≡ State.cacheOk c header size ⌝ }
@@ -191,6 +214,10 @@ pub fn cache_ok(c: Cache, header: Header, size: usize) -> bool
         return false;
     }
     if !header.rules() {
+        return false;
+    }
+    let pending = c.pending;
+    if !entry_in(pending, header) {
         return false;
     }
     let g = c.pages;

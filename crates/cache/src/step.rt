@@ -40,7 +40,7 @@ fn chunk_offset(l: Loading) -> u64
 }
 
 // The read of the step `n`, in a cache whose state has been tested, towards a key in the grid.
-pub fn fetched(c: Cache, n: Next, arena: &[u8], header: Header, key: TileKey) -> Request
+pub(crate) fn fetched(c: Cache, n: Next, arena: &[u8], header: Header, key: TileKey) -> Request
     ensures { λ r. ⌜ r ≡ Loads.fetched c n (now (arena .entry)) header key ⌝ }
 {
     match n {
@@ -51,7 +51,7 @@ pub fn fetched(c: Cache, n: Next, arena: &[u8], header: Header, key: TileKey) ->
         Next::Ready(i) => {
             let g = c.pages;
             let s = crate::runs::slot_at(g, i);
-            if crate::look::passes(arena, i, s.len, key, header.tile) {
+            if crate::look::passes(arena, i, s.len as usize, key, header.tile) {
                 return Request::Settled;
             }
             Request::Refused(12)
@@ -86,7 +86,7 @@ fn fits(n: usize, failure: u32, len: usize) -> bool
 }
 
 // Whether the read of the step `n` is answered: number 11 where not. Towards a key outside the grid none is made.
-pub fn takes(n: Next, header: Header, key: TileKey, failure: u32, len: usize) -> bool
+pub(crate) fn takes(n: Next, header: Header, key: TileKey, failure: u32, len: usize) -> bool
     ensures { λ r. ⌜ r ≡ Loads.takes n header key failure len ⌝ }
 {
     if !pack::grid::in_grid(header, key) {
@@ -133,7 +133,7 @@ fn moved(c: Cache, g: Pages, loading: MaybeLoading) -> Cache
 }
 
 // A key known missing from now on.
-pub fn forgot(c: Cache, key: TileKey) -> Cache
+pub(crate) fn forgot(c: Cache, key: TileKey) -> Cache
     ensures { λ r. ⌜ r ≡ Loads.forgot c key ⌝ }
 {
     let ring = c.missing;
@@ -208,7 +208,7 @@ fn began(c: Cache, key: TileKey, offset: u32, len: u32) -> Loaded
         return done(forgot(c, key));
     }
     let g = c.pages;
-    let b = crate::begin::begin(g, key, len as usize);
+    let b = crate::begin::begin(g, key, len as u16);
     let at = b.at;
     match at {
         Found::Nothing => done(forgot(c, key)),
@@ -351,14 +351,37 @@ fn ready_step(c: Cache, i: usize, arena: &[u8], key: TileKey, size: u32) -> Load
 {
     let g = c.pages;
     let s = crate::runs::slot_at(g, i);
-    if crate::look::passes(arena, i, s.len, key, size) {
+    if crate::look::passes(arena, i, s.len as usize, key, size) {
         return done(crate::look::touch(c, i));
     }
     refused(c, 12)
 }
 
+// A chunk of no bytes, which only a load that has all of its tile asks for: the tile is checked. 11 where there are bytes to come.
+fn chunk_unread(c: Cache, l: Loading, arena: &[u8], size: u32) -> Loaded
+    ensures { λ r. ⌜ r ≡ Loads.chunkUnread c l (now (arena .entry)) size ⌝ }
+{
+    if l.len <= l.done {
+        return done(ended(c, arena, l, size));
+    }
+    refused(c, 11)
+}
+
+// The step `n` with failure 0 and no bytes: 11 where a read is made.
+pub(crate) fn unread_step(c: Cache, n: Next, arena: &[u8], key: TileKey, size: u32) -> Loaded
+    ensures { λ r. ⌜ r ≡ Loads.unreadStep c n (now (arena .entry)) key size ⌝ }
+{
+    match n {
+        Next::Missing => done(c),
+        Next::NoPages => done(forgot(c, key)),
+        Next::Entry => refused(c, 11),
+        Next::Chunk(l) => chunk_unread(c, l, arena, size),
+        Next::Ready(i) => ready_step(c, i, arena, key, size),
+    }
+}
+
 // The step `n`, its read answered, in a cache whose state has been tested, towards a key in the grid.
-pub fn stepped(
+pub(crate) fn stepped(
     c: Cache,
     n: Next,
     arena: &mut [u8],

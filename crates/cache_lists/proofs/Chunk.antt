@@ -1,5 +1,5 @@
 -- A chunk written: the arena changes in the chunk's own bytes alone (`put-written`), and none of these is of a run that is ready, since the
--- load's run is not and runs are apart. So each ready run holds what it held (`ready-kept`). Assumes nothing.
+-- load's run is not and runs are apart. So each ready run holds what it held (`ready-kept`).
 use Prim.Native.Nat.{ℕ, _+_, _*_, _<_, _≤_}
 use mathlib.Core.Path.{_≡_, refl, sym, _∙_}
 use mathlib.Core.Bool.{true, true≢false}

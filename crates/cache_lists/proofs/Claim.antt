@@ -1,5 +1,7 @@
 -- THE THEOREM: the three claims, of every list of calls from a fresh cache of any page count over any arena. A fresh cache has the
--- invariants, and they hold along the list. Assumes nothing.
+-- invariants, and they hold along the list.
+use mathlib.Core.Path.{refl}
+use Rattle.cache.specs.State.{fresh}
 use Rattle.cache_lists.specs.Lists.{start}
 use Rattle.cache_lists.specs.Claims.{AlwaysSafe, AlwaysSame, AlwaysOpen}
 use Rattle.cache_lists.proofs.Inv.{inv-fresh}
@@ -14,4 +16,5 @@ pub always-same : AlwaysSame
 always-same P n few arena cs fair = same-along P n cs (start n arena) (kept-fresh P _ n arena few) fair
 
 pub always-open : AlwaysOpen
-always-open P n few arena holds cs fair = open-along P n cs (start n arena) (kept-fresh P _ n arena few) holds fair
+unfolding fresh
+always-open P n few arena holds cs fair = open-along P n cs (start n arena) (kept-fresh P _ n arena few) holds refl fair

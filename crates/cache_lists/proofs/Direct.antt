@@ -1,5 +1,5 @@
 -- Laws of the direct lookup: bytes that it gives are accepted; by its entry, it looks for a tile at its place in the pack, or finds none
--- where the cache could hold none; and a tile there is ready or missing as its bytes are accepted or not. Assumes nothing.
+-- where the cache could hold none; and a tile there is ready or missing as its bytes are accepted or not.
 use Prim.Native.Nat.{ℕ, _+_, _<_, _≤_}
 use mathlib.Core.Path.{_≡_, refl}
 use mathlib.Core.Bool.{Bool, true, false, _||_, cond}

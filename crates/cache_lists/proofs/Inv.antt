@@ -1,7 +1,6 @@
 -- The state's own invariant, with no premise on what was delivered (`Inv`): well-formed pages of which none is ready but the first of a run, a ring of 64 places and a place in it, a
 -- load that has its run, no run that is neither ready nor the load's, an open fetch that the state makes. It has in it what number 12 tests
 -- (`inv-ok`), a fresh cache has it, and each change of the state keeps it. So live runs lie within the pages and apart (`inv-apart`).
--- Assumes nothing.
 use Prim.Native.Nat.{ℕ, _+_, _-_, _<_, _≤_}
 use mathlib.Core.Path.{_≡_, refl, sym, ap, _∙_}
 use mathlib.Core.Bool.{Bool, true, false, cond}

@@ -1,6 +1,6 @@
 -- The invariant under the premises of one pack (`Kept`): beside the state's own, each ready run holds what the direct lookup gives, each key
 -- of the ring is missing there, and what has come of the load is the pack's. Each change of state and arena keeps it. A chunk is written
--- within its load's run, and runs are apart, so that what other runs hold stays. Assumes nothing.
+-- within its load's run, and runs are apart, so that what other runs hold stays.
 use Prim.Native.Nat.{ℕ, _+_, _*_, _<_, _≤_}
 use mathlib.Core.Path.{_≡_, refl, sym, ap, _∙_}
 use mathlib.Core.Bool.{true, false, true≢false}

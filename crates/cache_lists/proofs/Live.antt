@@ -1,5 +1,5 @@
 -- Every run of pages is ready or the load's (`LiveIn`), of a list of slots, and a page that is marked ready starts a run (`MarksIn`): so where
--- there is no run, and kept when pages are evicted, when a run is begun in place of others, and when the load's run is made ready. Assumes nothing.
+-- there is no run, and kept when pages are evicted, when a run is begun in place of others, and when the load's run is made ready.
 use Prim.Native.Nat.{ℕ, _+_, _<_, _≤_}
 use mathlib.Core.Path.{_≡_, refl, sym, _∙_}
 use mathlib.Core.Bool.{true, false, true≢false}

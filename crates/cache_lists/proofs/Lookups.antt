@@ -1,6 +1,6 @@
 -- What a lookup tells of the state: a key in the ring stands in some place of it, the ready run that a lookup lands on is below the count,
 -- ready and of that key, and starts a run in any state that number 12 lets be (`found-run`); and what the next step towards a tile says. By the
--- laws of a search. Assumes nothing.
+-- laws of a search.
 use Prim.Native.Nat.{ℕ, _<_}
 use mathlib.Core.Path.{_≡_, refl, sym, ap, _∙_}
 use mathlib.Core.Bool.{Bool, true, false, not, _&&_, cond, true≢false}

@@ -1,5 +1,4 @@
 -- With no premise: the state's invariant holds along every list of calls, and each call is safe. By the ways that a call goes.
--- Assumes nothing.
 use Prim.Native.Nat.{ℕ, _+_, _*_, _≤_}
 use mathlib.Core.Path.{_≡_, refl, sym, ap, _∙_}
 use mathlib.Core.Bool.{Bool, true, false, _&&_, cond}
@@ -19,13 +18,14 @@ use Rattle.cache.proofs.Below.{and-left, and-right}
 use Rattle.cache.proofs.VictimLaws.{victim-is}
 use Rattle.cache.specs.declared.Cache.{Cache}
 use Rattle.cache.specs.declared.Got.{Got}
+use Rattle.cache.specs.declared.Cleared.{Cleared}
 use Rattle.cache.specs.declared.Clearing.the-variants as Clearing
 use Rattle.cache.specs.declared.Lookup.{Lookup}
 use Rattle.cache.specs.declared.Lookup.the-variants as Lookup
 use Rattle.cache.specs.declared.next.Next.{Next}
 use Rattle.cache.specs.declared.next.Next.the-variants as Next
 use Rattle.cache.specs.Lookups.{runBytes, passes, lenAt, nextStep}
-use Rattle.cache.specs.State.{cleared, cacheOk}
+use Rattle.cache.specs.State.{cleared, lentOk, cacheOk}
 use Rattle.cache.specs.Calls as Cached
 use Rattle.cache.specs.declared.Request.{Request}
 use Rattle.cache.specs.declared.Request.the-variants as Request
@@ -33,9 +33,9 @@ use Rattle.cache.specs.declared.Progress.the-variants as Progress
 use Rattle.cache.specs.Loads.{After, over, refused, fetched, readLen, takes, dropped, chunkLen, stepped}
 use Rattle.tile.specs.Parse.{accepts}
 use Rattle.cache_lists.specs.Lists.{World, Call, capacity, loads, pages, get, fetch, load, loadFrom, clear, found, loaded, exec, Along}
-use Rattle.cache_lists.specs.Claims.{ofProgress, Settles, Passed, HandedOut, Read, readsOf, reads, bytesOf, TakesOnly, SameAt, SameFor, LentOnly, Written, Safe}
+use Rattle.cache_lists.specs.Claims.{refusedProgress, Settles, Passed, HandedOut, Read, readsOf, reads, bytesOf, TakesOnly, SameAt, SameFor, LentOnly, Written, Safe}
 use Rattle.cache_lists.proofs.Steps.{Gets, denied, ringed, unknown, handed, get-is, came-loading, came-key, Step, refuses, knows, uses, noPages, fails, lacks, begins, goesOn, readies, spoils, load-is, from-is}
-use Rattle.cache_lists.proofs.Inv.{Inv, inv-ok, inv-apart, inv-cleared, inv-touched, inv-forgot, inv-dropped, dropped-load, inv-began, inv-further, inv-readied}
+use Rattle.cache_lists.proofs.Inv.{Inv, inv-apart, inv-cleared, inv-touched, inv-forgot, inv-dropped, dropped-load, inv-began, inv-further, inv-readied}
 use Rattle.cache_lists.proofs.Settled.{Settled, ring-settled, touched-settled, forgot-settled, readied-settled}
 use Rattle.cache_lists.proofs.Chunk.{not-written, put-written, ready-kept}
 
@@ -61,9 +61,14 @@ inv-step {c} f (goesOn l came b) = inv-further c l f (came-loading came) (l .don
 inv-step {c} f (readies l came b p) = inv-readied c l f (came-loading came)
 inv-step {c} f (spoils l came b p) = inv-forgot (dropped c) (l .key) (inv-dropped c f)
 
-pub clear-is : (c : Cache) → Inv c → Cached.clear c ≡ record { answer = Clearing.Done; cache = cleared c }
+-- `clear` clears, or is refused and leaves the state
+pub clear-leaves : (R : Cache → Type 0) (c : Cache) (arena : List ℕ) → R (cleared c) → R c → R (Cached.clear c arena .cache)
 unfolding Cached.clear
-clear-is c f = rw (inv-ok c f)
+clear-leaves R c arena r k = by (lentOk c (length arena))
+  where
+    by : (t : Bool) → R (cond {A = Cleared} t (record { answer = Clearing.Done; cache = cleared c }) (record { answer = Clearing.Refused 12; cache = c }) .cache)
+    by true = r
+    by false = k
 
 pub inv-call : (w : World) (c : Call) → Inv (w .cache) → Inv (exec c w .world .cache)
 unfolding exec
@@ -74,7 +79,7 @@ inv-call w (get h key) f = inv-got f (get-is (w .cache) (w .arena) h key)
 inv-call w (fetch h key) f = f
 inv-call w (load h key failure bs) f = inv-step f (load-is (w .cache) (w .arena) h key failure bs)
 inv-call w (loadFrom h key pack) f = inv-step f (from-is (w .cache) (w .arena) h key pack .goes)
-inv-call w clear f = rw (clear-is (w .cache) f) (inv-cleared (w .cache) f)
+inv-call w clear f = clear-leaves Inv (w .cache) (w .arena) (inv-cleared (w .cache) f) f
 
 -- ---- each call is safe
 
@@ -133,7 +138,7 @@ module _ (c : Cache) (arena : List ℕ) (h : Header) (key : TileKey) where
   read-len (Next.Chunk l) = add-zero (chunkLen l)
 
   -- so a `load` that is not refused has them
-  takes-only : (bs : List ℕ) → ofProgress (Cached.load c arena h key 0 bs .answer) ≡ 0 → length bs ≡ bytesOf (readsOf (Cached.fetch c arena h key))
+  takes-only : (bs : List ℕ) → refusedProgress (Cached.load c arena h key 0 bs .answer) ≡ 0 → length bs ≡ bytesOf (readsOf (Cached.fetch c arena h key))
   unfolding Cached.load Cached.fetch
   takes-only bs e = by (cacheOk c h (length arena)) (takes (nextStep c key) h key 0 (length bs)) (inGrid h key) refl refl e
     where
@@ -143,7 +148,7 @@ module _ (c : Cache) (arena : List ℕ) (h : Header) (key : TileKey) where
           (cond t (cond grid (stepped c (nextStep c key) arena h key 0 bs) (over (refused c 9) arena)) (over (refused c 11) arena))
           (over (refused c 12) arena)
 
-      by : (ok t grid : Bool) → takes (nextStep c key) h key 0 (length bs) ≡ t → inGrid h key ≡ grid → ofProgress (left ok t grid .answer) ≡ 0
+      by : (ok t grid : Bool) → takes (nextStep c key) h key 0 (length bs) ≡ t → inGrid h key ≡ grid → refusedProgress (left ok t grid .answer) ≡ 0
           → length bs ≡ bytesOf (readsOf (cond ok (cond grid (fetched c (nextStep c key) arena h key) (Request.Refused 9)) (Request.Refused 12)))
       by true true true t g e = eqb-true (length bs) (readLen (nextStep c key)) (rw g at t) ∙ sym (read-len (nextStep c key))
       by true true false t g e = absurd (omega arith)

@@ -1,5 +1,5 @@
 -- Under the premises of one pack: the invariant holds along every list of fair calls, `get` answers as the direct lookup, and no call is
--- refused with 12 while the arena holds the pages. By the ways that a call goes. Assumes nothing.
+-- refused with 12 while the arena holds the pages. By the ways that a call goes.
 use Prim.Native.Nat.{ℕ, _+_, _*_, _≤_}
 use mathlib.Core.Path.{_≡_, refl, sym, _∙_}
 use mathlib.Core.Bool.{Bool, true, false, cond, true≢false}
@@ -29,19 +29,21 @@ use Rattle.cache.specs.declared.Loading.{Loading}
 use Rattle.cache.specs.declared.next.Next.{Next}
 use Rattle.cache.specs.declared.next.Next.the-variants as Next
 use Rattle.cache.specs.Keys.{readyAt}
-use Rattle.cache.specs.Lookups.{pagesOf, passes, lenAt}
-use Rattle.cache.specs.State.{cacheOk}
+use Rattle.cache.specs.Lookups.{pagesOf, passes, lenAt, touched}
+use Rattle.cache.specs.declared.Pending.{Pending}
+use Rattle.cache.specs.declared.Pending.the-variants as Pending
+use Rattle.cache.specs.State.{cleared, lentOk, entryIn, cacheOk}
 use Rattle.cache.specs.Direct.{missing, directAt, direct}
 use Rattle.cache.specs.Calls as Cached
 use Rattle.cache.specs.declared.Request.{Request}
 use Rattle.cache.specs.declared.Request.the-variants as Request
-use Rattle.cache.specs.Loads.{After, fetched, dropped, chunkLen}
+use Rattle.cache.specs.Loads.{After, fetched, withdrawn, moved, forgot, dropped, chunkLen, readied, further}
 use Rattle.cache_lists.specs.Lists.{World, Call, capacity, loads, pages, get, fetch, load, loadFrom, clear, found, exec, Along}
-use Rattle.cache_lists.specs.Claims.{ofCount, ofLookup, ofRequest, ofProgress, Parsed, FairBytes, Fair, SameLook, SameAs, Open}
+use Rattle.cache_lists.specs.Claims.{numberOfCount, numberOfLookup, numberOfRequest, refusedProgress, Parsed, FairBytes, Fair, SameLook, SameAs, Open}
 use Rattle.cache_lists.proofs.Lookups.{in-ring, ReadyAt, ready-at, found-run, next-is}
 use Rattle.cache_lists.proofs.Steps.{Refusal, named, unasked, outside, stale, Gets, denied, ringed, unknown, handed, get-is, Came, came-loading, came-holds, Lacks, none, long, wide, Step, refuses, knows, uses, noPages, fails, lacks, begins, goesOn, readies, spoils, load-is, fetch-came, FetchIs, fetch-is, From, from-is}
 use Rattle.cache_lists.proofs.Inv.{sound-in, Inv, inv-ok, dropped-load}
-use Rattle.cache_lists.proofs.Safe.{clear-is, written-call}
+use Rattle.cache_lists.proofs.Safe.{clear-leaves, written-call}
 use Rattle.cache_lists.proofs.Direct.{direct-ready, direct-none, direct-entry, at-long, at-wide, at-tile}
 use Rattle.cache_lists.proofs.Kept.{Kept, kept-cleared, kept-touched, kept-forgot, kept-dropped, kept-began, kept-further, kept-readied, kept-spoiled}
 
@@ -113,10 +115,6 @@ module _ (P : List ℕ) (h : Header) (n : ℕ) (key : TileKey) where
     -- ---- not refused with 12
 
     module _ (ok : rules h ≡ true) (holds : n * 8192 ≤ length arena) where
-      pub kept-ok : cacheOk c h (length arena) ≡ true
-      unfolding cacheOk
-      kept-ok = rw (inv-ok c (k .inv), ok, k .count) (le-leb (n * 8192) (length arena) holds)
-
       -- a ready run lies in the arena and holds what the direct lookup gives, so it passes
       pub kept-passes : (i : ℕ) → readyAt (c .pages) key ≡ Found.At i → passes arena i (lenAt c i) key (h .tile) ≡ true
       unfolding passes
@@ -126,34 +124,89 @@ module _ (P : List ℕ) (h : Header) (n : ℕ) (key : TileKey) where
           rw (le-leb (i * 8192 + lenAt c i) (length arena) (omega (arith, end, span-holds (lenAt c i), k .count)))
           (direct-ready P h n key _ (k .slots i key (r .ready) (r .keyIs)))
 
-      pub not-12 : {number : ℕ} → Refusal c arena h key number → number ≡ 12 → ⊥
-      not-12 (named e) z = true≢false (sym kept-ok ∙ e)
-      not-12 unasked z = omega arith
-      not-12 outside z = omega arith
-      not-12 (stale i e p) z = true≢false (sym (kept-passes i e) ∙ p)
+      -- an open entry is in the header's grid
+      module _ (entry : entryIn (c .pending) h ≡ true) where
+        pub kept-ok : cacheOk c h (length arena) ≡ true
+        unfolding cacheOk
+        kept-ok = rw (inv-ok c (k .inv), ok, entry, k .count) (le-leb (n * 8192) (length arena) holds)
 
-      open-got : {r : Got} → Gets c arena h key r → ofLookup (r .answer) ≡ 12 → ⊥
-      open-got (denied number s) z = not-12 s z
-      open-got (ringed e) z = omega arith
-      open-got unknown z = omega arith
-      open-got (handed i e p) z = omega arith
+        pub not-12 : {number : ℕ} → Refusal c arena h key number → number ≡ 12 → ⊥
+        not-12 (named e) z = true≢false (sym kept-ok ∙ e)
+        not-12 unasked z = omega arith
+        not-12 outside z = omega arith
+        not-12 (stale i e p) z = true≢false (sym (kept-passes i e) ∙ p)
 
-      pub open-fetch : (x : Request) → FetchIs c arena h key x → ofRequest x ≡ 12 → ⊥
-      open-fetch Request.Settled f z = omega arith
-      open-fetch (Request.Read offset len) f z = omega arith
-      open-fetch (Request.Refused number) f z = not-12 f z
+        open-got : {r : Got} → Gets c arena h key r → numberOfLookup (r .answer) ≡ 12 → ⊥
+        open-got (denied number s) z = not-12 s z
+        open-got (ringed e) z = omega arith
+        open-got unknown z = omega arith
+        open-got (handed i e p) z = omega arith
 
-      pub open-step : {failure : ℕ} {bs : List ℕ} {r : After} → Step c arena h key failure bs r → ofProgress (r .answer) ≡ 12 → ⊥
-      open-step (refuses number s) z = not-12 s z
-      open-step (knows e) z = omega arith
-      open-step (uses i e) z = omega arith
-      open-step (noPages e) z = omega arith
-      open-step (fails number) z = omega arith
-      open-step (lacks came s) z = omega arith
-      open-step (begins came offset len slot e s v) z = omega arith
-      open-step (goesOn l came b) z = omega arith
-      open-step (readies l came b p) z = omega arith
-      open-step (spoils l came b p) z = omega arith
+        pub open-fetch : (x : Request) → FetchIs c arena h key x → numberOfRequest x ≡ 12 → ⊥
+        open-fetch Request.Settled f z = omega arith
+        open-fetch (Request.Read offset len) f z = omega arith
+        open-fetch (Request.Refused number) f z = not-12 f z
+
+        pub open-step : {failure : ℕ} {bs : List ℕ} {r : After} → Step c arena h key failure bs r → refusedProgress (r .answer) ≡ 12 → ⊥
+        open-step (refuses number s) z = not-12 s z
+        open-step (knows e) z = omega arith
+        open-step (uses i e) z = omega arith
+        open-step (noPages e) z = omega arith
+        open-step (fails number) z = omega arith
+        open-step (lacks came s) z = omega arith
+        open-step (begins came offset len slot e s v) z = omega arith
+        open-step (goesOn l came b) z = omega arith
+        open-step (readies l came b p) z = omega arith
+        open-step (spoils l came b p) z = omega arith
+
+-- ---- an open entry: no call opens one, and one that a step does not end stays
+
+withdrawn-in : (p : Pending) (h : Header) → entryIn (withdrawn p) h ≡ true
+withdrawn-in Pending.Nothing h = refl
+withdrawn-in Pending.Header h = refl
+withdrawn-in (Pending.Entry key) h = refl
+withdrawn-in Pending.Chunk h = refl
+
+module _ (g : Header) where
+  -- in the grid of g
+  abbrev pub EntryIn : Cache → Type 0
+  EntryIn c = entryIn (c .pending) g ≡ true
+
+  entry-got : {c : Cache} {arena : List ℕ} {h : Header} {key : TileKey} {r : Got} → EntryIn c → Gets c arena h key r → EntryIn (r .cache)
+  unfolding touched
+  entry-got o (denied number s) = o
+  entry-got o (ringed e) = o
+  entry-got o unknown = o
+  entry-got o (handed i e p) = o
+
+  entry-step : {c : Cache} {arena : List ℕ} {h : Header} {key : TileKey} {failure : ℕ} {bs : List ℕ} {r : After}
+      → EntryIn c → Step c arena h key failure bs r → EntryIn (r .cache)
+  unfolding touched forgot moved dropped further readied
+  entry-step o (refuses number s) = o
+  entry-step o (knows e) = o
+  entry-step o (uses i e) = o
+  entry-step {c} o (noPages e) = withdrawn-in (c .pending) g
+  entry-step {c} o (fails number) = withdrawn-in (c .pending) g
+  entry-step {c} o (lacks came s) = withdrawn-in (withdrawn (c .pending)) g
+  entry-step {c} o (begins came offset len slot e s v) = withdrawn-in (withdrawn (c .pending)) g
+  entry-step {c} o (goesOn l came b) = withdrawn-in (c .pending) g
+  entry-step {c} o (readies l came b p) = withdrawn-in (c .pending) g
+  entry-step {c} o (spoils l came b p) = withdrawn-in (withdrawn (c .pending)) g
+
+  cleared-in : (c : Cache) → EntryIn (cleared c)
+  unfolding cleared
+  cleared-in c = refl
+
+  entry-call : (w : World) (c : Call) → EntryIn (w .cache) → EntryIn (exec c w .world .cache)
+  unfolding exec
+  entry-call w capacity o = o
+  entry-call w loads o = o
+  entry-call w (pages h key) o = o
+  entry-call w (get h key) o = entry-got o (get-is (w .cache) (w .arena) h key)
+  entry-call w (fetch h key) o = o
+  entry-call w (load h key failure bs) o = entry-step o (load-is (w .cache) (w .arena) h key failure bs)
+  entry-call w (loadFrom h key pack) o = entry-step o (from-is (w .cache) (w .arena) h key pack .goes)
+  entry-call w clear o = clear-leaves EntryIn (w .cache) (w .arena) (cleared-in (w .cache)) o
 
 -- ---- a list of calls
 
@@ -180,7 +233,8 @@ module _ (P : List ℕ) (n : ℕ) where
   kept-call w (loadFrom h key Q) k f =
       let r : From (w .cache) (w .arena) h key Q (Cached.loadFrom (w .cache) (w .arena) h key Q) = from-is (w .cache) (w .arena) h key Q in
       rw (f .0 .header) (kept-step P h n key (w .cache) (w .arena) (given (f .0) k) (r .failure) (r .bytes) (r .fair P (f .1)) (r .goes))
-  kept-call w clear k f = rw (clear-is (w .cache) (k .inv)) (kept-cleared P _ n (w .cache) (w .arena) k)
+  kept-call w clear k f =
+      clear-leaves (λ (c : Cache). Kept P (parse (take 512 P) .header) n c (w .arena)) (w .cache) (w .arena) (kept-cleared P _ n (w .cache) (w .arena) k) k
 
   same-call : (w : World) (c : Call) → KeptIn w → Fair P w c → SameAs P n w c
   unfolding exec
@@ -200,31 +254,43 @@ module _ (P : List ℕ) (n : ℕ) where
   same-along [] w k f = tt
   same-along (c ∷ cs) w k f = (same-call w c k (f .0), same-along cs (exec c w .world) (kept-call w c k (f .0)) (f .1))
 
-  module _ (w : World) (k : KeptIn w) (holds : n * 8192 ≤ length (w .arena)) where
-    open-pages : (h : Header) (key : TileKey) → Parsed P h → ofCount (Cached.pages (w .cache) h key) ≡ 12 → ⊥
+  -- the state with the arena, without a header and with one
+  module _ (w : World) (k : KeptIn w) (holds : n * 8192 ≤ length (w .arena)) (entry : EntryIn (parse (take 512 P) .header) (w .cache)) where
+    pub lent-is : lentOk (w .cache) (length (w .arena)) ≡ true
+    unfolding lentOk
+    lent-is = rw (inv-ok (w .cache) (k .inv), k .count) (le-leb (n * 8192) (length (w .arena)) holds)
+
+    entry-of : {h : Header} → Parsed P h → entryIn (w .cache .pending) h ≡ true
+    entry-of p = rw (p .header) at entry
+
+    open-pages : (h : Header) (key : TileKey) → Parsed P h → numberOfCount (Cached.pages (w .cache) (w .arena) h key) ≡ 12 → ⊥
     unfolding Cached.pages
-    open-pages h key p = rw (inv-ok (w .cache) (k .inv), parsed-rules p) (by (inGrid h key))
+    open-pages h key p = rw (kept-ok P h n key (w .cache) (w .arena) (given p k) (parsed-rules p) holds (entry-of p)) (by (inGrid h key))
       where
-        by : (t : Bool) → ofCount (cond t (Count.Is (pagesOf (w .cache .pages) key)) (Count.Refused 9)) ≡ 12 → ⊥
+        by : (t : Bool) → numberOfCount (cond t (Count.Is (pagesOf (w .cache .pages) key)) (Count.Refused 9)) ≡ 12 → ⊥
         by true z = omega arith
         by false z = omega arith
 
     pub open-call : (c : Call) → Fair P w c → Open w c
-    unfolding exec Cached.capacity Cached.loads
-    open-call capacity f = rw (inv-ok (w .cache) (k .inv)) (λ z. omega arith)
-    open-call loads f = rw (inv-ok (w .cache) (k .inv)) (λ z. omega arith)
+    unfolding exec Cached.capacity Cached.loads Cached.clear
+    open-call capacity f = rw lent-is (λ z. omega arith)
+    open-call loads f = rw lent-is (λ z. omega arith)
     open-call (pages h key) f = open-pages h key f
-    open-call (get h key) f = open-got P h n key (w .cache) (w .arena) (given f k) (parsed-rules f) holds (get-is (w .cache) (w .arena) h key)
+    open-call (get h key) f = open-got P h n key (w .cache) (w .arena) (given f k) (parsed-rules f) holds (entry-of f) (get-is (w .cache) (w .arena) h key)
     open-call (fetch h key) f =
-        open-fetch P h n key (w .cache) (w .arena) (given f k) (parsed-rules f) holds (Cached.fetch (w .cache) (w .arena) h key) (fetch-is (w .cache) (w .arena) h key)
+        open-fetch P h n key (w .cache) (w .arena) (given f k) (parsed-rules f) holds (entry-of f) (Cached.fetch (w .cache) (w .arena) h key)
+        (fetch-is (w .cache) (w .arena) h key)
     open-call (load h key failure bs) f =
-        open-step P h n key (w .cache) (w .arena) (given (f .0) k) (parsed-rules (f .0)) holds (load-is (w .cache) (w .arena) h key failure bs)
+        open-step P h n key (w .cache) (w .arena) (given (f .0) k) (parsed-rules (f .0)) holds (entry-of (f .0)) (load-is (w .cache) (w .arena) h key failure bs)
     open-call (loadFrom h key Q) f =
-        open-step P h n key (w .cache) (w .arena) (given (f .0) k) (parsed-rules (f .0)) holds (from-is (w .cache) (w .arena) h key Q .goes)
-    open-call clear f = rw (clear-is (w .cache) (k .inv)) (λ z. omega arith)
+        open-step P h n key (w .cache) (w .arena) (given (f .0) k) (parsed-rules (f .0)) holds (entry-of (f .0)) (from-is (w .cache) (w .arena) h key Q .goes)
+    open-call clear f = rw lent-is (λ z. omega arith)
 
-  pub open-along : (cs : List Call) (w : World) → KeptIn w → n * 8192 ≤ length (w .arena) → Along (Fair P) cs w → Along Open cs w
+  pub open-along : (cs : List Call) (w : World) → KeptIn w → n * 8192 ≤ length (w .arena) → EntryIn (parse (take 512 P) .header) (w .cache)
+      → Along (Fair P) cs w → Along Open cs w
   unfolding Along
-  open-along [] w k holds f = tt
-  open-along (c ∷ cs) w k holds f =
-      (open-call w k holds c (f .0), open-along cs (exec c w .world) (kept-call w c k (f .0)) (rw (written-call w c .size) holds) (f .1))
+  open-along [] w k holds entry f = tt
+  open-along (c ∷ cs) w k holds entry f = (
+    open-call w k holds entry c (f .0),
+    open-along cs (exec c w .world) (kept-call w c k (f .0)) (rw (written-call w c .size) holds) (entry-call _ w c entry) (f .1),
+  )

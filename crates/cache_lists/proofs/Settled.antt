@@ -1,5 +1,5 @@
 -- A tile that is ready or known missing (`Settled`): a lookup of its key lands on something. So of a key that was found, of a key forgotten,
--- which the ring then has in the place that was next, and of a load's key once its run is ready. Assumes nothing.
+-- which the ring then has in the place that was next, and of a load's key once its run is ready.
 use Prim.Native.Nat.{ℕ, _<_}
 use mathlib.Core.Path.{_≡_, ap, _∙_}
 use mathlib.Core.Bool.{Bool, true, false, cond}

@@ -1,6 +1,5 @@
 -- What `get` and `load` do, in one of four ways and of ten (`Gets`, `Step`), each with what is then known: every test of their definitions
 -- is met here, once, and whatever is shown of them goes by these ways. `loadFrom` is a `load` with some answer (`from-is`).
--- Assumes nothing.
 use Prim.Native.Nat.{ℕ, _+_, _*_, _<_, _≤_}
 use mathlib.Core.Path.{_≡_, refl}
 use mathlib.Core.Bool.{Bool, true, false, cond}
@@ -35,7 +34,7 @@ use Rattle.cache.specs.declared.look.Landing.{Landing}
 use Rattle.cache.specs.declared.look.Landing.the-variants as Landing
 use Rattle.cache.specs.Keys.{inRing, readyAt}
 use Rattle.cache.specs.Lookups.{landsOn, passes, lenAt, touched, gotReady, gotAt, got, nextStep}
-use Rattle.cache.specs.State.{stateOk, cacheOk}
+use Rattle.cache.specs.State.{stateOk, cacheOk, entryIn}
 use Rattle.cache.specs.declared.Request.{Request}
 use Rattle.cache.specs.declared.Request.the-variants as Request
 use Rattle.cache.specs.Loads.{After, over, refused, failed, done, more, fetched, readLen, fits, takes, moved, forgot, dropped, newLoad, beganAt, began, located, entryStep, chunkLen, put, readied, ended, further, chunkCame, chunkStep, stepped, packBytes}
@@ -104,7 +103,7 @@ came-key {c} {key = key} came = (rw (came .is) at (next-is c key)) .1
 pub came-holds : {c : Cache} {arena : List ℕ} {h : Header} {key : TileKey} {failure : ℕ} {bs : List ℕ} {next : Next}
     → Came c arena h key failure bs next → c .pages .count * 8192 ≤ length arena
 unfolding cacheOk
-came-holds {c} {arena} {h} came = leb-true (c .pages .count * 8192) (length arena) (and-right (rules h) _ (and-right (stateOk c) _ (came .ok)))
+came-holds {c} {arena} {h} came = leb-true (c .pages .count * 8192) (length arena) (and-right (entryIn (c .pending) h) _ (and-right (rules h) _ (and-right (stateOk c) _ (came .ok))))
 
 -- what an entry tells of a tile that the cache d can't hold: none there, too long for any run, or for the pages
 pub data Lacks (d : Cache) : Located → Type 0 where

@@ -1,5 +1,5 @@
 -- Stores into lists: an element after a store (`set-cases`), and bytes pasted: every other byte is as it was, and their own part is they, by
--- cutting the list at the ends of the paste. Assumes nothing.
+-- cutting the list at the ends of the paste.
 use Prim.Native.Nat.{ℕ, zero, suc, _+_, _-_, _*_, _<_, _≤_}
 use mathlib.Core.Path.{_≡_, refl, sym, ap, _∙_}
 use mathlib.Core.Bool.{Bool, true, false, cond}

@@ -1,6 +1,6 @@
 -- What is claimed of every list of calls on the cache, from a fresh one of any page count over any arena: demand 3, the part that concerns
 -- memory. `Safe` is claimed with no premise at all; `Fair` are demand 3's premises for one pack, and `SameAs` and `Open` are claimed under
--- them. Assumes nothing.
+-- them.
 use Prim.Native.Nat.{ℕ, _+_, _*_, _<_, _≤_}
 use mathlib.Core.Path.{_≡_}
 use mathlib.Core.Bool.{true}
@@ -17,12 +17,8 @@ use Rattle.tile.specs.Parse.{accepts}
 use Rattle.cache.specs.declared.Cache.{Cache}
 use Rattle.cache.specs.declared.MaybeLoading.{MaybeLoading}
 use Rattle.cache.specs.declared.MaybeLoading.the-variants as MaybeLoading
-use Rattle.cache.specs.declared.Count.{Count}
-use Rattle.cache.specs.declared.Count.the-variants as Count
 use Rattle.cache.specs.declared.Lookup.{Lookup}
 use Rattle.cache.specs.declared.Lookup.the-variants as Lookup
-use Rattle.cache.specs.declared.Clearing.{Clearing}
-use Rattle.cache.specs.declared.Clearing.the-variants as Clearing
 use Rattle.cache.specs.declared.look.Landing.the-variants as Landing
 use Rattle.cache.specs.Lookups.{landsOn, runBytes, lenAt}
 use Rattle.cache.specs.Direct.{Look, ready, missing, direct}
@@ -31,41 +27,17 @@ use Rattle.cache.specs.declared.Request.the-variants as Request
 use Rattle.cache.specs.declared.Progress.{Progress}
 use Rattle.cache.specs.declared.Progress.the-variants as Progress
 use Rattle.cache.specs.Loads.{chunkLen}
+pub use Rattle.cache.specs.Numbers.{numberOfCount, numberOfLookup, numberOfRequest, refusedProgress, numberOfClearing}
 use Rattle.cache.specs.Calls as Loaded
 use Rattle.cache_lists.specs.Lists.{World, Call, capacity, loads, pages, get, fetch, load, loadFrom, clear, Answer, counted, found, asked, stepped, cleared, exec, start, Along}
 
--- the number of a refusal, 0 for any other answer
-abbrev pub ofCount : Count → ℕ
-ofCount (Count.Is n) = 0
-ofCount (Count.Refused number) = number
-
-abbrev pub ofLookup : Lookup → ℕ
-ofLookup (Lookup.Ready first len) = 0
-ofLookup Lookup.Missing = 0
-ofLookup Lookup.Absent = 0
-ofLookup (Lookup.Refused number) = number
-
-abbrev pub ofRequest : Request → ℕ
-ofRequest Request.Settled = 0
-ofRequest (Request.Read offset len) = 0
-ofRequest (Request.Refused number) = number
-
-abbrev pub ofProgress : Progress → ℕ
-ofProgress Progress.Done = 0
-ofProgress Progress.More = 0
-ofProgress (Progress.Failed number) = 0
-ofProgress (Progress.Refused number) = number
-
-abbrev pub ofClearing : Clearing → ℕ
-ofClearing Clearing.Done = 0
-ofClearing (Clearing.Refused number) = number
-
+-- document 01's number of a refusal, 0 for any other answer: a step of a load that failed is none
 abbrev pub number : Answer → ℕ
-number (counted a) = ofCount a
-number (found a) = ofLookup a
-number (asked a) = ofRequest a
-number (stepped a) = ofProgress a
-number (cleared a) = ofClearing a
+number (counted a) = numberOfCount a
+number (found a) = numberOfLookup a
+number (asked a) = numberOfRequest a
+number (stepped a) = refusedProgress a
+number (cleared a) = numberOfClearing a
 
 -- ---- with no premise
 
@@ -156,7 +128,7 @@ abbrev pub OfChunk : MaybeLoading → ℕ → Type 0
 OfChunk MaybeLoading.Nothing b = ⊥
 OfChunk (MaybeLoading.Tile l) b = (l .slot * 8192 + l .done ≤ b) × (b < l .slot * 8192 + l .done + chunkLen l)
 
--- DESIGN 4: "A chunk writes its own bytes of the arena and no others", and no call any other bytes
+-- a chunk writes its own bytes of the arena and no others, and no call any other bytes
 pub record Written (x : MaybeLoading) (before after : List ℕ) : Type 0 where
   pub size : length after ≡ length before
   pub others : (b : ℕ) → (OfChunk x b → ⊥) → getD after b 0 ≡ getD before b 0

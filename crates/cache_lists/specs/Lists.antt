@@ -1,5 +1,5 @@
 -- The public calls on the cache as data, and what a list of them does to the state and the arena, by the functions' own definitions. Each
--- call gets the state and the arena that the last one left (demand 3); header, key, bytes and pack are its own arguments. Assumes nothing.
+-- call gets the state and the arena that the last one left (demand 3); header, key, bytes and pack are its own arguments.
 use Prim.Native.Nat.{ℕ}
 use mathlib.Core.List.{List, [], _∷_}
 use Rattle.pack.specs.declared.TileKey.{TileKey}
@@ -51,14 +51,14 @@ abbrev pub loaded : After → Done
 loaded r = record { world = record { cache = r .cache; arena = r .arena }; answer = stepped (r .answer) }
 
 unfoldable pub exec : Call → World → Done
-exec capacity w = same w (counted (Cached.capacity (w .cache)))
-exec loads w = same w (counted (Cached.loads (w .cache)))
-exec (pages h key) w = same w (counted (Cached.pages (w .cache) h key))
+exec capacity w = same w (counted (Cached.capacity (w .cache) (w .arena)))
+exec loads w = same w (counted (Cached.loads (w .cache) (w .arena)))
+exec (pages h key) w = same w (counted (Cached.pages (w .cache) (w .arena) h key))
 exec (get h key) w = let r = Cached.get (w .cache) (w .arena) h key in inCache w (r .cache) (found (r .answer))
 exec (fetch h key) w = same w (asked (Cached.fetch (w .cache) (w .arena) h key))
 exec (load h key failure bs) w = loaded (Cached.load (w .cache) (w .arena) h key failure bs)
 exec (loadFrom h key pack) w = loaded (Cached.loadFrom (w .cache) (w .arena) h key pack)
-exec clear w = let r = Cached.clear (w .cache) in inCache w (r .cache) (cleared (r .answer))
+exec clear w = let r = Cached.clear (w .cache) (w .arena) in inCache w (r .cache) (cleared (r .answer))
 
 -- a fresh cache of n pages over an arena
 abbrev pub start : ℕ → List ℕ → World

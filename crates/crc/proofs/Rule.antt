@@ -1,6 +1,5 @@
 -- The rule of the table and of the slices, at all of their 2,048 entries by two tests that antt computes: the bits of the table's are the remainder for their
 -- place, and those of a slice's what eight steps of division make of the entry 256 places before, so that nothing is divided twice.
--- Assumes nothing.
 use Prim.Native.Nat.{ℕ, zero, suc, _+_, _-_, _*_, _<_}
 use mathlib.Core.Path.{_≡_, refl, ap, _∙_}
 use mathlib.Core.Bool.{Bool, true, false}

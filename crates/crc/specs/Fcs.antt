@@ -1,6 +1,5 @@
 -- CRC-32: the 32-bit frame check sequence of ITU-T V.42, clause 8.1.1.6.2, as that clause states it, by division of polynomials modulo 2.
 -- Nothing here is a shift register or a table. `proofs/Euclid` shows that `remainder` is the remainder, and the only one.
--- Assumes nothing.
 use Prim.Native.Nat.{ℕ, zero, suc, _+_, _-_, _*_, _/_, _%_}
 use mathlib.Core.Bool.{Bool, true, false, not, cond}
 use mathlib.Core.List.{List, [], _∷_, _++_, map}

@@ -1,5 +1,5 @@
 -- What the loops over octets keep: a register of 32 bits that stands under the first terms of what is left of the dividend, and the tables' rules.
--- These serve private functions alone; nothing public is stated by them. Assumes nothing.
+-- These serve private functions alone; nothing public is stated by them.
 use Prim.Native.Nat.{ℕ, _+_, _-_, _*_, _<_}
 use mathlib.Core.Path.{_≡_}
 use mathlib.Core.Bool.{Bool}

@@ -2,3 +2,5 @@
 pub mod Segments
 pub mod Crossing
 pub mod Sides
+-- The number of each answer.
+pub mod Numbers

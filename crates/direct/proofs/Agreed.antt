@@ -1,4 +1,4 @@
--- What the cache's look settles, the pack has there, and so has every lookup that gives what the direct one does where that has an answer. Assumes nothing.
+-- What the cache's look settles, the pack has there, and so has every lookup that gives what the direct one does where that has an answer.
 use Prim.Native.Nat.{ℕ}
 use mathlib.Core.Path.{_≡_, sym, ap, subst, _∙_}
 use mathlib.Core.Bool.{Bool, true, false, cond, true≢false}

@@ -1,5 +1,5 @@
 -- Along every list of fair calls, with an arena as long as its pages: the engine is in no state that 12 names, its match was found in the pack, and so no
--- call is refused with 12 but for a matcher that the caller gives. By the ways that a call goes. Assumes nothing.
+-- call is refused with 12 but for a matcher that the caller gives. By the ways that a call goes.
 use Prim.Native.Nat.{ℕ, _*_, _≤_}
 use mathlib.Core.Path.{_≡_, refl, sym, ap, subst, _∙_}
 use mathlib.Core.Bool.{Bool, true, false, _&&_, not, cond, true≢false}
@@ -14,7 +14,7 @@ use Rattle.pack.specs.declared.Header.{Header}
 use Rattle.pack.specs.declared.TileKey.{TileKey}
 use Rattle.geo.specs.declared.Point.{Point}
 use Rattle.cache.specs.Direct.{stale, look}
-use Rattle.cache.specs.State.{cacheOk}
+use Rattle.cache.specs.State.{entryIn, cacheOk}
 use Rattle.cache.specs.declared.Cache.{Cache}
 use Rattle.cache.specs.declared.Progress.{Progress}
 use Rattle.cache.specs.declared.Progress.the-variants as Progress
@@ -31,6 +31,8 @@ use Rattle.matcher.specs.declared.Matched.{Matched}
 use Rattle.matcher.specs.Calls as Matching
 use Rattle.matcher.specs.Gather as Gather
 use Rattle.matcher.specs.State as Matchers
+use Rattle.matcher.specs.Numbers as MatchNumbers
+use Rattle.predict.specs.Numbers as RoadNumbers
 use Rattle.matcher.specs.State.{countsOk, keyOk, callOk, headingOk}
 use Rattle.matcher.specs.Near.{nearOf, noKeys}
 use Rattle.matcher.specs.declared.Answer.the-variants as NearAnswer
@@ -57,17 +59,19 @@ use Rattle.engine.specs.declared.Changed.{Changed}
 use Rattle.engine.specs.declared.Engine.{Engine}
 use Rattle.engine.specs.declared.HeaderRead.{HeaderRead}
 use Rattle.engine.specs.declared.Known.the-variants as Known
+use Rattle.engine.specs.declared.Phase.{Phase}
+use Rattle.engine.specs.declared.Phase.the-variants as Phase
 use Rattle.engine.specs.declared.Stepped.{Stepped}
 use Rattle.engine_states.proofs.EngineKept.{fix-kept, lost-kept}
 use Rattle.engine_states.proofs.EngineClosed.{reset-ok, step-ok, deliver-ok, step-from-ok}
 use Rattle.engine_states.proofs.RoadBounds.{road-not-stale}
 use Rattle.direct.specs.Lists as Calls
-use Rattle.direct.specs.Lists.{World, Call, withCache, cacheOf, ofTaken, ofStatus, ofKnown, ofHeading, ofMatch, ofRoad, number, exec, Along}
+use Rattle.direct.specs.Lists.{World, Call, withCache, cacheOf, numberOfTaken, numberOfStatus, numberOfKnown, numberOfHeadingRead, number, exec, Along}
 use Rattle.direct.specs.Finished.{Shown, taskShown, taskOf, stepShown, updateShown, predictShown, shown}
-use Rattle.direct.specs.Direct.{packAfter}
+use Rattle.direct.specs.Direct.{headerOf, packAfter}
 use Rattle.direct.specs.Claims.{toldOf, Fair, AllFair, Blamed, Open}
 use Rattle.direct.proofs.Ways as Ways
-use Rattle.direct.proofs.Ways.{Delivers, brought, Lends, step-is, deliver-is, lends-is}
+use Rattle.direct.proofs.Ways.{Delivers, brought, Lends, entry-is, step-is, deliver-is, lends-is}
 use Rattle.direct.proofs.Changes.{update-keeps, predict-keeps}
 use Rattle.direct.proofs.Safe.{written-after}
 use Rattle.direct.proofs.Beside.{deliver-left}
@@ -87,15 +91,15 @@ module _ (P : List ℕ) (n : ℕ) (horizon : Float) (w : World) (s : Stays P n h
   step-runs = rw (s .ok)
 
   step-found : CurrentFits P n (Engines.step e₁ (w .arena) .engine .follower .matcher)
-  step-found = subst (λ (x : Stepped). CurrentFits P n (x .engine .follower .matcher)) (sym step-runs) (steps-found P n horizon w s (step-is e₁ (w .arena)))
+  step-found = subst (λ (x : Stepped). CurrentFits P n (x .engine .follower .matcher)) (sym step-runs) (steps-found P n horizon w s (step-is e₁ (w .arena) (s .ok)))
 
-  step-number : ofStatus (Engines.step e₁ (w .arena) .answer) ≡ 12 → ⊥
-  step-number z = steps-number P n horizon w s (step-is e₁ (w .arena)) (ap (λ (x : Stepped). ofStatus (x .answer)) (sym step-runs) ∙ z)
+  step-number : numberOfStatus (Engines.step e₁ (w .arena) .answer) ≡ 12 → ⊥
+  step-number z = steps-number P n horizon w s (step-is e₁ (w .arena) (s .ok)) (ap (λ (x : Stepped). numberOfStatus (x .answer)) (sym step-runs) ∙ z)
 
   pub step-again : isAgain (stepShown e₁ (w .arena)) ≡ false
   unfolding stepShown
   step-again =
-      rw (s .ok) (ap (λ (x : Stepped). isAgain (taskShown (taskOf e₁) e₁ (w .arena) (x .engine))) step-runs ∙ steps-again P n horizon w s (step-is e₁ (w .arena)))
+      rw (s .ok) (ap (λ (x : Stepped). isAgain (taskShown (taskOf e₁) e₁ (w .arena) (x .engine))) step-runs ∙ steps-again P n horizon w s (step-is e₁ (w .arena) (s .ok)))
 
   -- the world after it
   stays-stepped : Stays P n horizon (record { engine = Engines.step e₁ (w .arena) .engine; arena = w .arena })
@@ -110,18 +114,18 @@ module _ (P : List ℕ) (n : ℕ) (horizon : Float) (w : World) (s : Stays P n h
   unfolding Engines.deliver
   deliver-runs failure bs = rw (s .ok)
 
-  either-number : (t : Bool) (x y : Stepped) → (ofStatus (x .answer) ≡ 12 → ⊥) → (ofStatus (y .answer) ≡ 12 → ⊥) → ofStatus (cond t x y .answer) ≡ 12 → ⊥
+  either-number : (t : Bool) (x y : Stepped) → (numberOfStatus (x .answer) ≡ 12 → ⊥) → (numberOfStatus (y .answer) ≡ 12 → ⊥) → numberOfStatus (cond t x y .answer) ≡ 12 → ⊥
   either-number true x y p q = p
   either-number false x y p q = q
 
-  loaded-number : (x : Progress) (c : Cache) → (Cached.ofProgress x ≡ 12 → ⊥) → ofStatus (loadedBy x e₁ c .answer) ≡ 12 → ⊥
+  loaded-number : (x : Progress) (c : Cache) → (Cached.refusedProgress x ≡ 12 → ⊥) → numberOfStatus (loadedBy x e₁ c .answer) ≡ 12 → ⊥
   unfolding arrived loadFailed
   loaded-number Progress.Done c f z = omega arith
   loaded-number Progress.More c f z = omega arith
   loaded-number (Progress.Failed k) c f z = either-number (ltb (e₁ .follower .failures) 7) _ _ (λ y. omega arith) (λ y. omega arith) z
   loaded-number (Progress.Refused k) c f z = f z
 
-  delivers-number : {failure : ℕ} {bs : List ℕ} {r : After} → Delivers e₁ (w .arena) failure bs r → ofStatus (r .answer) ≡ 12 → ⊥
+  delivers-number : {failure : ℕ} {bs : List ℕ} {r : After} → Delivers e₁ (w .arena) failure bs r → numberOfStatus (r .answer) ≡ 12 → ⊥
   unfolding headerFailed
   delivers-number Ways.refuses z = omega arith
   delivers-number (Ways.loses k o len) z = either-number (eqb k 1 && ltb (e₁ .follower .failures) 7) _ _ (λ y. omega arith) (λ y. omega arith) z
@@ -131,16 +135,16 @@ module _ (P : List ℕ) (n : ℕ) (horizon : Float) (w : World) (s : Stays P n h
       let parsed : Parsed P h = rw (b .ready) at (s .fit .header) in
       loaded-number (brought e₁ (w .arena) key failure bs .answer) _
       (open-step P h n key (e₁ .shared .cache) (w .arena) (given P n parsed (s .fit .cache)) (parsed-rules P n parsed) (s .long)
-      (load-is (e₁ .shared .cache) (w .arena) h key failure bs)) z
+      (entry-is e₁ (w .arena) (s .ok) h (λ y. refl)) (load-is (e₁ .shared .cache) (w .arena) h key failure bs)) z
 
-  deliver-number : (failure : ℕ) (bs : List ℕ) → ofStatus (Engines.deliver e₁ (w .arena) failure bs .answer) ≡ 12 → ⊥
+  deliver-number : (failure : ℕ) (bs : List ℕ) → numberOfStatus (Engines.deliver e₁ (w .arena) failure bs .answer) ≡ 12 → ⊥
   deliver-number failure bs z =
-      delivers-number (deliver-is e₁ (w .arena) (s .ok) failure bs) (ap (λ (x : After). ofStatus (x .answer)) (sym (deliver-runs failure bs)) ∙ z)
+      delivers-number (deliver-is e₁ (w .arena) (s .ok) failure bs) (ap (λ (x : After). numberOfStatus (x .answer)) (sym (deliver-runs failure bs)) ∙ z)
 
 -- ---- the lent-pack form
 
 lent-number : (P : List ℕ) (n : ℕ) (horizon : Float) (w : World) (Q : List ℕ) {r : After} → Stays P n horizon w → Lends (w .engine) (w .arena) Q r
-    → ofStatus (r .answer) ≡ 12 → ⊥
+    → numberOfStatus (r .answer) ≡ 12 → ⊥
 lent-number P n horizon w Q s (Ways.plain t) z = step-number P n horizon w s z
 lent-number P n horizon w Q s (Ways.asks offset len failure bs a f) z = deliver-number P n horizon _ (stays-stepped P n horizon w s) failure bs z
 
@@ -186,7 +190,7 @@ module _ (P : List ℕ) (n : ℕ) (horizon : Float) (w : World) (s : Stays P n h
       left : Bool → Changed
       left t = cond t (States.forgotten e₂) (unchanged e₂ 12)
 
-      by : (t : Bool) → CurrentFits (cond (not (eqb (ofTaken (left t .answer)) 0)) P Q) n (left t .engine .follower .matcher)
+      by : (t : Bool) → CurrentFits (cond (not (eqb (numberOfTaken (left t .answer)) 0)) P Q) n (left t .engine .follower .matcher)
       by true = reset-fits Q n
       by false = s .found
   found-after Calls.step = step-found P n horizon w s
@@ -232,19 +236,19 @@ module _ (P : List ℕ) (n : ℕ) (horizon : Float) (w : World) (s : Stays P n h
 
   -- ---- a call is accepted
 
-  fix-number : (f : Fix) → ofTaken (Engines.fix e₂ (w .arena) f .answer) ≡ 12 → ⊥
+  fix-number : (f : Fix) → numberOfTaken (Engines.fix e₂ (w .arena) f .answer) ≡ 12 → ⊥
   unfolding Engines.fix
   fix-number f = rw (s .ok) (by (isPoint (f .lat) (f .lon)))
     where
-      by : (t : Bool) → ofTaken (cond t (followed e₂ (Followers.fixed (e₂ .follower) f)) (unchanged e₂ 8) .answer) ≡ 12 → ⊥
+      by : (t : Bool) → numberOfTaken (cond t (followed e₂ (Followers.fixed (e₂ .follower) f)) (unchanged e₂ 8) .answer) ≡ 12 → ⊥
       by true z = omega arith
       by false z = omega arith
 
-  lost-number : ofTaken (Engines.lost e₂ (w .arena) .answer) ≡ 12 → ⊥
+  lost-number : numberOfTaken (Engines.lost e₂ (w .arena) .answer) ≡ 12 → ⊥
   unfolding Engines.lost
   lost-number = rw (s .ok) (λ z. omega arith)
 
-  reset-number : ofTaken (Engines.reset e₂ (w .arena) .answer) ≡ 12 → ⊥
+  reset-number : numberOfTaken (Engines.reset e₂ (w .arena) .answer) ≡ 12 → ⊥
   unfolding Engines.reset States.forgotten
   reset-number = rw (s .ok) (λ z. omega arith)
 
@@ -253,53 +257,62 @@ module _ (P : List ℕ) (n : ℕ) (horizon : Float) (w : World) (s : Stays P n h
   read-number Calls.itsAhead = rw (s .ok) (λ z. omega arith)
   read-number Calls.itsHeader = rw (s .ok) (by (isReady (e₂ .shared .phase)))
     where
-      by : (t : Bool) → ofKnown (cond {A = HeaderRead} t (record { answer = Known.Is; header = e₂ .shared .header })
+      by : (t : Bool) → numberOfKnown (cond {A = HeaderRead} t (record { answer = Known.Is; header = e₂ .shared .header })
           (record { answer = Known.Nothing; header = States.noHeader }) .answer) ≡ 12 → ⊥
       by true z = omega arith
       by false z = omega arith
   read-number Calls.itsHeading = rw (s .ok) (by (e₂ .follower .sight .heading))
     where
-      by : (x : Heading) → ofHeading (Engines.headingOf x) ≡ 12 → ⊥
+      by : (x : Heading) → numberOfHeadingRead (Engines.headingOf x) ≡ 12 → ⊥
       by HeadingIs.Nothing z = omega arith
       by (HeadingIs.Degrees d) z = omega arith
   read-number Calls.itsLoads = rw (s .ok) (λ z. omega arith)
   read-number Calls.itsSteps = rw (s .ok) (λ z. omega arith)
 
-  nearby-number : (h : Header) (p : Point) → Parsed P h → Calls.ofNear (Matching.nearby h p .answer) ≡ 12 → ⊥
+  nearby-number : (h : Header) (p : Point) → Parsed P h → MatchNumbers.numberOfAnswer (Matching.nearby h p .answer) ≡ 12 → ⊥
   unfolding Matching.nearby
   nearby-number h p parsed = rw (parsed-rules P n parsed) (by (isPoint (p .lat) (p .lon)))
     where
-      by : (t : Bool) → Calls.ofNear (cond {A = NearRead} t (record { answer = NearAnswer.Accepted; near = nearOf h p })
+      by : (t : Bool) → MatchNumbers.numberOfAnswer (cond {A = NearRead} t (record { answer = NearAnswer.Accepted; near = nearOf h p })
           (record { answer = NearAnswer.Refused 8; near = noKeys }) .answer) ≡ 12 → ⊥
       by true z = omega arith
       by false z = omega arith
 
-  current-number : (m : Matcher) → Calls.ofCurrent (Matching.current m) ≡ 12 → countsOk m ≡ false
+  current-number : (m : Matcher) → MatchNumbers.numberOfCurrentRead (Matching.current m) ≡ 12 → countsOk m ≡ false
   unfolding Matching.current
   current-number m = by (countsOk m)
     where
-      read : (x : Current) → Calls.ofCurrent (Matching.currentOf x) ≡ 12 → ⊥
+      read : (x : Current) → MatchNumbers.numberOfCurrentRead (Matching.currentOf x) ≡ 12 → ⊥
       read CurrentIs.Nothing z = omega arith
       read (CurrentIs.Is f) z = omega arith
 
-      by : (t : Bool) → Calls.ofCurrent (cond t (Matching.currentOf (m .current)) (CurrentRead.Refused 12)) ≡ 12 → t ≡ false
+      by : (t : Bool) → MatchNumbers.numberOfCurrentRead (cond t (Matching.currentOf (m .current)) (CurrentRead.Refused 12)) ≡ 12 → t ≡ false
       by true z = absurd (read (m .current) z)
       by false z = refl
+
+  -- the header that was read is the pack's
+  header-same : e₂ .shared .phase ≡ Phase.Ready → e₂ .shared .header ≡ headerOf P
+  header-same z = let parsed : Parsed P (e₂ .shared .header) = rw z at (s .fit .header) in sym (parsed .header)
+
+  pub entry-of-pack : entryIn (e₂ .shared .cache .pending) (headerOf P) ≡ true
+  entry-of-pack = entry-is e₂ (w .arena) (s .ok) (headerOf P) header-same
 
   module _ (h : Header) (parsed : Parsed P h) where
     fresh-at : (key : TileKey) → look (e₂ .shared .cache) (w .arena) (h .tile) key ≡ stale → ⊥
     fresh-at = not-stale P h n (e₂ .shared .cache) (w .arena) (given P n parsed (s .fit .cache)) (parsed-rules P n parsed) (s .long)
 
-    cache-is : (key : TileKey) → cacheOk (e₂ .shared .cache) h (length (w .arena)) ≡ true
-    cache-is key = kept-ok P h n key (e₂ .shared .cache) (w .arena) (given P n parsed (s .fit .cache)) (parsed-rules P n parsed) (s .long)
+    pub cache-is : (key : TileKey) → cacheOk (e₂ .shared .cache) h (length (w .arena)) ≡ true
+    cache-is key =
+        kept-ok P h n key (e₂ .shared .cache) (w .arena) (given P n parsed (s .fit .cache)) (parsed-rules P n parsed) (s .long)
+        (entry-is e₂ (w .arena) (s .ok) h (λ z. header-same z ∙ parsed .header))
 
-    update-number : (m : Matcher) (p : Point) (heading : Heading) → ofMatch (Matching.update m (e₂ .shared .cache) (w .arena) h p heading .answer) ≡ 12
+    update-number : (m : Matcher) (p : Point) (heading : Heading) → MatchNumbers.numberOfOutcome (Matching.update m (e₂ .shared .cache) (w .arena) h p heading .answer) ≡ 12
         → (countsOk m && keyOk (m .current) h) ≡ false
     unfolding Matching.update callOk Gather.updated
     update-number m p heading =
         rw (cache-is (record { row = 0; col = 0 })) (by (countsOk m && keyOk (m .current) h) (isPoint (p .lat) (p .lon) && headingOk heading))
       where
-        late : (x : MatchOutcome.Outcome) → Gather.updateOver (look (e₂ .shared .cache) (w .arena) (h .tile)) m h p heading .answer ≡ x → ofMatch x ≡ 12 → ⊥
+        late : (x : MatchOutcome.Outcome) → Gather.updateOver (look (e₂ .shared .cache) (w .arena) (h .tile)) m h p heading .answer ≡ x → MatchNumbers.numberOfOutcome x ≡ 12 → ⊥
         late (Match.Found f) q z = omega arith
         late Match.Nothing q z = omega arith
         late (Match.Need key) q z = omega arith
@@ -309,19 +322,19 @@ module _ (P : List ℕ) (n : ℕ) (horizon : Float) (w : World) (s : Stays P n h
         left a b = cond a (cond b (Gather.updated m (e₂ .shared .cache) (w .arena) h p heading) (Matchers.refused m (e₂ .shared .cache) 8))
             (Matchers.refused m (e₂ .shared .cache) 12)
 
-        by : (a b : Bool) → ofMatch (left a b .answer) ≡ 12 → a ≡ false
+        by : (a b : Bool) → MatchNumbers.numberOfOutcome (left a b .answer) ≡ 12 → a ≡ false
         by true true z = absurd (late _ refl z)
         by true false z = absurd (omega arith)
         by false b z = refl
 
     predict-number : (m : Matched) (reach : Float) (samples behind : List ℤ)
-        → ofRoad (Predict.predict (e₂ .shared .cache) (w .arena) h m reach samples behind .predicted .answer) ≡ 12 → ⊥
+        → RoadNumbers.numberOfOutcome (Predict.predict (e₂ .shared .cache) (w .arena) h m reach samples behind .predicted .answer) ≡ 12 → ⊥
     unfolding Predict.predict Predict.predictedIn
     predict-number m reach samples behind = rw (cache-is (m .tile .key)) (by (inGrid h (m .tile .key)))
       where
         late : (x : RoadOutcome.Outcome)
             → Predict.predictOver (look (e₂ .shared .cache) (w .arena) (h .tile)) (e₂ .shared .cache .pages .count) h m reach samples behind .answer ≡ x
-            → ofRoad x ≡ 12 → ⊥
+            → RoadNumbers.numberOfOutcome x ≡ 12 → ⊥
         late (Roads.Road f) q z = omega arith
         late (Roads.Need key) q z = omega arith
         late Roads.Rematch q z = omega arith
@@ -333,7 +346,7 @@ module _ (P : List ℕ) (n : ℕ) (horizon : Float) (w : World) (s : Stays P n h
         left t = cond t (Predict.predictedIn (e₂ .shared .cache) (w .arena) h m reach samples behind)
             (Predict.untouched (Predict.refused (e₂ .shared .cache) 9) samples behind)
 
-        by : (t : Bool) → ofRoad (left t .predicted .answer) ≡ 12 → ⊥
+        by : (t : Bool) → RoadNumbers.numberOfOutcome (left t .predicted .answer) ≡ 12 → ⊥
         by true z = late _ refl z
         by false z = omega arith
 
@@ -346,7 +359,7 @@ module _ (P : List ℕ) (n : ℕ) (horizon : Float) (w : World) (s : Stays P n h
   call-number (Calls.deliver failure bs) fair = deliver-number P n horizon w s failure bs
   call-number (Calls.stepFrom Q) fair = lent-number P n horizon w Q s (lends-is e₂ (w .arena) Q)
   call-number (Calls.read r) fair = read-number r
-  call-number (Calls.onCache c) fair = open-call P n (cacheOf w) (s .fit .cache) (s .long) c fair
+  call-number (Calls.onCache c) fair = open-call P n (cacheOf w) (s .fit .cache) (s .long) entry-of-pack c fair
   call-number (Calls.nearby h p) fair = nearby-number h p fair
   call-number (Calls.current m) fair = current-number m
   call-number (Calls.update m h p heading) fair = update-number h fair m p heading

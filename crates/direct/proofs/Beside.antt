@@ -1,5 +1,5 @@
 -- What a step and a delivery leave beside the cache: phase, header, and of the follower what it sees, what it matches and what it was made with; a
--- delivery also what is published. By the ways that a call goes. Assumes nothing.
+-- delivery also what is published. By the ways that a call goes.
 use Prim.Native.Nat.{ℕ}
 use mathlib.Core.Path.{_≡_, refl, _∙_}
 use mathlib.Core.Bool.{Bool, true, false, _&&_, cond}
@@ -27,6 +27,7 @@ use Rattle.matcher.specs.declared.Matcher.{Matcher}
 use Rattle.engine.specs.declared.Fix.{Fix}
 use Rattle.engine.specs.declared.Follower.{Follower}
 use Rattle.engine.specs.State.{refused, engineOk}
+use Rattle.engine.specs.Steps.{stepped}
 use Rattle.engine.specs.Work.{counted, ended, offMap, mayAsk, matchedBy, matched, matchAsks, matchEndedBy, rematch, roadAsks, roadEndedBy, published}
 use Rattle.engine.specs.Deliver as Delivered
 use Rattle.engine.specs.Deliver.{After, over, sectorOf, arrived, headerFailed, loadFailed, loadedBy}
@@ -140,7 +141,11 @@ module _ (e : Engine) where
 
   pub step-beside : (arena : List ℕ) → Beside e (Engines.step e arena .engine)
   unfolding Engines.step
-  step-beside arena = either-beside (engineOk e (length arena)) _ _ (steps-beside (step-is e arena)) beside-same
+  step-beside arena = by (engineOk e (length arena)) refl
+    where
+      by : (t : Bool) → engineOk e (length arena) ≡ t → Beside e (cond t (stepped e arena) (refused e 12) .engine)
+      by true ok = steps-beside (step-is e arena ok)
+      by false ok = beside-same
 
 -- ---- what a delivery leaves beside the cache
 

@@ -1,5 +1,5 @@
 -- What the calls leave of cache and arena: whatever holds of them and is kept by the few changes of the cache's state is kept by every step,
--- delivery and lookup. By the ways that a call goes. Assumes nothing.
+-- delivery and lookup. By the ways that a call goes.
 use Prim.Native.Nat.{ℕ}
 use mathlib.Core.Path.{_≡_, refl}
 use mathlib.Core.Bool.{Bool, true, false, _&&_, cond}
@@ -47,11 +47,12 @@ use Rattle.engine.specs.State.{engineOk}
 use Rattle.engine.specs.Work.{counted, matchEndedBy, roadEndedBy}
 use Rattle.engine.specs.Deliver.{After, withPending, arrived, headerFailed, loadFailed, loaded}
 use Rattle.engine.specs.Deliver as Delivered
-use Rattle.engine.specs.Steps as Steppings
+use Rattle.engine.proofs.NeedLaws.{settled}
+use Rattle.engine.specs.Steps.{stepped}
 use Rattle.engine.specs.Calls as Engines
 use Rattle.engine.specs.declared.Engine.{Engine}
 use Rattle.engine.specs.declared.Stepped.{Stepped}
-use Rattle.direct.specs.Lists.{ofStatus}
+use Rattle.direct.specs.Lists.{numberOfStatus}
 use Rattle.direct.specs.Finished.{Task, matchOf, roadAt}
 use Rattle.direct.proofs.Ways as Ways
 use Rattle.direct.proofs.Ways.{Steps, Delivers, Brings, brought, step-is, deliver-is}
@@ -154,7 +155,7 @@ module _ (Q : Cache → List ℕ → Type 0)
       road-ended f fix found r Roads.Rematch p = p
       road-ended f fix found r (Roads.Refused number) p = either-stepped (eqb number 10) _ _ arena p q
 
-      settled-keeps : (n : Next) (key : TileKey) → nextStep (e .shared .cache) key ≡ n → Q (Steppings.settled (e .shared .cache) n key) arena
+      settled-keeps : (n : Next) (key : TileKey) → nextStep (e .shared .cache) key ≡ n → Q (settled (e .shared .cache) n key) arena
       settled-keeps (Next.Ready i) key r = touches (e .shared .cache) arena i q
       settled-keeps Next.NoPages key r = forgets (e .shared .cache) arena key (rw r at (next-is (e .shared .cache) key)) q
       settled-keeps Next.Missing key r = q
@@ -178,13 +179,17 @@ module _ (Q : Cache → List ℕ → Type 0)
 
       pub step-keeps : Q (Engines.step e arena .engine .shared .cache) arena
       unfolding Engines.step
-      step-keeps = either-stepped (engineOk e (length arena)) _ _ arena (steps-keep (step-is e arena)) q
+      step-keeps = by (engineOk e (length arena)) refl
+        where
+          by : (t : Bool) → engineOk e (length arena) ≡ t → Q (cond t (stepped e arena) (States.refused e 12) .engine .shared .cache) arena
+          by true ok = steps-keep (step-is e arena ok)
+          by false ok = q
 
     -- ---- a delivery: what comes of a part of a tile is the cache's to say
 
     module _ (e : Engine) (arena : List ℕ) (failure : ℕ) (bs : List ℕ) (q : Q (e .shared .cache) arena)
         (part : (key : TileKey) → Brings e arena key failure bs
-        → ofStatus (loaded e (told (brought e arena key failure bs)) .answer) ≡ ofStatus (Engines.deliver e arena failure bs .answer)
+        → numberOfStatus (loaded e (told (brought e arena key failure bs)) .answer) ≡ numberOfStatus (Engines.deliver e arena failure bs .answer)
         → Q (brought e arena key failure bs .cache) (brought e arena key failure bs .arena)) where
       loaded-keeps : {h : Header} {key : TileKey} {r : Loads.After} → Step (e .shared .cache) arena h key failure bs r → Q (r .cache) (r .arena)
           → Q (loaded e (told r) .engine .shared .cache) (r .arena)
@@ -206,7 +211,7 @@ module _ (Q : Cache → List ℕ → Type 0)
           let none : Q (withPending (e .shared .cache) Pending.Nothing) arena = pends (e .shared .cache) arena Pending.Nothing refl q in
           either-stepped (eqb number 1 && ltb (e .follower .failures) 7) _ _ arena none none
 
-      delivers-keep : {r : After} → Delivers e arena failure bs r → ofStatus (r .answer) ≡ ofStatus (Engines.deliver e arena failure bs .answer)
+      delivers-keep : {r : After} → Delivers e arena failure bs r → numberOfStatus (r .answer) ≡ numberOfStatus (Engines.deliver e arena failure bs .answer)
           → Q (r .engine .shared .cache) (r .arena)
       delivers-keep Ways.refuses same = q
       delivers-keep (Ways.loses number o s) same = failed-keeps number

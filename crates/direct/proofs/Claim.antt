@@ -1,5 +1,5 @@
 -- THE THEOREM: the claims of demand 3, of every list of calls from a fresh engine of any page count and horizon over any arena. A fresh engine has the
--- invariants, and they hold along the list. Assumes nothing.
+-- invariants, and they hold along the list.
 use Prim.Native.Nat.{ℕ, _/_, min}
 use mathlib.Core.Path.{_≡_, refl}
 use mathlib.Core.List.{List, [], _∷_}

@@ -170,7 +170,11 @@ module _ (e : Engine) (arena : List ℕ) (c : Clears (e .follower)) where
 
   pub step-clears : Clears (Engines.step e arena .engine .follower)
   unfolding Engines.step
-  step-clears = either-stepped (engineOk e (length arena)) _ _ (steps-clear (step-is e arena)) c
+  step-clears = by (engineOk e (length arena)) refl
+    where
+      by : (t : Bool) → engineOk e (length arena) ≡ t → Clears (cond t (stepped e arena) (refused e 12) .engine .follower)
+      by true ok = steps-clear (step-is e arena ok)
+      by false ok = c
 
 pub deliver-clears : (e : Engine) (arena : List ℕ) (failure : ℕ) (bs : List ℕ) → Clears (e .follower) → Clears (Engines.deliver e arena failure bs .engine .follower)
 deliver-clears e arena failure bs c = let l = deliver-left e failure bs arena in rests-clear (e .follower) _ (l .follower) (l .due) c
@@ -345,14 +349,14 @@ module _ (P : List ℕ) (e : Engine) (arena : List ℕ) (header : e .shared .pha
 
   pub step-sorts : Sorts off e (Engines.step e arena .engine) (stepShown e arena)
   unfolding stepShown Engines.step
-  step-sorts = by (engineOk e (length arena))
+  step-sorts = by (engineOk e (length arena)) refl
     where
       left : Bool → Stepped
       left t = cond t (stepped e arena) (refused e 12)
 
-      by : (t : Bool) → Sorts off e (left t .engine) (cond t (taskShown (taskOf e) e arena (left t .engine)) Shows.nothing)
-      by true = steps-sort (step-is e arena)
-      by false = quiet refl refl
+      by : (t : Bool) → engineOk e (length arena) ≡ t → Sorts off e (left t .engine) (cond t (taskShown (taskOf e) e arena (left t .engine)) Shows.nothing)
+      by true ok = steps-sort (step-is e arena ok)
+      by false ok = quiet refl refl
 
   -- where it worked at a fix on the map, the fix stays there
   stays-on : {x : Task} {s : Stepped} → Steps e arena x s → off ≡ false → isOff (headerOf P) (s .engine .follower .sight .fix) ≡ false
@@ -375,11 +379,11 @@ module _ (P : List ℕ) (e : Engine) (arena : List ℕ) (header : e .shared .pha
 
   pub step-rests : Clears (e .follower) → Rested P e → Rested P (Engines.step e arena .engine)
   unfolding Engines.step
-  step-rests c r = by (engineOk e (length arena))
+  step-rests c r = by (engineOk e (length arena)) refl
     where
-      by : (t : Bool) → Rested P (cond t (stepped e arena) (refused e 12) .engine)
-      by true = steps-rest (step-is e arena) c r
-      by false = r
+      by : (t : Bool) → engineOk e (length arena) ≡ t → Rested P (cond t (stepped e arena) (refused e 12) .engine)
+      by true ok = steps-rest (step-is e arena ok) c r
+      by false ok = r
 
 -- ---- a delivery
 
@@ -513,14 +517,14 @@ module _ (e : Engine) (arena : List ℕ) (i : Idles e) where
 
   step-idles : isAgain (stepShown e arena) ≡ false → Idles (Engines.step e arena .engine)
   unfolding stepShown Engines.step
-  step-idles = by (engineOk e (length arena))
+  step-idles = by (engineOk e (length arena)) refl
     where
       left : Bool → Stepped
       left t = cond t (stepped e arena) (refused e 12)
 
-      by : (t : Bool) → isAgain (cond t (taskShown (taskOf e) e arena (left t .engine)) Shows.nothing) ≡ false → Idles (left t .engine)
-      by true a = steps-idle (step-is e arena) a
-      by false a = i
+      by : (t : Bool) → engineOk e (length arena) ≡ t → isAgain (cond t (taskShown (taskOf e) e arena (left t .engine)) Shows.nothing) ≡ false → Idles (left t .engine)
+      by true ok a = steps-idle (step-is e arena ok) a
+      by false ok a = i
 
   -- ---- and its answer
 
@@ -595,14 +599,14 @@ module _ (e : Engine) (arena : List ℕ) (i : Idles e) where
 
     pub step-settles : isResting (Engines.step e arena .answer) ≡ true → isSettled (Engines.step e arena .engine) ≡ true
     unfolding Engines.step
-    step-settles = by (engineOk e (length arena))
+    step-settles = by (engineOk e (length arena)) refl
       where
         left : Bool → Stepped
         left t = cond t (stepped e arena) (refused e 12)
 
-        by : (t : Bool) → isResting (left t .answer) ≡ true → isSettled (left t .engine) ≡ true
-        by true z = steps-settle (step-is e arena) z
-        by false z = absurd (true≢false (sym z))
+        by : (t : Bool) → engineOk e (length arena) ≡ t → isResting (left t .answer) ≡ true → isSettled (left t .engine) ≡ true
+        by true ok z = steps-settle (step-is e arena ok) z
+        by false ok z = absurd (true≢false (sym z))
 
 -- ---- what any call leaves due
 

@@ -1,5 +1,5 @@
 -- Under the premises: what the cache holds is the pack's, the header that was read is the pack's, and what the engine was made with stays. By the
--- ways that a call goes. Assumes nothing.
+-- ways that a call goes.
 use Prim.Native.Nat.{ℕ, zero, suc, _+_, _<_, _≤_}
 use mathlib.Core.Path.{_≡_, refl, sym, ap, _∙_}
 use mathlib.Core.Bool.{Bool, true, false, not, cond}
@@ -46,7 +46,7 @@ use Rattle.engine.specs.declared.Status.{Status}
 use Rattle.engine.specs.declared.Status.the-variants as Status
 use Rattle.engine.specs.declared.Stepped.{Stepped}
 use Rattle.engine_states.proofs.RefusedSame.{step-open}
-use Rattle.direct.specs.Lists.{withCache, World, Call, fix, lost, reset, step, deliver, stepFrom, read, onCache, nearby, current, update, predict, cacheOf, ofTaken, ofStatus, exec, start}
+use Rattle.direct.specs.Lists.{withCache, World, Call, fix, lost, reset, step, deliver, stepFrom, read, onCache, nearby, current, update, predict, cacheOf, numberOfTaken, numberOfStatus, exec, start}
 use Rattle.direct.specs.Direct.{headerOf, packAfter}
 use Rattle.direct.specs.Claims.{toldOf, openRead, FairBytes, FairLent, Fair}
 use Rattle.direct.proofs.Ways as Ways
@@ -124,13 +124,13 @@ module _ (P : List ℕ) (n : ℕ) where
 
   -- a part of a tile came
   module _ (e : Engine) (arena : List ℕ) (failure : ℕ) (bs : List ℕ) (k : KeptOver P n (e .shared .cache) arena) where
-    either-number : (t : Bool) (x y : Stepped) → ofStatus (x .answer) ≡ 0 → ofStatus (y .answer) ≡ 0 → ofStatus (cond t x y .answer) ≡ 0
+    either-number : (t : Bool) (x y : Stepped) → numberOfStatus (x .answer) ≡ 0 → numberOfStatus (y .answer) ≡ 0 → numberOfStatus (cond t x y .answer) ≡ 0
     either-number true x y p q = p
     either-number false x y p q = q
 
     -- one that is refused changes nothing
     part-by : {h : Header} {key : TileKey} {r : Loads.After} → Step (e .shared .cache) arena h key failure bs r
-        → (ofStatus (loaded e (told r) .answer) ≡ 0 → KeptOver P n (r .cache) (r .arena)) → KeptOver P n (r .cache) (r .arena)
+        → (numberOfStatus (loaded e (told r) .answer) ≡ 0 → KeptOver P n (r .cache) (r .arena)) → KeptOver P n (r .cache) (r .arena)
     unfolding arrived loadFailed
     part-by (refuses number s) f = k
     part-by (knows q) f = f refl
@@ -144,9 +144,9 @@ module _ (P : List ℕ) (n : ℕ) where
     part-by (spoils l came b p) f = f refl
 
     module _ (fits : HeaderFits P (e .shared .phase) (e .shared .header))
-        (fair : ofStatus (Engines.deliver e arena failure bs .answer) ≡ 0 → failure ≡ 0 → FairBytes P (openRead e) bs) where
+        (fair : numberOfStatus (Engines.deliver e arena failure bs .answer) ≡ 0 → failure ≡ 0 → FairBytes P (openRead e) bs) where
       part : (key : TileKey) (b : Brings e arena key failure bs)
-          → ofStatus (loaded e (told (brought e arena key failure bs)) .answer) ≡ ofStatus (Engines.deliver e arena failure bs .answer)
+          → numberOfStatus (loaded e (told (brought e arena key failure bs)) .answer) ≡ numberOfStatus (Engines.deliver e arena failure bs .answer)
           → KeptOver P n (brought e arena key failure bs .cache) (brought e arena key failure bs .arena)
       part key b same =
           let h : Header = e .shared .header in
@@ -166,7 +166,7 @@ module _ (P : List ℕ) (n : ℕ) where
       heads-fit Sides.unread same = tt
       heads-fit Sides.failed same = tt
       heads-fit (Sides.came o z size a) same =
-          let pack : (0 + 512 ≤ length P) × (bs ≡ take 512 (drop 0 P)) = (rw o at (fair (ap ofStatus (sym same)) z)) size in
+          let pack : (0 + 512 ≤ length P) × (bs ≡ take 512 (drop 0 P)) = (rw o at (fair (ap numberOfStatus (sym same)) z)) size in
           let is : sectorOf bs ≡ take 512 P = sector-whole bs size ∙ pack .1 in
           record { whole = pack .0; accepted = rw is at a; header = rw is }
 
@@ -178,7 +178,7 @@ module _ (P : List ℕ) (n : ℕ) where
         let b : Beside e (Engines.step e arena .engine) = step-beside e arena in
         record { cache = kept-stepped e arena (f .cache); header = rw (b .phase, b .header) (f .header); reach = b .horizon ∙ f .reach }
 
-    pub fit-delivered : (failure : ℕ) (bs : List ℕ) → (ofStatus (Engines.deliver e arena failure bs .answer) ≡ 0 → failure ≡ 0 → FairBytes P (openRead e) bs)
+    pub fit-delivered : (failure : ℕ) (bs : List ℕ) → (numberOfStatus (Engines.deliver e arena failure bs .answer) ≡ 0 → failure ≡ 0 → FairBytes P (openRead e) bs)
         → Fit P n horizon (record { engine = Engines.deliver e arena failure bs .engine; arena = Engines.deliver e arena failure bs .arena })
     fit-delivered failure bs fair =
         let l : Left e failure bs (Engines.deliver e arena failure bs .answer) (Engines.deliver e arena failure bs .engine) = deliver-left e failure bs arena in
@@ -243,7 +243,7 @@ fit-reset P Q n horizon w f = by (engineOk (w .engine) (length (w .arena)))
     left : Bool → Changed
     left t = cond t (forgotten (w .engine)) (unchanged (w .engine) 12)
 
-    by : (t : Bool) → Fit (cond (not (eqb (ofTaken (left t .answer)) 0)) P Q) n horizon (record { engine = left t .engine; arena = w .arena })
+    by : (t : Bool) → Fit (cond (not (eqb (numberOfTaken (left t .answer)) 0)) P Q) n horizon (record { engine = left t .engine; arena = w .arena })
     by true = record { cache = cleared-fits P Q n (w .engine .shared .cache) (w .arena) (f .cache); header = tt; reach = f .reach }
     by false = f
 

@@ -1,5 +1,5 @@
 -- Every run that a lookup of a match or of a road answers lies in the arena and passes `Tile::parse` for its key. The idea: what is found is what
--- the look answers, and that is tested first. For a road, a walk over a reader is compared with itself, what it carries holding more. Assumes nothing.
+-- the look answers, and that is tested first. For a road, a walk over a reader is compared with itself, what it carries holding more.
 use Prim.Native.Nat.{ℕ, _<_}
 use mathlib.Core.Path.{_≡_, refl, ap}
 use mathlib.Core.Bool.{Bool, true, false, cond}

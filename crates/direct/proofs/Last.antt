@@ -44,7 +44,7 @@ use Rattle.engine.specs.declared.Changed.{Changed}
 use Rattle.engine.specs.declared.Engine.{Engine}
 use Rattle.engine.specs.declared.Stepped.{Stepped}
 use Rattle.direct.specs.Lists as Calls
-use Rattle.direct.specs.Lists.{World, Call, ofTaken, exec, start, Along}
+use Rattle.direct.specs.Lists.{World, Call, numberOfTaken, exec, start, Along}
 use Rattle.direct.specs.Finished as Shows
 use Rattle.direct.specs.Finished.{Shown, isRoad, Task, taskOf, matchOf, roadAt, matchShown, roadShown, taskShown, stepShown, shown}
 use Rattle.direct.specs.Direct.{Made, Told, Lookup, headerOf, directly, Held, withMatcher, fixed, Worked, idle, stuck, matchWorked, roadWorked, currentWorked, keyWorked, fixWorked, stepWorkedBy, stepWorked, matchHeld, roadHeld, worked, Waiting, aFix, aLoss, Direct, newDirect, acted, applied, queued, settled, cleared, turned, packAfter, directExec}
@@ -217,14 +217,14 @@ module _ (e : Engine) (arena : List ℕ) where
 
   step-leaves : taskRemembers (taskOf e) e arena ≡ false → Leaves (stepShown e arena) (Engines.step e arena .engine)
   unfolding stepShown Engines.step
-  step-leaves z = by (engineOk e (length arena))
+  step-leaves z = by (engineOk e (length arena)) refl
     where
       left : Bool → Stepped
       left t = cond t (stepped e arena) (refused e 12)
 
-      by : (t : Bool) → Leaves (cond t (taskShown (taskOf e) e arena (left t .engine)) Shows.nothing) (left t .engine)
-      by true = steps-leave (step-is e arena) z
-      by false = refl
+      by : (t : Bool) → engineOk e (length arena) ≡ t → Leaves (cond t (taskShown (taskOf e) e arena (left t .engine)) Shows.nothing) (left t .engine)
+      by true ok = steps-leave (step-is e arena ok) z
+      by false ok = refl
 
   -- where it works at nothing, it shows nothing
   none-step : isNone (taskOf e) ≡ true → stepShown e arena ≡ Shows.nothing
@@ -322,7 +322,7 @@ module _ (at : Lookup) (n : ℕ) (horizon : Float) (answers : Answers n at) (P :
           same true g q = refl
           same false g q = q
 
-      by : (s t : Bool) → lastOf (settled (isFetching (left s t .engine)) (cond (not (eqb (ofTaken (left s t .answer)) 0)) d (queued d (aFix f))))
+      by : (s t : Bool) → lastOf (settled (isFetching (left s t .engine)) (cond (not (eqb (numberOfTaken (left s t .answer)) 0)) d (queued d (aFix f))))
           ≡ left s t .engine .follower .ahead .matched
       by true true =
           received-last (isFetching e₁) (aFix f) ∙ fixed-last (applied (d .waiting) (d .held)) f ∙ is ∙ sym (ap (λ (a : Ahead). a .matched) kept)
@@ -340,7 +340,7 @@ module _ (at : Lookup) (n : ℕ) (horizon : Float) (answers : Answers n at) (P :
       gone a Current.Nothing q = sym q
       gone a (Current.Is m) q = refl
 
-      by : (t : Bool) → lastOf (settled (isFetching (left t .engine)) (cond (not (eqb (ofTaken (left t .answer)) 0)) d (queued d aLoss)))
+      by : (t : Bool) → lastOf (settled (isFetching (left t .engine)) (cond (not (eqb (numberOfTaken (left t .answer)) 0)) d (queued d aLoss)))
           ≡ left t .engine .follower .ahead .matched
       by true = received-last (isFetching e₁) aLoss ∙ gone (e₁ .follower .ahead) (e₁ .follower .ahead .matched) refl
       by false = quiet-last (isFetching e₁) e₁ refl
@@ -353,7 +353,7 @@ module _ (at : Lookup) (n : ℕ) (horizon : Float) (answers : Answers n at) (P :
       left t = cond t (States.forgotten e₁) (unchanged e₁ 12)
 
       told : Bool → Told
-      told t = record { refused = not (eqb (ofTaken (left t .answer)) 0); fetching = isFetching (left t .engine); match = false; road = false }
+      told t = record { refused = not (eqb (numberOfTaken (left t .answer)) 0); fetching = isFetching (left t .engine); match = false; road = false }
 
       by : (t : Bool) → lastOf (cleared (told t) d .direct) ≡ left t .engine .follower .ahead .matched
       by true = refl

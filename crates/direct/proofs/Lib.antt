@@ -4,7 +4,8 @@
 -- engine's. Linked: one call beside the direct engine's turn. Started: a road from a start that was found. Sound: states that 12 does not name.
 -- Opened, Always: no call is refused with 12. Stories: two lists. Due: what is due, and what a step off the map clears. Settled: two lists that
 -- settle before each fix. Claim: the theorems. Published: what stands published, and what a host
--- reads. Whole: what a compared road leaves out. Last: the direct engine's last match.
+-- reads. Whole: what a compared road leaves out. Last: the direct engine's last match. Cores: the public cores do no
+-- harm.
 pub mod Ways
 pub mod Changes
 pub mod Found
@@ -25,3 +26,4 @@ pub mod Claim
 pub mod Published
 pub mod Whole
 pub mod Last
+pub mod Cores

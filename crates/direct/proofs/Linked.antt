@@ -1,5 +1,5 @@
 -- The direct engine beside the engine, call by call: what it holds, with what waits done, is what the engine sees and matches, and nothing waits where no
--- fetch is open (`Linked`). Each call shows what the direct engine works out of it (`turn-linked`). Assumes nothing.
+-- fetch is open (`Linked`). Each call shows what the direct engine works out of it (`turn-linked`).
 use Prim.Native.Nat.{ℕ}
 use mathlib.Core.Path.{_≡_, refl, sym, ap, subst, _∙_}
 use mathlib.Core.Bool.{Bool, true, false, _&&_, not, cond, true≢false}
@@ -57,7 +57,7 @@ use Rattle.engine.specs.declared.Status.{Status}
 use Rattle.engine.specs.declared.Status.the-variants as Status
 use Rattle.engine.specs.declared.Stepped.{Stepped}
 use Rattle.direct.specs.Lists as Calls
-use Rattle.direct.specs.Lists.{World, Call, ofTaken, number, exec}
+use Rattle.direct.specs.Lists.{World, Call, numberOfTaken, number, exec}
 use Rattle.direct.specs.Finished.{Shown, nothing, updated, predicted, isMatch, isRoad, Task, none, offMap, match, road, openTask, taskOf, matchOf, roadAt, taskShown, stepShown, updateShown, predictShown, shown}
 use Rattle.direct.specs.Direct.{Told, Lookup, Held, fixed, lostHeld, Worked, idle, orUnanswered, stepWorked, updateWorked, predictWorked, worked, Waiting, aFix, aLoss, Direct, acted, applied, queued, settled, cleared, turned, directExec}
 use Rattle.direct.specs.Claims.{isFetching, toldOf, madeOf, Answers, Fair}
@@ -213,25 +213,25 @@ pub record Silent (e : Engine) (arena : List ℕ) : Type 0 where
 
 pub fetch-silent : (e : Engine) (arena : List ℕ) {offset len : ℕ} → Engines.step e arena .answer ≡ Status.Fetch offset len → Silent e arena
 unfolding stepShown Engines.step
-fetch-silent e arena {offset} {len} q = record { shows = shows (engineOk e (length arena)) q; keeps = keeps (engineOk e (length arena)) q }
+fetch-silent e arena {offset} {len} q = record { shows = shows (engineOk e (length arena)) refl q; keeps = keeps (engineOk e (length arena)) refl q }
   where
     left : Bool → Stepped
     left t = cond t (stepped e arena) (refused e 12)
 
-    asks-none : stepped e arena .answer ≡ Status.Fetch offset len → isNone (taskOf e) ≡ true
-    asks-none a = by (isNone (taskOf e)) refl
+    asks-none : engineOk e (length arena) ≡ true → stepped e arena .answer ≡ Status.Fetch offset len → isNone (taskOf e) ≡ true
+    asks-none ok a = by (isNone (taskOf e)) refl
       where
         by : (t : Bool) → isNone (taskOf e) ≡ t → isNone (taskOf e) ≡ true
         by true r = r
-        by false r = absurd (true≢false (sym (ap isFetch a) ∙ work-answers (step-is e arena) r))
+        by false r = absurd (true≢false (sym (ap isFetch a) ∙ work-answers (step-is e arena ok) r))
 
-    shows : (t : Bool) → left t .answer ≡ Status.Fetch offset len → cond t (taskShown (taskOf e) e arena (left t .engine)) nothing ≡ nothing
-    shows true a = none-shows (taskOf e) e arena (stepped e arena .engine) (asks-none a)
-    shows false a = refl
+    shows : (t : Bool) → engineOk e (length arena) ≡ t → left t .answer ≡ Status.Fetch offset len → cond t (taskShown (taskOf e) e arena (left t .engine)) nothing ≡ nothing
+    shows true ok a = none-shows (taskOf e) e arena (stepped e arena .engine) (asks-none ok a)
+    shows false ok a = refl
 
-    keeps : (t : Bool) → left t .answer ≡ Status.Fetch offset len → Same (e .follower) (left t .engine .follower)
-    keeps true a = none-keeps (step-is e arena) (asks-none a)
-    keeps false a = same-self (e .follower)
+    keeps : (t : Bool) → engineOk e (length arena) ≡ t → left t .answer ≡ Status.Fetch offset len → Same (e .follower) (left t .engine .follower)
+    keeps true ok a = none-keeps (step-is e arena ok) (asks-none ok a)
+    keeps false ok a = same-self (e .follower)
 
 -- a match over a lookup is refused with 12 alone
 only-twelve : (at : TileKey → Look) (m : Matcher) (h : Header) (p : Point) (heading : Heading) (k : ℕ)
@@ -269,7 +269,7 @@ module _ (at : Lookup) (n : ℕ) (horizon : Float) (P : List ℕ) (w : World) (d
       follows = fixed-follows (applied (d .waiting) (d .held)) (e₁ .follower) f (l .sight) (l .matcher)
 
       linked : (s t : Bool)
-          → Linked (settled (isFetching (left s t .engine)) (cond (not (eqb (ofTaken (left s t .answer)) 0)) d (queued d (aFix f)))) (left s t .engine)
+          → Linked (settled (isFetching (left s t .engine)) (cond (not (eqb (numberOfTaken (left s t .answer)) 0)) d (queued d (aFix f)))) (left s t .engine)
       linked true true = received-linked d e₁ (aFix f) (Followers.fixed (e₁ .follower) f) false l follows
       linked true false = settles d e₁ (l .sight) (l .matcher)
       linked false t = settles d e₁ (l .sight) (l .matcher)
@@ -281,7 +281,7 @@ module _ (at : Lookup) (n : ℕ) (horizon : Float) (P : List ℕ) (w : World) (d
       left : Bool → Changed
       left t = cond t (followed e₁ (Followers.lost (e₁ .follower))) (unchanged e₁ 12)
 
-      linked : (t : Bool) → Linked (settled (isFetching (left t .engine)) (cond (not (eqb (ofTaken (left t .answer)) 0)) d (queued d aLoss))) (left t .engine)
+      linked : (t : Bool) → Linked (settled (isFetching (left t .engine)) (cond (not (eqb (numberOfTaken (left t .answer)) 0)) d (queued d aLoss))) (left t .engine)
       linked true = received-linked d e₁ aLoss (Followers.lost (e₁ .follower)) false l (lost-follows (applied (d .waiting) (d .held)) (e₁ .follower) (l .sight))
       linked false = settles d e₁ (l .sight) (l .matcher)
 
@@ -293,7 +293,7 @@ module _ (at : Lookup) (n : ℕ) (horizon : Float) (P : List ℕ) (w : World) (d
       left t = cond t (forgotten e₁) (unchanged e₁ 12)
 
       told : Bool → Told
-      told t = record { refused = not (eqb (ofTaken (left t .answer)) 0); fetching = isFetching (left t .engine); match = false; road = false }
+      told t = record { refused = not (eqb (numberOfTaken (left t .answer)) 0); fetching = isFetching (left t .engine); match = false; road = false }
 
       linked : (t : Bool) → Linked (cleared (told t) d .direct) (left t .engine)
       linked true = record { sight = l .sight; matcher = refl; none = λ r. refl }
@@ -376,20 +376,21 @@ module _ (at : Lookup) (n : ℕ) (horizon : Float) (P : List ℕ) (w : World) (d
 
     pub step-turn : StepTurn (stepShown e₁ (w .arena)) (Engines.step e₁ (w .arena) .engine)
     unfolding stepShown Engines.step
-    step-turn = by (engineOk e₁ (length (w .arena)))
+    step-turn = by (engineOk e₁ (length (w .arena))) refl
       where
         left : Bool → Stepped
         left t = cond t (stepped e₁ (w .arena)) (refused e₁ 12)
 
-        works : (t : Bool) → isNone (taskOf e₁) ≡ t
+        works : engineOk e₁ (length (w .arena)) ≡ true → (t : Bool) → isNone (taskOf e₁) ≡ t
             → StepTurn (taskShown (taskOf e₁) e₁ (w .arena) (stepped e₁ (w .arena) .engine)) (stepped e₁ (w .arena) .engine)
-        works true q =
-            quiet-turn _ (stepped e₁ (w .arena) .engine) (none-shows (taskOf e₁) e₁ (w .arena) _ q) (none-keeps (step-is e₁ (w .arena)) q)
-        works false q = busy-turn (busy e₁ q) (taskOf e₁) (stepped e₁ (w .arena)) (step-is e₁ (w .arena)) (steps-beside e₁ (step-is e₁ (w .arena)))
+        works ok true q =
+            quiet-turn _ (stepped e₁ (w .arena) .engine) (none-shows (taskOf e₁) e₁ (w .arena) _ q) (none-keeps (step-is e₁ (w .arena) ok) q)
+        works ok false q =
+            busy-turn (busy e₁ q) (taskOf e₁) (stepped e₁ (w .arena)) (step-is e₁ (w .arena) ok) (steps-beside e₁ (step-is e₁ (w .arena) ok))
 
-        by : (t : Bool) → StepTurn (cond t (taskShown (taskOf e₁) e₁ (w .arena) (left t .engine)) nothing) (left t .engine)
-        by true = works (isNone (taskOf e₁)) refl
-        by false = nothing-turn e₁ (same-self (e₁ .follower))
+        by : (t : Bool) → engineOk e₁ (length (w .arena)) ≡ t → StepTurn (cond t (taskShown (taskOf e₁) e₁ (w .arena) (left t .engine)) nothing) (left t .engine)
+        by true ok = works ok (isNone (taskOf e₁)) refl
+        by false ok = nothing-turn e₁ (same-self (e₁ .follower))
 
     pub lent-turn : (Q : List ℕ) {r : After} → Lends e₁ (w .arena) Q r → StepTurn (stepShown e₁ (w .arena)) (r .engine)
     lent-turn Q (Ways.plain t) = step-turn

@@ -1,5 +1,5 @@
 -- Under the premises, with an arena as long as its pages, no call is refused with 12 but for a matcher that the caller gives, and a step's road ends neither
--- by 6 nor by 10. The idea: what is ready holds what the pack has, so it passes; and the current match was found in a tile of the pack. Assumes nothing.
+-- by 6 nor by 10. The idea: what is ready holds what the pack has, so it passes; and the current match was found in a tile of the pack.
 use Prim.Native.Nat.{ℕ, _*_, _<_, _≤_}
 use mathlib.Core.Path.{_≡_, refl, sym, ap, subst, _∙_}
 use mathlib.Core.Bool.{Bool, true, false, cond, true≢false}
@@ -69,7 +69,7 @@ use Rattle.engine.specs.declared.Status.the-variants as Status
 use Rattle.engine.specs.declared.Stepped.{Stepped}
 use Rattle.engine_states.proofs.MatcherKept.{look-accepted}
 use Rattle.engine_states.proofs.RoadBounds.{road-not-stale}
-use Rattle.direct.specs.Lists.{World, ofStatus}
+use Rattle.direct.specs.Lists.{World, numberOfStatus}
 use Rattle.direct.specs.Finished as Shows
 use Rattle.direct.specs.Finished.{Shown, Task, matchOf, roadAt, matchShown, roadShown, taskShown}
 use Rattle.direct.specs.Direct.{headerOf, directly}
@@ -254,38 +254,38 @@ module _ (P : List ℕ) (n : ℕ) (horizon : Float) (w : World) (s : Stays P n h
   -- ---- what a step answers, shows and leaves
 
   -- an open fetch is one that the state makes
-  open-number : isOpen (c₁ .pending) ≡ true → ofStatus (openRead e₁) ≡ 12 → ⊥
+  open-number : isOpen (c₁ .pending) ≡ true → numberOfStatus (openRead e₁) ≡ 12 → ⊥
   open-number o z = by (c₁ .pending) refl o z
     where
-      loads : (x : MaybeLoading) → wantsChunkOf x c₁ ≡ true → ofStatus (chunkRequest x) ≡ 12 → ⊥
+      loads : (x : MaybeLoading) → wantsChunkOf x c₁ ≡ true → numberOfStatus (chunkRequest x) ≡ 12 → ⊥
       loads MaybeLoading.Nothing q z = true≢false (sym q)
       loads (MaybeLoading.Tile l) q z = omega arith
 
-      by : (x : Pending) → c₁ .pending ≡ x → isOpen x ≡ true → ofStatus (requestOf (e₁ .shared) x) ≡ 12 → ⊥
+      by : (x : Pending) → c₁ .pending ≡ x → isOpen x ≡ true → numberOfStatus (requestOf (e₁ .shared) x) ≡ 12 → ⊥
       by Pending.Nothing q o z = true≢false (sym o)
       by Pending.Header q o z = omega arith
       by (Pending.Entry key) q o z = omega arith
       by Pending.Chunk q o z = loads (c₁ .loading) (open-fits e₁ (w .arena) (s .ok) Pending.Chunk q) z
 
-  either-number : (t : Bool) (x y : Stepped) → (ofStatus (x .answer) ≡ 12 → ⊥) → (ofStatus (y .answer) ≡ 12 → ⊥) → ofStatus (cond t x y .answer) ≡ 12 → ⊥
+  either-number : (t : Bool) (x y : Stepped) → (numberOfStatus (x .answer) ≡ 12 → ⊥) → (numberOfStatus (y .answer) ≡ 12 → ⊥) → numberOfStatus (cond t x y .answer) ≡ 12 → ⊥
   either-number true x y p q = p
   either-number false x y p q = q
 
   match-number : (f : Fix) (x : MatchOutcome.Outcome) → e₁ .shared .phase ≡ Phase.Ready → matchOf e₁ (w .arena) f .answer ≡ x
-      → ofStatus (matchEndedBy x e₁ (counted (e₁ .follower)) f (matchOf e₁ (w .arena) f) .answer) ≡ 12 → ⊥
+      → numberOfStatus (matchEndedBy x e₁ (counted (e₁ .follower)) f (matchOf e₁ (w .arena) f) .answer) ≡ 12 → ⊥
   unfolding Gather.updated
   match-number f (Match.Found m) r q z = omega arith
   match-number f Match.Nothing r q z = omega arith
   match-number f (Match.Need key) r q z = by (mayAsk (counted (e₁ .follower) .due) _) z
     where
-      by : (t : Bool) → ofStatus (cond t Status.Working Status.Idle) ≡ 12 → ⊥
+      by : (t : Bool) → numberOfStatus (cond t Status.Working Status.Idle) ≡ 12 → ⊥
       by true z = omega arith
       by false z = omega arith
   match-number f (Match.Refused k) r q z = match-accepted (look c₁ (w .arena) (h₁ .tile)) (fresh-look r) (e₁ .follower .matcher) h₁ _ _ k q
 
   road-number : (f : Fix) (found : Matched) (x : RoadOutcome.Outcome) → e₁ .shared .phase ≡ Phase.Ready → e₁ .follower .matcher .current ≡ Current.Is found
       → roadAt e₁ (w .arena) found .predicted .answer ≡ x
-      → ofStatus (roadEndedBy x e₁ (counted (e₁ .follower)) f found (roadAt e₁ (w .arena) found) .answer) ≡ 12 → ⊥
+      → numberOfStatus (roadEndedBy x e₁ (counted (e₁ .follower)) f found (roadAt e₁ (w .arena) found) .answer) ≡ 12 → ⊥
   unfolding Predict.predictedIn
   road-number f found (Roads.Road p) r c q z = omega arith
   road-number f found (Roads.Need key) r c q z = omega arith
@@ -294,7 +294,7 @@ module _ (P : List ℕ) (n : ℕ) (horizon : Float) (w : World) (s : Stays P n h
       either-number (eqb k 10) (ended e₁ _ (rematch (counted (e₁ .follower))) Status.Working) (refused e₁ k) (λ y. omega arith)
       (λ (y : k ≡ 12). not-12 r found c (q ∙ ap Roads.Refused y)) z
 
-  pub steps-number : {x : Task} {t : Stepped} → Steps e₁ (w .arena) x t → ofStatus (t .answer) ≡ 12 → ⊥
+  pub steps-number : {x : Task} {t : Stepped} → Steps e₁ (w .arena) x t → numberOfStatus (t .answer) ≡ 12 → ⊥
   unfolding arrived
   steps-number (Ways.repeats o) z = open-number o z
   steps-number (Ways.fails failed) z = omega arith

@@ -1,5 +1,5 @@
 -- What stands published: of each call, by the ways that it goes (`publishes`), and of the matcher (`call-holds`); then along a list (`all-published`,
--- `all-read`), and by `all-direct` beside the direct engine (`all-read-direct`). Assumes nothing.
+-- `all-read`), and by `all-direct` beside the direct engine (`all-read-direct`).
 use Prim.Native.Nat.{ℕ, _+_}
 use mathlib.Core.Path.{_≡_, refl, sym, ap, subst, _∙_}
 use mathlib.Core.Bool.{Bool, true, false, cond}
@@ -153,15 +153,15 @@ module _ (e : Engine) (arena : List ℕ) where
 
   step-leaves : let n = Engines.step e arena .engine in Leaves e (stepShown e arena) (n .shared .cache .pages .count) (n .follower .ahead)
   unfolding stepShown Engines.step
-  step-leaves = by (engineOk e (length arena))
+  step-leaves = by (engineOk e (length arena)) refl
     where
       left : Bool → Stepped
       left t = cond t (stepped e arena) (refused e 12)
 
-      by : (t : Bool) → Leaves e (cond t (taskShown (taskOf e) e arena (left t .engine)) Shows.nothing) (left t .engine .shared .cache .pages .count)
+      by : (t : Bool) → engineOk e (length arena) ≡ t → Leaves e (cond t (taskShown (taskOf e) e arena (left t .engine)) Shows.nothing) (left t .engine .shared .cache .pages .count)
           (left t .engine .follower .ahead)
-      by true = steps-leave (step-is e arena)
-      by false = stays refl
+      by true ok = steps-leave (step-is e arena ok)
+      by false ok = stays refl
 
   -- ---- and the matcher
 
@@ -211,14 +211,14 @@ module _ (e : Engine) (arena : List ℕ) where
 
   step-holds : LeavesMatcher e (stepShown e arena) (Engines.step e arena .engine .follower .matcher)
   unfolding stepShown Engines.step
-  step-holds = by (engineOk e (length arena))
+  step-holds = by (engineOk e (length arena)) refl
     where
       left : Bool → Stepped
       left t = cond t (stepped e arena) (refused e 12)
 
-      by : (t : Bool) → LeavesMatcher e (cond t (taskShown (taskOf e) e arena (left t .engine)) Shows.nothing) (left t .engine .follower .matcher)
-      by true = steps-hold (step-is e arena)
-      by false = holds refl
+      by : (t : Bool) → engineOk e (length arena) ≡ t → LeavesMatcher e (cond t (taskShown (taskOf e) e arena (left t .engine)) Shows.nothing) (left t .engine .follower .matcher)
+      by true ok = steps-hold (step-is e arena ok)
+      by false ok = holds refl
 
 -- ---- a call
 

@@ -1,4 +1,4 @@
--- With no premise: the cache's own invariant holds along every list of calls, and each call is safe. By the ways that a call goes. Assumes nothing.
+-- With no premise: the cache's own invariant holds along every list of calls, and each call is safe. By the ways that a call goes.
 use Prim.Native.Nat.{ℕ, _+_, _≤_}
 use mathlib.Core.Path.{_≡_, refl, sym, ap, _∙_}
 use mathlib.Core.Bool.{Bool, true, false, _&&_, cond, true≢false}
@@ -34,7 +34,7 @@ use Rattle.engine.specs.declared.Status.{Status}
 use Rattle.engine.specs.declared.Status.the-variants as Status
 use Rattle.engine.specs.declared.Stepped.{Stepped}
 use Rattle.engine_states.proofs.CacheKept.{ok-parts, pending-ok}
-use Rattle.direct.specs.Lists.{World, Call, fix, lost, reset, step, deliver, stepFrom, read, onCache, nearby, current, update, predict, delivered, cacheOf, ofStatus, number, exec, Along}
+use Rattle.direct.specs.Lists.{World, Call, fix, lost, reset, step, deliver, stepFrom, read, onCache, nearby, current, update, predict, delivered, cacheOf, numberOfStatus, number, exec, Along}
 use Rattle.direct.specs.Finished.{Task, none, offMap, match, road, taskOf}
 use Rattle.direct.specs.Claims.{openRead, taskHands, HandedOut, readsOf, lentReads, reads, SameFor, LentOnly, HasLen, TakesOnly, Safe}
 use Rattle.direct.proofs.Ways as Ways
@@ -243,19 +243,19 @@ only-after w c = record {
 
 -- ---- what a delivery takes
 
-delivers-len : {e : Engine} {arena : List ℕ} {failure : ℕ} {bs : List ℕ} {r : After} → Delivers e arena failure bs r → failure ≡ 0 → ofStatus (r .answer) ≡ 0
+delivers-len : {e : Engine} {arena : List ℕ} {failure : ℕ} {bs : List ℕ} {r : After} → Delivers e arena failure bs r → failure ≡ 0 → numberOfStatus (r .answer) ≡ 0
     → HasLen (openRead e) (length bs)
 delivers-len Ways.refuses z s = absurd (omega arith)
 delivers-len (Ways.loses number o len) z s = rw o (len z)
 delivers-len (Ways.parses o z' len a) z s = rw o len
 delivers-len (Ways.brings key b) z s = rw (b .asks) (b .size z)
 
-takes-len : (e : Engine) (arena : List ℕ) (failure : ℕ) (bs : List ℕ) → failure ≡ 0 → ofStatus (Engines.deliver e arena failure bs .answer) ≡ 0
+takes-len : (e : Engine) (arena : List ℕ) (failure : ℕ) (bs : List ℕ) → failure ≡ 0 → numberOfStatus (Engines.deliver e arena failure bs .answer) ≡ 0
     → HasLen (openRead e) (length bs)
 unfolding Engines.deliver
 takes-len e arena failure bs z s = by (engineOk e (length arena)) refl s
   where
-    by : (t : Bool) → engineOk e (length arena) ≡ t → ofStatus (cond t (Delivered.delivered e arena failure bs) (over (refused e 12) arena) .answer) ≡ 0
+    by : (t : Bool) → engineOk e (length arena) ≡ t → numberOfStatus (cond t (Delivered.delivered e arena failure bs) (over (refused e 12) arena) .answer) ≡ 0
         → HasLen (openRead e) (length bs)
     by true ok s = delivers-len (deliver-is e arena ok failure bs) z s
     by false ok s = absurd (omega arith)

@@ -1,5 +1,5 @@
 -- A step finishes what the direct engine works out from what it holds, and leaves the same matcher. By the ways that a step goes: a match or a road that
--- finishes at the cache's look gives the same at every look that agrees with it. Assumes nothing.
+-- finishes at the cache's look gives the same at every look that agrees with it.
 use Prim.Native.Nat.{ℕ}
 use mathlib.Core.Path.{_≡_, refl, sym, ap, _∙_}
 use mathlib.Core.Bool.{Bool, true, false, cond, true≢false}

@@ -41,7 +41,7 @@ use Rattle.engine.specs.declared.Phase.the-variants as Phase
 use Rattle.engine.specs.declared.Sight.{Sight}
 use Rattle.engine_states.proofs.KeptParts.{Ok, apart}
 use Rattle.direct.specs.Lists as Calls
-use Rattle.direct.specs.Lists.{World, Call, ofTaken, exec, start, Along}
+use Rattle.direct.specs.Lists.{World, Call, numberOfTaken, exec, start, Along}
 use Rattle.direct.specs.Finished as Shows
 use Rattle.direct.specs.Finished.{Shown, Road, isMatch, isRoad, openTask, phaseTask, taskOf, taskShown, stepShown, shown}
 use Rattle.direct.specs.Direct.{Made, Told, Lookup, headerOf, directly, Held, newHeld, lostHeld, forgotten, Worked, Direct, stepWorkedBy, stepWorked, keyWorked, noRoad, packAfter}
@@ -334,7 +334,7 @@ module _ (at : Lookup) (n : ℕ) (horizon : Float) (answers : Answers n at) wher
         left : Bool → Bool → Changed
         left a b = cond a (cond b (followed e₁ (Followers.fixed (e₁ .follower) f)) (unchanged e₁ 8)) (unchanged e₁ 12)
 
-        by : (a b : Bool) → Recounts (told (taken (ofTaken (left a b .answer)) (Story.fixed f)) p) P (left a b .engine)
+        by : (a b : Bool) → Recounts (told (taken (numberOfTaken (left a b .answer)) (Story.fixed f)) p) P (left a b .engine)
         by true true = fix-tells f settled
         by true false = t
         by false b = t
@@ -346,7 +346,7 @@ module _ (at : Lookup) (n : ℕ) (horizon : Float) (answers : Answers n at) wher
         left : Bool → Changed
         left a = cond a (followed e₁ (Followers.lost (e₁ .follower))) (unchanged e₁ 12)
 
-        by : (a : Bool) → Recounts (told (taken (ofTaken (left a .answer)) Story.lost) p) P (left a .engine)
+        by : (a : Bool) → Recounts (told (taken (numberOfTaken (left a .answer)) Story.lost) p) P (left a .engine)
         by true = lost-tells
         by false = t
 
@@ -357,7 +357,7 @@ module _ (at : Lookup) (n : ℕ) (horizon : Float) (answers : Answers n at) wher
         left : Bool → Changed
         left a = cond a (States.forgotten e₁) (unchanged e₁ 12)
 
-        by : (a : Bool) → Recounts (told (taken (ofTaken (left a .answer)) (Story.reset Q)) p) (cond (not (eqb (ofTaken (left a .answer)) 0)) P Q) (left a .engine)
+        by : (a : Bool) → Recounts (told (taken (numberOfTaken (left a .answer)) (Story.reset Q)) p) (cond (not (eqb (numberOfTaken (left a .answer)) 0)) P Q) (left a .engine)
         by true = reset-tells Q
         by false = t
 

@@ -1,5 +1,5 @@
 -- No call of a list leaves an engine in a state that 12 names: for the engine's own calls by crate engine_states, here for the direct calls on its cache,
--- which change nothing else and withdraw an open fetch that they do the work of. Assumes nothing.
+-- which change nothing else and withdraw an open fetch that they do the work of.
 use Prim.Native.Nat.{ℕ, _*_, _≤_}
 use mathlib.Core.Path.{_≡_, refl, sym, ap, _∙_}
 use mathlib.Core.Bool.{true, _&&_}
@@ -26,7 +26,7 @@ use Rattle.cache.specs.Loads.{withdrawn, forgot, dropped, moved, further, readi
 use Rattle.cache_lists.specs.Lists as Cached
 use Rattle.cache_lists.proofs.Steps.{Gets, denied, ringed, unknown, handed, get-is, Step, refuses, knows, uses, noPages, fails, lacks, begins, goesOn, readies, spoils, load-is, from-is}
 use Rattle.cache_lists.proofs.Inv.{Inv, inv-ok, inv-fresh}
-use Rattle.cache_lists.proofs.Safe.{inv-call, clear-is}
+use Rattle.cache_lists.proofs.Safe.{inv-call, clear-leaves}
 use Rattle.engine.specs.Publish.{nothingAhead}
 use Rattle.engine.specs.Follow as Followers
 use Rattle.engine.specs.State.{needOk, pendingBy, pendingOk, reloadLimit, placesOk, sharedOk, engineOk}
@@ -90,7 +90,7 @@ call-leaves w (Cached.get h key) f = got-leaves (get-is (w .cache) (w .arena) h 
 call-leaves w (Cached.fetch h key) f = stands refl refl
 call-leaves w (Cached.load h key failure bs) f = step-leaves (load-is (w .cache) (w .arena) h key failure bs)
 call-leaves w (Cached.loadFrom h key Q) f = step-leaves (from-is (w .cache) (w .arena) h key Q .goes)
-call-leaves w Cached.clear f = rw (clear-is (w .cache) f) (ends tt)
+call-leaves w Cached.clear f = clear-leaves (Leaves (w .cache)) (w .cache) (w .arena) (ends tt) (stands refl refl)
 
 -- ---- the engine over another state of its cache
 

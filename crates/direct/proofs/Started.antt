@@ -1,6 +1,5 @@
 -- A road from a start that lies within the tile looked up for it ends neither with 6 nor with 10 (`road-started`). The idea: the tile's id is the
 -- start's own, and what number 10 asks of a start is what a match within its tile has; beyond these two tests a road is one, or Need or 12.
--- Assumes nothing.
 use Prim.Native.Nat.{ℕ}
 use mathlib.Core.Path.{_≡_, refl, subst}
 use mathlib.Core.Bool.{Bool, true}

@@ -1,5 +1,5 @@
 -- Lists of calls with the same story finish the same: what the engine sees and matches is the story told again at the direct lookup (`story-told`), and what
--- a step finishes is worked out of that alone. Assumes nothing.
+-- a step finishes is worked out of that alone.
 use Prim.Native.Nat.{ℕ, _≤_}
 use mathlib.Core.Path.{_≡_, refl, sym, ap, subst, _∙_}
 use mathlib.Core.Bool.{Bool, true, false, not, cond, true≢false}
@@ -31,7 +31,7 @@ use Rattle.engine.specs.Calls as Engines
 use Rattle.engine.specs.declared.Changed.{Changed}
 use Rattle.engine.specs.declared.Engine.{Engine}
 use Rattle.direct.specs.Lists as Calls
-use Rattle.direct.specs.Lists.{World, Call, ofTaken, exec, start}
+use Rattle.direct.specs.Lists.{World, Call, numberOfTaken, exec, start}
 use Rattle.direct.specs.Finished as Shows
 use Rattle.direct.specs.Finished.{Shown, isMatch, isRoad, stepShown, shown}
 use Rattle.direct.specs.Direct.{Made, Told, Lookup, headerOf, directly, Held, newHeld, withMatcher, fixed, lostHeld, forgotten, Worked, idle, stuck, emptyWorked, matchWorked, roadWorked, currentWorked, keyWorked, fixWorked, stepWorkedBy, stepWorked, matchHeld, roadHeld, updateWorked, predictWorked, worked, Direct, applied, settled, packAfter, directExec}
@@ -221,7 +221,7 @@ module _ (at : Lookup) (n : ℕ) (horizon : Float) (answers : Answers n at) wher
         left s t = cond s (cond t (followed e₁ (Followers.fixed (e₁ .follower) f)) (unchanged e₁ 8)) (unchanged e₁ 12)
 
         by : (s t : Bool)
-            → Recalls (retold at (madeOf n horizon) (taken (ofTaken (left s t .answer)) (Story.fixed f)) p₁) P
+            → Recalls (retold at (madeOf n horizon) (taken (numberOfTaken (left s t .answer)) (Story.fixed f)) p₁) P
             (record { engine = left s t .engine; arena = w .arena })
         by true true = record { pack = refl; held = fixed-follows h (e₁ .follower) f (follows .sight) (follows .matcher) }
         by true false = record { pack = refl; held = follows }
@@ -234,7 +234,7 @@ module _ (at : Lookup) (n : ℕ) (horizon : Float) (answers : Answers n at) wher
         left : Bool → Changed
         left t = cond t (followed e₁ (Followers.lost (e₁ .follower))) (unchanged e₁ 12)
 
-        by : (t : Bool) → Recalls (retold at (madeOf n horizon) (taken (ofTaken (left t .answer)) Story.lost) p₁) P
+        by : (t : Bool) → Recalls (retold at (madeOf n horizon) (taken (numberOfTaken (left t .answer)) Story.lost) p₁) P
             (record { engine = left t .engine; arena = w .arena })
         by true = record { pack = refl; held = lost-follows h (e₁ .follower) (follows .sight) }
         by false = record { pack = refl; held = follows }
@@ -247,7 +247,7 @@ module _ (at : Lookup) (n : ℕ) (horizon : Float) (answers : Answers n at) wher
         left t = cond t (States.forgotten e₁) (unchanged e₁ 12)
 
         by : (t : Bool)
-            → Recalls (retold at (madeOf n horizon) (taken (ofTaken (left t .answer)) (Story.reset Q)) p₁) (cond (not (eqb (ofTaken (left t .answer)) 0)) P Q)
+            → Recalls (retold at (madeOf n horizon) (taken (numberOfTaken (left t .answer)) (Story.reset Q)) p₁) (cond (not (eqb (numberOfTaken (left t .answer)) 0)) P Q)
             (record { engine = left t .engine; arena = w .arena })
         by true = record { pack = refl; held = record { sight = follows .sight; matcher = refl } }
         by false = record { pack = refl; held = follows }

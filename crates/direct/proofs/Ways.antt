@@ -1,7 +1,7 @@
 -- The ways that a step, a delivery and the lent-pack form go (`Steps`, `Delivers`, `Lends`), each with what is then known: every test of their
--- definitions is met here, once, and whatever is shown of them goes by these ways. Assumes nothing.
+-- definitions is met here, once, and whatever is shown of them goes by these ways.
 use Prim.Native.Nat.{ℕ, _+_, _≤_}
-use mathlib.Core.Path.{_≡_, refl, sym, ap, _∙_}
+use mathlib.Core.Path.{_≡_, refl, sym, ap, subst, _∙_}
 use mathlib.Core.Bool.{Bool, true, false, _&&_, cond, true≢false}
 use mathlib.Core.List.{List, []}
 use mathlib.Core.Logic.{_⊎_, inl, inr}
@@ -25,7 +25,7 @@ use Rattle.cache.specs.declared.MaybeKey.the-variants as MaybeKey
 use Rattle.cache.specs.Lookups.{passes, lenAt, nextStep}
 use Rattle.cache.proofs.Below.{and-left, and-right}
 use Rattle.cache.specs.Keys.{holds}
-use Rattle.cache.specs.State.{pendingFits, wantsChunkOf, isEntry, isChunk, stateOk, arenaOk, cacheOk}
+use Rattle.cache.specs.State.{pendingFits, wantsChunkOf, isEntry, isChunk, stateOk, arenaOk, cacheOk, entryIn}
 use Rattle.cache.specs.declared.Cache.{Cache}
 use Rattle.cache.specs.declared.Loading.{Loading}
 use Rattle.cache.specs.declared.MaybeLoading.{MaybeLoading}
@@ -51,7 +51,7 @@ use Rattle.engine.specs.State.{refused, isReady, headerOk, sharedOk, needOk, pe
 use Rattle.engine.specs.Work as Work
 use Rattle.engine.specs.Work.{counted, ended, matchEnded, matchStep, roadEndedBy, roadStep, roadDueBy, atFix, atFixBy, workedBy, worked, withDue, roadOff}
 use Rattle.engine.specs.Deliver.{After, arrived, over, withPhase, withFailures, sectorOf, headerFailed, headerParsed, headerCame, loaded, partCame, fitsHeader, needCameBy, deliveredBy, delivered}
-use Rattle.engine.specs.Steps.{chunkRequest, requestOf, opened, needBy, needStep, readyBy, startedBy, started, settled, steppedBy, stepped}
+use Rattle.engine.specs.Steps.{chunkRequest, requestOf, readyBy, startedBy, started, steppedBy, stepped}
 use Rattle.engine.specs.Calls as Engines
 use Rattle.engine.specs.declared.Engine.{Engine}
 use Rattle.engine.specs.declared.Phase.{Phase}
@@ -60,6 +60,8 @@ use Rattle.engine.specs.declared.Status.{Status}
 use Rattle.engine.specs.declared.Status.the-variants as Status
 use Rattle.engine.specs.declared.Stepped.{Stepped}
 use Rattle.engine.proofs.FetchLaws.{withOpen}
+use Rattle.engine.proofs.NeedLaws.{settled, openedAt, needBy, need-is, part-is}
+use Rattle.engine.proofs.TestedLaws.{state-in, need-in}
 use Rattle.engine_states.proofs.CacheKept.{ok-parts}
 use Rattle.engine_states.proofs.KeptParts.{Ok, apart}
 use Rattle.direct.specs.Finished.{Task, none, offMap, match, road, roadTask, gridTask, fixTask, needTask, phaseTask, openTask, taskOf, matchOf, roadAt}
@@ -97,7 +99,7 @@ pub data Steps (e : Engine) (arena : List ℕ) : Task → Stepped → Type 0 whe
   repeats : isOpen (e .shared .cache .pending) ≡ true → Steps e arena none (record { answer = openRead e; engine = e })
   fails : e .shared .phase ≡ Phase.Failed → Steps e arena none (record { answer = Status.NoPack; engine = e })
   opens : (p : Pending) (offset len : ℕ) → isOpen p ≡ true → pendingFits p (e .shared .cache) ≡ true
-      → requestOf (withOpen e p .shared) p ≡ Status.Fetch offset len → Steps e arena none (opened e p offset len)
+      → requestOf (withOpen e p .shared) p ≡ Status.Fetch offset len → Steps e arena none (openedAt e p offset len)
   -- the tile needed is ready and no longer passes; it is settled without a read
   spoils : (key : TileKey) (i : ℕ) → e .shared .phase ≡ Phase.Ready → nextStep (e .shared .cache) key ≡ Next.Ready i
       → passes arena i (lenAt (e .shared .cache) i) key (e .shared .header .tile) ≡ false → Steps e arena none (refused e 12)
@@ -186,26 +188,29 @@ module _ (e : Engine) (arena : List ℕ) where
           let r : (e .shared .cache .loading ≡ MaybeLoading.Tile l) × (l .key ≡ key) = rw q at (next-is (e .shared .cache) key) in
           opens Pending.Chunk (chunkOffset l) (chunkLen l) refl (chunk-fits (e .shared .cache) key l q) (ap chunkRequest (r .0))
 
-    ready-is : (x : MaybeKey) → e .follower .due .need ≡ x → Goes (needTask x e) (readyBy x e arena)
-    unfolding needStep worked
-    ready-is (MaybeKey.Key key) q = needs-by key (nextStep (e .shared .cache) key) refl
-    ready-is MaybeKey.Nothing q = work-is (e .follower .sight .fix) refl
+    ready-is : engineOk e (length arena) ≡ true → (x : MaybeKey) → e .follower .due .need ≡ x → Goes (needTask x e) (readyBy x e arena)
+    unfolding worked
+    ready-is ok (MaybeKey.Key key) q =
+        subst (Goes none) (sym (need-is e arena key (need-in e (length arena) ok key ready q) (state-in e (length arena) ok)))
+        (needs-by key (nextStep (e .shared .cache) key) refl)
+    ready-is ok MaybeKey.Nothing q = work-is (e .follower .sight .fix) refl
 
-  phase-is : (x : Phase) → e .shared .cache .pending ≡ Pending.Nothing → e .shared .phase ≡ x → Goes (phaseTask x e) (startedBy x e arena)
-  phase-is Phase.Failed idle q = fails q
-  phase-is Phase.Unread idle q = opens Pending.Header 0 512 refl refl refl
-  phase-is Phase.Ready idle q = ready-is idle q (e .follower .due .need) refl
+  phase-is : engineOk e (length arena) ≡ true → (x : Phase) → e .shared .cache .pending ≡ Pending.Nothing → e .shared .phase ≡ x
+      → Goes (phaseTask x e) (startedBy x e arena)
+  phase-is ok Phase.Failed idle q = fails q
+  phase-is ok Phase.Unread idle q = opens Pending.Header 0 512 refl refl refl
+  phase-is ok Phase.Ready idle q = ready-is idle q ok (e .follower .due .need) refl
 
-  open-is : (x : Pending) → e .shared .cache .pending ≡ x → Goes (openTask x e) (steppedBy x e arena)
+  open-is : engineOk e (length arena) ≡ true → (x : Pending) → e .shared .cache .pending ≡ x → Goes (openTask x e) (steppedBy x e arena)
   unfolding started
-  open-is Pending.Nothing q = phase-is (e .shared .phase) q refl
-  open-is Pending.Header q = rw (ap (requestOf (e .shared)) (sym q)) (repeats (rw q))
-  open-is (Pending.Entry key) q = rw (ap (requestOf (e .shared)) (sym q)) (repeats (rw q))
-  open-is Pending.Chunk q = rw (ap (requestOf (e .shared)) (sym q)) (repeats (rw q))
+  open-is ok Pending.Nothing q = phase-is ok (e .shared .phase) q refl
+  open-is ok Pending.Header q = rw (ap (requestOf (e .shared)) (sym q)) (repeats (rw q))
+  open-is ok (Pending.Entry key) q = rw (ap (requestOf (e .shared)) (sym q)) (repeats (rw q))
+  open-is ok Pending.Chunk q = rw (ap (requestOf (e .shared)) (sym q)) (repeats (rw q))
 
-  pub step-is : Steps e arena (taskOf e) (stepped e arena)
+  pub step-is : engineOk e (length arena) ≡ true → Steps e arena (taskOf e) (stepped e arena)
   unfolding taskOf stepped
-  step-is = open-is (e .shared .cache .pending) refl
+  step-is ok = open-is ok (e .shared .cache .pending) refl
 
 -- ---- a delivery
 
@@ -267,18 +272,37 @@ module _ (e : Engine) (arena : List ℕ) (ok : engineOk e (length arena) ≡ tru
   pub open-fits : (x : Pending) → c₁ .pending ≡ x → pendingFits x c₁ ≡ true
   open-fits x q = sym (ap (λ (y : Pending). pendingFits y c₁) q) ∙ ok-parts c₁ state-ok .pending
 
+  due-parts : (needOk (e .shared) (e .follower .due .need) && pendingOk (e .shared) (e .follower .due .need)) ≡ true
+  due-parts = and-right (leb (e .follower .due .reloads) (reloadLimit (c₁ .pages .count))) _ (parts .due)
+
+  -- an open entry is of the tile needed, which lies in the grid of the header that was read
+  entry-by : (x : Pending) (need : MaybeKey) (phase : Phase) → (needOk (record { phase = phase; header = h₁; cache = c₁ }) need
+      && pendingBy x (record { phase = phase; header = h₁; cache = c₁ }) need) ≡ true
+      → (h : Header) → (phase ≡ Phase.Ready → h₁ ≡ h) → entryIn x h ≡ true
+  entry-by Pending.Nothing need phase q h same = refl
+  entry-by Pending.Header need phase q h same = refl
+  entry-by Pending.Chunk need phase q h same = refl
+  entry-by (Pending.Entry k) MaybeKey.Nothing Phase.Ready q h same = absurd (true≢false (sym q))
+  entry-by (Pending.Entry k) MaybeKey.Nothing Phase.Unread q h same = absurd (true≢false (sym q))
+  entry-by (Pending.Entry k) MaybeKey.Nothing Phase.Failed q h same = absurd (true≢false (sym q))
+  entry-by (Pending.Entry k) (MaybeKey.Key key) Phase.Unread q h same = absurd (true≢false (sym q))
+  entry-by (Pending.Entry k) (MaybeKey.Key key) Phase.Failed q h same = absurd (true≢false (sym q))
+  entry-by (Pending.Entry k) (MaybeKey.Key key) Phase.Ready q h same =
+      let is : key ≡ k = same-key key k (and-right (inGrid h₁ key) _ q) in
+      rw (← is, ← same refl) (and-left (inGrid h₁ key) _ q)
+
+  pub entry-is : (h : Header) → (e .shared .phase ≡ Phase.Ready → h₁ ≡ h) → entryIn (c₁ .pending) h ≡ true
+  entry-is h same = entry-by (c₁ .pending) (e .follower .due .need) (e .shared .phase) due-parts h same
+
   module _ (ready : e .shared .phase ≡ Phase.Ready) where
     pub cache-is : cacheOk c₁ h₁ (length arena) ≡ true
     unfolding sharedOk cacheOk
     cache-is =
         let r : (arenaOk c₁ (length arena) && headerOk (e .shared)) ≡ true = and-right (stateOk c₁) _ (parts .shared) in
         let head : rules h₁ ≡ true = rw ready at (and-right (arenaOk c₁ (length arena)) _ r) in
-        rw (state-ok, head, and-left (arenaOk c₁ (length arena)) _ r)
+        rw (state-ok, head, entry-is h₁ (λ z. refl), and-left (arenaOk c₁ (length arena)) _ r)
 
     module _ (key : TileKey) (need : e .follower .due .need ≡ MaybeKey.Key key) where
-      due-parts : (needOk (e .shared) (e .follower .due .need) && pendingOk (e .shared) (e .follower .due .need)) ≡ true
-      due-parts = and-right (leb (e .follower .due .reloads) (reloadLimit (c₁ .pages .count))) _ (parts .due)
-
       pub grid-of : inGrid h₁ key ≡ true
       grid-of = rw (ready, need) at (and-left (needOk (e .shared) (e .follower .due .need)) _ due-parts)
 
@@ -369,12 +393,13 @@ module _ (e : Engine) (arena : List ℕ) (ok : engineOk e (length arena) ≡ tru
           load-steps = rw (cache-is ready, f, grid-of ready key need)
       part-by key need b false f = refuses
 
-      need-is : (x : MaybeKey) → e .follower .due .need ≡ x
+      needed-is : (x : MaybeKey) → e .follower .due .need ≡ x
           → ((key : TileKey) → e .follower .due .need ≡ MaybeKey.Key key → takes (nextStep c₁ key) h₁ key failure (length bs) ≡ true → Brings e arena key failure bs)
           → Comes (needCameBy x e arena failure bs)
-      unfolding partCame
-      need-is MaybeKey.Nothing q b = refuses
-      need-is (MaybeKey.Key key) q b = part-by key q (b key q) (takes (nextStep c₁ key) h₁ key failure (length bs)) refl
+      needed-is MaybeKey.Nothing q b = refuses
+      needed-is (MaybeKey.Key key) q b =
+          subst Comes (sym (part-is e arena key failure bs (grid-of ready key q)))
+          (part-by key q (b key q) (takes (nextStep c₁ key) h₁ key failure (length bs)) refl)
 
     -- an entry or a chunk is open in phase Ready alone
     tile-ready : (x : Pending) → isTile x ≡ true → c₁ .pending ≡ x → e .shared .phase ≡ Phase.Ready
@@ -399,10 +424,10 @@ module _ (e : Engine) (arena : List ℕ) (ok : engineOk e (length arena) ≡ tru
     pending-is Pending.Header q = fits-is (fitsHeader failure (length bs)) (ap (requestOf (e .shared)) q) refl
     pending-is (Pending.Entry k) q =
         let r = tile-ready (Pending.Entry k) refl q in
-        need-is r (e .follower .due .need) refl (λ key need fits. entry-brings r key need failure bs fits k q)
+        needed-is r (e .follower .due .need) refl (λ key need fits. entry-brings r key need failure bs fits k q)
     pending-is Pending.Chunk q =
         let r = tile-ready Pending.Chunk refl q in
-        need-is r (e .follower .due .need) refl (λ key need fits. chunk-brings r key need failure bs fits q)
+        needed-is r (e .follower .due .need) refl (λ key need fits. chunk-brings r key need failure bs fits q)
 
     pub deliver-is : Delivers e arena failure bs (delivered e arena failure bs)
     unfolding delivered

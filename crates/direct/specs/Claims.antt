@@ -1,5 +1,5 @@
 -- What is claimed of every list of calls, from a fresh engine of any page count and horizon over any arena: demand 3. `AllFair` are its premises,
--- and there are no others. `AllSafe` is claimed with none. Assumes nothing.
+-- and there are no others. `AllSafe` is claimed with none.
 use Prim.Native.Nat.{ℕ, _+_, _*_, _≤_}
 use mathlib.Core.Path.{_≡_}
 use mathlib.Core.Bool.{Bool, true, false, _&&_, not}

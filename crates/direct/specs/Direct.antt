@@ -1,7 +1,7 @@
 -- The direct engine (document 01): "has no cache. It holds fix, history, heading, matcher and last match (the held state), starts new, is fed the
 -- pack, the state's page count, whatever else the engine was made with and the calls with their arguments, and is told which were refused, left a
 -- fetch open, or finished a match or road." It is written over `at`, which says how a tile of a pack is looked up; `directly` is document 01's
--- direct lookup. Assumes nothing.
+-- direct lookup.
 use Prim.Native.Nat.{ℕ}
 use mathlib.Core.Bool.{Bool, _&&_, cond}
 use mathlib.Core.List.{List, [], _∷_, _++_}

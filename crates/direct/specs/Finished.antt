@@ -1,7 +1,7 @@
 -- What a call finishes: document 01, "A match (or finding none) or a road is finished where working it out ends other than by 5, 12 or the
--- empty Memory answer at the reload limit", and DESIGN 6: so is an empty road that a step publishes because nothing was found or because the fix
+-- empty Memory answer at the reload limit"; so is (docs/DECISIONS.md, "Demand 3") an empty road that a step publishes because nothing was found or because the fix
 -- is off the map. "Compared are how it ended and, as that call leaves them, all its fields but `loads`, generation and heights past its length":
--- `Shown` has just those, read off what the call leaves. Assumes nothing.
+-- `Shown` has just those, read off what the call leaves.
 use Prim.Native.Nat.{ℕ}
 use mathlib.Core.Bool.{Bool, true, false, cond}
 use mathlib.Core.List.{List, []}

@@ -1,12 +1,11 @@
 -- The public calls as data, and what a list of them does to the engine and the arena, by the functions' own definitions. Each call gets the
 -- state and the arena that the last one left (demand 3). A direct call is one of cache.rs, matcher.rs or predict.rs: where it takes a cache
--- state, that is the engine's, and the rest are its own arguments (document 01). Assumes nothing.
+-- state, that is the engine's, and the rest are its own arguments (document 01).
 use Prim.Native.Nat.{ℕ}
 use mathlib.Core.List.{List, [], _∷_}
 use lib.Ieee.{Float}
 use lib.IntN.{ℤ}
 use Rattle.matcher.specs.declared.Answer as NearAnswer
-use Rattle.matcher.specs.declared.Answer.the-variants as Near
 use Rattle.pack.specs.declared.Header.{Header}
 use Rattle.geo.specs.declared.Point.{Point}
 use Rattle.cache.specs.State as Caches
@@ -17,31 +16,27 @@ use Rattle.matcher.specs.declared.Heading.{Heading}
 use Rattle.matcher.specs.declared.Matched.{Matched}
 use Rattle.matcher.specs.Calls as Matching
 use Rattle.matcher.specs.declared.CurrentRead.{CurrentRead}
-use Rattle.matcher.specs.declared.CurrentRead.the-variants as CurrentRead
 use Rattle.matcher.specs.declared.Matcher.{Matcher}
 use Rattle.matcher.specs.declared.Outcome as MatchOutcome
-use Rattle.matcher.specs.declared.Outcome.the-variants as Match
+use Rattle.matcher.specs.Numbers as Matchers
+use Rattle.matcher.specs.Numbers.{numberOfAnswer, numberOfCurrentRead}
 use Rattle.predict.specs.Predict as Predict
+use Rattle.predict.specs.Numbers as Roads
 use Rattle.predict.specs.declared.Outcome as RoadOutcome
-use Rattle.predict.specs.declared.Outcome.the-variants as Road
 use Rattle.engine.specs.Follow as Followers
 use Rattle.engine.specs.declared.Fix.{Fix}
 use Rattle.engine.specs.State.{unread}
 use Rattle.engine.specs.Calls as Engines
+pub use Rattle.engine.specs.Numbers.{numberOfTaken, numberOfStatus, numberOfKnown, numberOfHeadingRead, numberOfCount}
 use Rattle.engine.specs.Deliver.{After}
 use Rattle.engine.specs.declared.Changed.{Changed}
 use Rattle.engine.specs.declared.Count.{Count}
-use Rattle.engine.specs.declared.Count.the-variants as Count
 use Rattle.engine.specs.declared.Engine.{Engine}
 use Rattle.engine.specs.declared.HeadingRead.{HeadingRead}
-use Rattle.engine.specs.declared.HeadingRead.the-variants as HeadingRead
 use Rattle.engine.specs.declared.Known.{Known}
-use Rattle.engine.specs.declared.Known.the-variants as Known
 use Rattle.engine.specs.declared.Status.{Status}
-use Rattle.engine.specs.declared.Status.the-variants as Status
 use Rattle.engine.specs.declared.Stepped.{Stepped}
 use Rattle.engine.specs.declared.Taken.{Taken}
-use Rattle.engine.specs.declared.Taken.the-variants as Taken
 
 -- what the calls work on
 pub record World : Type 0 where
@@ -140,67 +135,19 @@ exec (predict h m horizon samples behind) w =
     let x = Predict.predict (w .engine .shared .cache) (w .arena) h m horizon samples behind in
     aged w (x .predicted .cache) (predicted (x .predicted .answer) (x .samples) (x .behind))
 
--- ---- the number of a refusal, 0 for any other answer
-
-abbrev pub ofTaken : Taken → ℕ
-ofTaken Taken.Done = 0
-ofTaken (Taken.Refused number) = number
-
-abbrev pub ofStatus : Status → ℕ
-ofStatus Status.Idle = 0
-ofStatus Status.Working = 0
-ofStatus Status.NoPack = 0
-ofStatus Status.OffMap = 0
-ofStatus (Status.Fetch offset len) = 0
-ofStatus (Status.Refused number) = number
-
-abbrev pub ofKnown : Known → ℕ
-ofKnown Known.Nothing = 0
-ofKnown Known.Is = 0
-ofKnown (Known.Refused number) = number
-
-abbrev pub ofHeading : HeadingRead → ℕ
-ofHeading HeadingRead.Nothing = 0
-ofHeading (HeadingRead.Degrees d) = 0
-ofHeading (HeadingRead.Refused number) = number
-
-abbrev pub ofCount : Count → ℕ
-ofCount (Count.Is n) = 0
-ofCount (Count.Refused number) = number
-
-abbrev pub ofNear : NearAnswer.Answer → ℕ
-ofNear Near.Accepted = 0
-ofNear (Near.Refused number) = number
-
-abbrev pub ofCurrent : CurrentRead → ℕ
-ofCurrent CurrentRead.Nothing = 0
-ofCurrent (CurrentRead.Is m) = 0
-ofCurrent (CurrentRead.Refused number) = number
-
--- 5 and 6 are the answers Need and Rematch
-abbrev pub ofMatch : MatchOutcome.Outcome → ℕ
-ofMatch (Match.Found m) = 0
-ofMatch Match.Nothing = 0
-ofMatch (Match.Need key) = 5
-ofMatch (Match.Refused number) = number
-
-abbrev pub ofRoad : RoadOutcome.Outcome → ℕ
-ofRoad (Road.Road p) = 0
-ofRoad (Road.Need key) = 5
-ofRoad Road.Rematch = 6
-ofRoad (Road.Refused number) = number
+-- ---- document 01's number of a refusal, 0 for any other answer: a step of a load that failed is none
 
 abbrev pub number : Answer → ℕ
-number (taken a) = ofTaken a
-number (status a) = ofStatus a
-number (known a) = ofKnown a
-number (headed a) = ofHeading a
-number (counted a) = ofCount a
+number (taken a) = numberOfTaken a
+number (status a) = numberOfStatus a
+number (known a) = numberOfKnown a
+number (headed a) = numberOfHeadingRead a
+number (counted a) = numberOfCount a
 number (cached a) = CacheClaims.number a
-number (around a) = ofNear a
-number (holding a) = ofCurrent a
-number (matched a m) = ofMatch a
-number (predicted a samples behind) = ofRoad a
+number (around a) = numberOfAnswer a
+number (holding a) = numberOfCurrentRead a
+number (matched a m) = Matchers.numberOfOutcome a
+number (predicted a samples behind) = Roads.numberOfOutcome a
 
 -- ---- lists
 

@@ -2,7 +2,7 @@
 -- is ever published: a call leaves the published road as it was, or leaves the one that it finished, or an empty one (`lost`, `reset`, and the empty
 -- Memory answer at the reload limit, which document 01 does not count as finished, and whose match is one that was). So a missed read, a delivery, an
 -- eviction or a direct call can't change a road once it is published. `AllPublished` and `AllRead` are claimed with no premise, `AllReadDirect` on
--- demand 3's. Assumes nothing.
+-- demand 3's.
 use Prim.Native.Nat.{ℕ, _≤_}
 use mathlib.Core.Path.{_≡_}
 use mathlib.Core.Bool.{false}

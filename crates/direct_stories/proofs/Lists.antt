@@ -60,7 +60,7 @@ abbrev pub told : List Event
 told = Story.reset pack ∷ Story.fixed on ∷ Story.matched ∷ Story.fixed off ∷ Story.cleared ∷ Story.fixed far ∷ []
 
 unfoldable all : Unit {0}
-unfolding lists Caches.cleared CacheCalls.clear Matching.update Matchers.callOk Settle.missed Publish.withoutMatch Followers.reset Engines.forgotten Work.offMap Calls.reset
+unfolding lists Caches.cleared Caches.lentOk CacheCalls.clear Matching.update Matchers.callOk Settle.missed Publish.withoutMatch Followers.reset Engines.forgotten Work.offMap Calls.reset
 all = tt
 
 pub story-one : story one begin ≡ told

@@ -1,6 +1,6 @@
 -- Demand 3's theorem is not empty: a list of calls, computed from the definitions, in which its premises hold (`fair`), reads fail (`header-missed`,
 -- `entry-missed`), a tile is evicted and loaded again (`answered`, `ready`, `evicted`), fixes come while a fetch is open, and a match and a road are
--- finished (`finished`) and read (`read`): so they are the direct engine's (`direct-finished`). Assumes nothing.
+-- finished (`finished`) and read (`read`): so they are the direct engine's (`direct-finished`).
 use Prim.Native.Nat.{ℕ, _+_, _≤_}
 use mathlib.Core.Path.{_≡_, refl, _∙_}
 use mathlib.Core.Bool.{true, false}

@@ -3,18 +3,15 @@
 //
 // PACK is a pack's file. DRIVE is a text with a line for each fix: latitude and longitude in 1e-7 degrees, and the time in milliseconds. With K
 // every K-th read of the pack is reported missed, as a card in the cold misses reads.
-mod fixes;
-mod host;
 mod show;
 
 use engine::Engine;
-use engine::Fix;
 use engine::Status;
-use engine::Taken;
-use fixes::Line;
-use host::Card;
-use host::Ride;
-use host::Turned;
+use ride::fixes;
+use ride::fixes::Line;
+use ride::host;
+use ride::host::Card;
+use ride::host::Ride;
 
 // 24 pages: twelve for the road ahead, beside the twelve that a road leaves free.
 const ARENA: usize = 196608;
@@ -52,25 +49,6 @@ fn is_no_pack(status: Status) -> bool {
     }
 }
 
-// One fix, and steps until there is no more to do.
-fn driven(card: Card, r: Ride, arena: &mut [u8], fix: Fix) -> Turned {
-    let e = r.engine;
-    let c = e.fix(&arena[..], fix);
-    let answer = c.answer;
-    let engine = c.engine;
-    let ride = Ride {
-        engine,
-        reads: r.reads,
-    };
-    match answer {
-        Taken::Refused(number) => Turned {
-            status: Status::Refused(number),
-            ride,
-        },
-        Taken::Done => host::settled(card, ride, arena),
-    }
-}
-
 // The fixes of a text, one after the other, up to the first that finds no pack.
 fn drive(card: Card, text: &[u8], arena: &mut [u8]) {
     let engine = Engine::new(&arena[..], HORIZON);
@@ -82,7 +60,7 @@ fn drive(card: Card, text: &[u8], arena: &mut [u8]) {
         let line = fixes::read_line(text, at);
         match line {
             Line::Fix(fix, next) => {
-                let t = driven(card, ride, arena, fix);
+                let t = host::driven(card, ride, arena, fix);
                 show::fix(number, t, &arena[..]);
                 let status = t.status;
                 if is_no_pack(status) {

@@ -1,6 +1,4 @@
 // What is printed: a line for each fix, the heights of the last road, and why a drive stops.
-use crate::host::Ride;
-use crate::host::Turned;
 use engine::Ahead;
 use engine::Current;
 use engine::Forward;
@@ -10,6 +8,8 @@ use profile_text::drive::FixLine;
 use profile_text::drive::MaybePlace;
 use profile_text::drive::Place;
 use profile_text::drive::Way;
+use ride::host::Ride;
+use ride::host::Turned;
 ghost use mathlib.Core.Path.{_≡_};
 ghost use Prim.Native.Nat.{_≤_};
 ghost use lib.ListN.{length};

@@ -1,11 +1,11 @@
 -- The open fetch: a step repeats it and changes nothing (`open-repeats`, `fetch-repeats`), opening it changes nothing else
 -- (`opening-is-pending`), so that reset withdraws it (`reset-withdraws`), and a fix or a loss of fixes acts the same before its delivery as
 -- after it (`fix-commutes`, `lost-commutes`). The idea: of all that a step does only two branches answer Fetch, and both say what they open;
--- what a fix changes in a follower and what a delivery changes lie side by side (`Aside`). Assumes nothing.
+-- what a fix changes in a follower and what a delivery changes lie side by side (`Aside`).
 use Prim.Native.Nat.{ℕ}
 use mathlib.Core.Path.{_≡_, refl, sym, ap, _∙_}
 use mathlib.Core.Bool.{Bool, true, false, _&&_, cond, true≢false}
-use mathlib.Core.List.{List}
+use mathlib.Core.List.{List, []}
 use lib.Dec.{eqb, ltb}
 use lib.IntN.{pos}
 use lib.ListN.{length, replicate}
@@ -20,22 +20,17 @@ use Rattle.pack.specs.declared.TileKey.{TileKey}
 use Rattle.cache.specs.declared.MaybeKey.{MaybeKey}
 use Rattle.cache.specs.declared.MaybeKey.the-variants as MaybeKey
 use Rattle.cache.specs.Keys.{sameKey}
-use Rattle.cache.specs.Lookups.{passes, lenAt, landsOn, nextRead, nextAt, nextStep}
 use Rattle.cache.specs.State.{cleared}
 use Rattle.cache.specs.declared.Cache.{Cache}
 use Rattle.cache.specs.declared.MaybeLoading.{MaybeLoading}
 use Rattle.cache.specs.declared.MaybeLoading.the-variants as MaybeLoading
 use Rattle.cache.specs.declared.Pending.{Pending}
 use Rattle.cache.specs.declared.Pending.the-variants as Pending
-use Rattle.cache.specs.declared.look.Landing.{Landing}
-use Rattle.cache.specs.declared.look.Landing.the-variants as Landing
-use Rattle.cache.specs.declared.next.Next.{Next}
-use Rattle.cache.specs.declared.next.Next.the-variants as Next
+use Rattle.cache.specs.declared.Loaded.{Loaded}
 use Rattle.cache.specs.Loads as Loads
+use Rattle.cache.specs.Calls.{loadTested}
 use Rattle.cache.specs.declared.Progress.{Progress}
 use Rattle.cache.specs.declared.Progress.the-variants as Progress
-use Rattle.cache.specs.declared.Request.{Request}
-use Rattle.cache.specs.declared.Request.the-variants as Request
 use Rattle.matcher.specs.declared.Current.{Current}
 use Rattle.matcher.specs.declared.Current.the-variants as Current
 use Rattle.matcher.specs.declared.Matched.{Matched}
@@ -62,8 +57,8 @@ use Rattle.engine.specs.declared.Stepped.{Stepped}
 use Rattle.engine.specs.State.{forgotten}
 use Rattle.engine.specs.Work.{mayAsk, matchEndedBy, matchStep, roadEndedBy, roadStep, roadDueBy, inGridStep, atFixBy, atFix, workedBy, worked, counted}
 use Rattle.engine.specs.Deliver as Deliver
-use Rattle.engine.specs.Deliver.{arrived, headerFailed, headerParsed, headerCame, sectorOf, fitsHeader, over, loadFailed, loadedBy, partCame, needCameBy, needCame, deliveredBy, delivered}
-use Rattle.engine.specs.Steps.{withPending, requestOf, needBy, needStep, readyBy, startedBy, started, repeated, steppedBy, stepped}
+use Rattle.engine.specs.Deliver.{arrived, headerFailed, headerParsed, headerCame, sectorOf, fitsHeader, over, loadFailed, loaded, loadedBy, partCame, needCameBy, needCame, deliveredBy, delivered}
+use Rattle.engine.specs.Steps.{withPending, requestOf, opened, awaitsRead, pendingFor, needStep, readyBy, startedBy, started, repeated, steppedBy, stepped}
 
 -- ---- while it is open
 
@@ -165,48 +160,45 @@ worked-opens e arena o = absurd (true≢false (sym o ∙ work-none (e .follower 
 
 -- ---- a step towards a tile says which it opens
 
--- a chunk is read of the load that is under way
-abbrev ChunkOf : MaybeLoading → Next → Type 0
-ChunkOf x (Next.Chunk l) = x ≡ MaybeLoading.Tile l
-ChunkOf x Next.Entry = Unit
-ChunkOf x (Next.Ready i) = Unit
-ChunkOf x Next.Missing = Unit
-ChunkOf x Next.NoPages = Unit
+-- the read doesn't go by which fetch is open
+request-same : (e : Engine) (p q : Pending) → requestOf (e .shared) p ≡ requestOf (withOpen e q .shared) p
+request-same e Pending.Nothing q = refl
+request-same e Pending.Header q = refl
+request-same e (Pending.Entry key) q = refl
+request-same e Pending.Chunk q = refl
 
-chunk-read : (x : MaybeLoading) (key : TileKey) → ChunkOf x (nextRead x key)
-chunk-read MaybeLoading.Nothing key = tt
-chunk-read (MaybeLoading.Tile l) key = by (sameKey (l .key) key)
+pending-open : (x : MaybeLoading) (key : TileKey) → isOpen (pendingFor x key) ≡ true
+pending-open MaybeLoading.Nothing key = refl
+pending-open (MaybeLoading.Tile l) key = by (sameKey (l .key) key)
   where
-    by : (t : Bool) → ChunkOf (MaybeLoading.Tile l) (cond t (Next.Chunk l) Next.Entry)
+    by : (t : Bool) → isOpen (cond t Pending.Chunk (Pending.Entry key)) ≡ true
     by true = refl
-    by false = tt
+    by false = refl
 
-chunk-at : (x : Landing) (c : Cache) (key : TileKey) → ChunkOf (c .loading) (nextAt x c key)
-chunk-at (Landing.At i) c key = tt
-chunk-at Landing.Missing c key = tt
-chunk-at Landing.Nothing c key = by (eqb (c .pages .count) 0)
-  where
-    by : (t : Bool) → ChunkOf (c .loading) (cond t Next.NoPages (nextRead (c .loading) key))
-    by true = tt
-    by false = chunk-read (c .loading) key
+-- a tile that is settled opens none
+loaded-none : (p : Progress) (e : Engine) (c : Cache) → isFetch (loadedBy p e c .answer) ≡ false
+unfolding arrived loadFailed
+loaded-none Progress.Done e c = refl
+loaded-none Progress.More e c = refl
+loaded-none (Progress.Failed number) e c = either-none (ltb (e .follower .failures) 7) _ _ refl refl
+loaded-none (Progress.Refused number) e c = refl
 
-need-by : (n : Next) (e : Engine) (arena : List ℕ) (key : TileKey) → ChunkOf (e .shared .cache .loading) n
-    → Opens e (needBy (Loads.fetched (e .shared .cache) n arena (e .shared .header) key) n e key)
-unfolding arrived
-need-by (Next.Ready i) e arena key q o = by (passes arena i (lenAt (e .shared .cache) i) key (e .shared .header .tile)) o
+need-opens : (e : Engine) (arena : List ℕ) (key : TileKey) → Opens e (needStep e arena key)
+unfolding needStep
+need-opens e arena key = by (awaitsRead (l .answer))
   where
-    by : (t : Bool) → Opens e (needBy (cond t Request.Settled (Request.Refused 12)) (Next.Ready i) e key)
-    by true o = absurd (true≢false (sym o))
-    by false o = absurd (true≢false (sym o))
-need-by Next.Missing e arena key q o = absurd (true≢false (sym o))
-need-by Next.NoPages e arena key q o = absurd (true≢false (sym o))
-need-by Next.Entry e arena key q o = record { pending = Pending.Entry key; opens = refl; engine = refl; asks = refl }
-need-by (Next.Chunk l) e arena key q o = record { pending = Pending.Chunk; opens = refl; engine = refl; asks = rw q }
+    l : Loaded
+    l = Loads.told (loadTested (e .shared .cache) arena (e .shared .header) key 0 [])
+
+    p : Pending
+    p = pendingFor (e .shared .cache .loading) key
+
+    by : (t : Bool) → Opens e (cond t (opened e p) (loaded e l))
+    by true o = record { pending = p; opens = pending-open (e .shared .cache .loading) key; engine = refl; asks = request-same e p p }
+    by false o = absurd (true≢false (sym o ∙ loaded-none (l .answer) e (l .cache)))
 
 ready-opens : (m : MaybeKey) (e : Engine) (arena : List ℕ) → Opens e (readyBy m e arena)
-unfolding needStep nextStep
-ready-opens (MaybeKey.Key key) e arena o =
-    let c = e .shared .cache in need-by (nextStep c key) e arena key (chunk-at (landsOn c key) c key) o
+ready-opens (MaybeKey.Key key) e arena o = need-opens e arena key o
 ready-opens MaybeKey.Nothing e arena o = worked-opens e arena o
 
 started-opens : (p : Phase) (e : Engine) (arena : List ℕ) → Opens e (startedBy p e arena)
@@ -334,11 +326,8 @@ module _ (g : Follower → Follower) (aside : Aside g) where
       → partCame (follows g e) arena key failure bs ≡ after g (partCame e arena key failure bs)
   unfolding partCame
   part-after e arena key failure bs =
-      let n = nextStep (e .shared .cache) key in
-      let x = Loads.stepped (e .shared .cache) n arena (e .shared .header) key failure bs in
-      either-after (Loads.takes n (e .shared .header) key failure (length bs))
-      (ap (λ (s : Stepped). over s (x .arena)) (loaded-then (x .answer) e (x .cache)))
-      refl
+      let x = loadTested (e .shared .cache) arena (e .shared .header) key failure bs in
+      ap (λ (s : Stepped). over s (x .arena)) (loaded-then (x .answer) e (x .cache))
 
   need-after : (m : MaybeKey) (e : Engine) (arena : List ℕ) (failure : ℕ) (bs : List ℕ)
       → needCameBy m (follows g e) arena failure bs ≡ after g (needCameBy m e arena failure bs)

@@ -1,5 +1,5 @@
 -- What a fix and the loss of fixes leave as it was, and that the history holds at most sixteen places after one more. The definitions copy what
--- they leave, so each part is the same by computing; a place more is one more below sixteen, and sixteen from there on. Assumes nothing.
+-- they leave, so each part is the same by computing; a place more is one more below sixteen, and sixteen from there on.
 use Prim.Native.Nat.{_≤_}
 use mathlib.Core.Path.{_≡_, refl}
 use mathlib.Core.Bool.{Bool, true, false, cond}

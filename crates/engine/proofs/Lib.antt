@@ -12,3 +12,6 @@ pub mod FetchLaws
 pub mod StateLaws
 pub mod StateNeeds
 pub mod StepNeeds
+-- NeedLaws: the tile that is needed, by the cache's public cores. TestedLaws: what number 12's test tells the functions behind it.
+pub mod NeedLaws
+pub mod TestedLaws

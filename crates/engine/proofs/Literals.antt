@@ -1,5 +1,5 @@
 -- The longest horizon, which the code writes as a single float, by the whole number that it is; 0 stands in crate geo, 15 in crate matcher. It is
--- computed. Assumes nothing.
+-- computed.
 use mathlib.Core.Path.{_≡_, refl}
 use lib.Ieee.{binary32, ofBits, ofInt}
 use Rattle.geo.specs.Flat.{whole}

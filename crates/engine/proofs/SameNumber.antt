@@ -1,5 +1,5 @@
 -- Two signed numbers of 32 bits are the same number just where their bits are the same, which is what the code compares: numbers with the same
--- bits are equal, and numbers of which neither is less have the same bits. Assumes nothing.
+-- bits are equal, and numbers of which neither is less have the same bits.
 use Prim.Native.Nat.{_^_, _<_}
 use mathlib.Core.Path.{_≡_, refl, sym, ap, _∙_}
 use mathlib.Core.Bool.{Bool, true, false, _&&_}

@@ -1,5 +1,5 @@
 -- The states that number 12 leaves alone: a new engine, over any arena and with any horizon (`new-ok`). Every page of a fresh cache is the empty
--- one, it has no more pages than the arena, and a new follower holds nothing. Assumes nothing.
+-- one, it has no more pages than the arena, and a new follower holds nothing.
 use Prim.Native.Nat.{ℕ, _*_, _/_, _<_, _≤_, min}
 use mathlib.Core.Path.{_≡_}
 use mathlib.Core.Bool.{true}

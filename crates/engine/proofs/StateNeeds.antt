@@ -1,5 +1,5 @@
 -- What the tests of number 12 know. A phase in an arm of two is one of both, by the number of its variant; whether a key is held follows from
--- the two tests of the phase; an arena is shorter than its pages where it has fewer of them. Assumes nothing.
+-- the two tests of the phase; an arena is shorter than its pages where it has fewer of them.
 use Prim.Native.Nat.{ℕ, _*_, _/_, _<_, _≤_}
 use mathlib.Core.Path.{_≡_, refl, sym}
 use mathlib.Core.Bool.{true, false, true≢false}

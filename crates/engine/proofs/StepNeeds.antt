@@ -1,5 +1,5 @@
 -- What an arm of a `match` on several variants knows: the value is one of them, so that what the definition makes of each of them is what the
--- arm does. The idea: the number of the variant tells it. And the limit on asked tiles is a small number (`limit-small`). Assumes nothing.
+-- arm does. The idea: the number of the variant tells it. And the limit on asked tiles is a small number (`limit-small`).
 use Prim.Native.Nat.{ℕ, _≤_}
 use mathlib.Core.Path.{_≡_, refl}
 use mathlib.Core.Logic.{_⊎_, ⊎-elim}
@@ -9,15 +9,10 @@ use native.Mathlib.Omega.{arith}
 use denote.Enum.Declared.{tagOf}
 use Rattle.pack.specs.declared.Keyed.{Keyed}
 use Rattle.pack.specs.declared.Keyed.the-variants as Keyed
-use Rattle.pack.specs.declared.TileKey.{TileKey}
 use Rattle.pack.proofs.Keyed as Keyeds
-use Rattle.cache.specs.declared.Cache.{Cache}
 use Rattle.cache.specs.declared.Pending.{Pending}
 use Rattle.cache.specs.declared.Pending.the-variants as Pending
 use Rattle.cache.proofs.Pending as Pendings
-use Rattle.cache.specs.declared.next.Next.{Next}
-use Rattle.cache.specs.declared.next.Next.the-variants as Next
-use Rattle.cache.proofs.next.Next as Nexts
 use Rattle.matcher.specs.declared.Outcome.{Outcome}
 use Rattle.matcher.specs.declared.Outcome.the-variants as Outcome
 use Rattle.matcher.specs.declared.Updated.{Updated}
@@ -31,7 +26,7 @@ use Rattle.engine.specs.declared.Stepped.{Stepped}
 use Rattle.engine.specs.State.{reloadLimit}
 use Rattle.engine.specs.Work.{ended, matched, matchEndedBy, offMap, atFixBy}
 use Rattle.engine.specs.Deliver.{over, needCame, deliveredBy}
-use Rattle.engine.specs.Steps.{settled, pendingOf, repeated, steppedBy}
+use Rattle.engine.specs.Steps.{repeated, steppedBy}
 use Rattle.engine.specs.Calls.{stepFromBy}
 use Rattle.engine.proofs.Status as Statuses
 
@@ -40,9 +35,6 @@ keyedTag k = tagOf Keyeds.the-type k
 
 abbrev pendingTag : Pending → ℕ
 pendingTag p = tagOf Pendings.the-type p
-
-abbrev nextTag : Next → ℕ
-nextTag n = tagOf Nexts.the-type n
 
 abbrev outcomeTag : Outcome → ℕ
 outcomeTag o = tagOf Outcomes.the-type o
@@ -83,22 +75,6 @@ fetch-repeated Pending.Nothing h e arena =
 fetch-repeated Pending.Header h e arena = refl
 fetch-repeated (Pending.Entry key) h e arena = refl
 fetch-repeated Pending.Chunk h e arena = refl
-
--- ---- the next step towards a tile
-
-pub cache-kept : (n : Next) → (nextTag n ≡ 1) ⊎ ((nextTag n ≡ 3) ⊎ (nextTag n ≡ 4)) → (c : Cache) (key : TileKey) → settled c n key ≡ c
-cache-kept (Next.Ready i) h c key = absurd (⊎-elim (λ z. omega arith) (λ t. ⊎-elim (λ z. omega arith) (λ z. omega arith) t) h)
-cache-kept Next.Missing h c key = refl
-cache-kept Next.NoPages h c key = absurd (⊎-elim (λ z. omega arith) (λ t. ⊎-elim (λ z. omega arith) (λ z. omega arith) t) h)
-cache-kept Next.Entry h c key = refl
-cache-kept (Next.Chunk l) h c key = refl
-
-pub none-opened : (n : Next) → (nextTag n ≡ 0) ⊎ ((nextTag n ≡ 1) ⊎ (nextTag n ≡ 2)) → (key : TileKey) → pendingOf n key ≡ Pending.Nothing
-none-opened (Next.Ready i) h key = refl
-none-opened Next.Missing h key = refl
-none-opened Next.NoPages h key = refl
-none-opened Next.Entry h key = absurd (⊎-elim (λ z. omega arith) (λ t. ⊎-elim (λ z. omega arith) (λ z. omega arith) t) h)
-none-opened (Next.Chunk l) h key = absurd (⊎-elim (λ z. omega arith) (λ t. ⊎-elim (λ z. omega arith) (λ z. omega arith) t) h)
 
 -- ---- a step that fetches nothing
 

@@ -1,5 +1,5 @@
 -- The public functions, each with its refusals: document 01, "Refused". 12 first; then 8 for a fix, 11 for a delivery; the late 12 of a lookup
--- inside a step. A refused call leaves engine and arena as they were. Assumes nothing.
+-- inside a step. A refused call leaves engine and arena as they were.
 use Prim.Native.Nat.{ℕ}
 use mathlib.Core.Bool.{cond}
 use mathlib.Core.List.{List, []}

@@ -1,6 +1,6 @@
 -- The open fetch answered: `engine.rs`, `step`, after its read. All that a step that reads changes, changes here. The header: a missed read is
 -- tried again up to the eighth, which fails the pack with the count at 7; 2, 3 and 4 fail it at once. A part of the needed tile: 1, 2 and 4
--- count, and the eighth fails the pack. Number 11: no fetch is open, or the answer doesn't fit it (document 01, "Refused"). Assumes nothing.
+-- count, and the eighth fails the pack. Number 11: no fetch is open, or the answer doesn't fit it (document 01, "Refused").
 use Prim.Native.Nat.{ℕ, _+_}
 use mathlib.Core.Bool.{Bool, _&&_, cond}
 use mathlib.Core.List.{List}
@@ -15,11 +15,11 @@ use Rattle.pack.specs.declared.Parsed.{Parsed}
 use Rattle.pack.specs.declared.TileKey.{TileKey}
 use Rattle.cache.specs.declared.MaybeKey.{MaybeKey}
 use Rattle.cache.specs.declared.MaybeKey.the-variants as MaybeKey
-use Rattle.cache.specs.Lookups.{nextStep}
 use Rattle.cache.specs.declared.Cache.{Cache}
 use Rattle.cache.specs.declared.Pending.{Pending}
 use Rattle.cache.specs.declared.Pending.the-variants as Pending
 use Rattle.cache.specs.Loads as Loads
+use Rattle.cache.specs.Calls.{loadTested}
 use Rattle.cache.specs.declared.Loaded.{Loaded}
 use Rattle.cache.specs.declared.Progress.{Progress}
 use Rattle.cache.specs.declared.Progress.the-variants as Progress
@@ -118,11 +118,10 @@ loadedBy (Progress.Refused number) e c = refused e number
 abbrev pub loaded : Engine → Loaded → Stepped
 loaded e l = loadedBy (l .answer) e (l .cache)
 
+-- the cache's step with that answer, past number 12's test
 unfoldable pub partCame : Engine → List ℕ → TileKey → ℕ → List ℕ → After
 partCame e arena key failure bs =
-    let n = nextStep (e .shared .cache) key in
-    let x = Loads.stepped (e .shared .cache) n arena (e .shared .header) key failure bs in
-    cond (Loads.takes n (e .shared .header) key failure (length bs)) (over (loaded e (Loads.told x)) (x .arena)) (over (refused e 11) arena)
+    let x = loadTested (e .shared .cache) arena (e .shared .header) key failure bs in over (loaded e (Loads.told x)) (x .arena)
 
 -- ---- the delivery
 

@@ -1,5 +1,5 @@
 -- The fixes, and the heading of travel that they give: `engine.rs`, `Fix::from_e7`, `fix` and `lost`: "from the newest earlier fix at least
--- HEADING_MOVE_M away". Each float operation is rounded once, in the Rust's order. Assumes nothing.
+-- HEADING_MOVE_M away". Each float operation is rounded once, in the Rust's order.
 use Prim.Native.Nat.{ℕ, _+_, _-_}
 use mathlib.Core.Bool.{Bool, false, _&&_, cond}
 use mathlib.Core.List.{List, _++_}

@@ -8,3 +8,5 @@ pub mod Work
 pub mod Deliver
 pub mod Steps
 pub mod Calls
+-- The number of each answer.
+pub mod Numbers

@@ -1,4 +1,4 @@
--- The road ahead that is published: `engine.rs`, `Ahead` and `publish`. Assumes nothing.
+-- The road ahead that is published: `engine.rs`, `Ahead` and `publish`.
 use Prim.Native.Nat.{ℕ}
 use mathlib.Core.Bool.{Bool, false}
 use lib.Dec.{ltb}

@@ -2,7 +2,7 @@
 -- each by name: a count above its array (`placesOk`, `aheadOk`), failures above 8, or 8 with a pack not failed (`failuresOk`), a held place or
 -- heading that 8 would refuse (`sightOk`), a needed or matched key outside the read header's grid or held while the header is unread
 -- (`heldOk`), reloads above their limit (`dueOk`), an open fetch that the state would not make (`pendingOk`), a header that `Header::parse`
--- would refuse, an arena shorter than its pages (`sharedOk`). A pack that failed keeps what is needed and matched. Assumes nothing.
+-- would refuse, an arena shorter than its pages (`sharedOk`). A pack that failed keeps what is needed and matched.
 use Prim.Native.Nat.{ℕ, _+_, _*_, min}
 use mathlib.Core.Bool.{Bool, true, false, _&&_, not, cond}
 use mathlib.Core.List.{List, [], _∷_}

@@ -1,22 +1,23 @@
 -- A step: `engine.rs`, `step`, with its read in the host's hands. While a fetch is open a step repeats it and changes nothing; opening one
--- changes nothing but that it is open. Assumes nothing.
+-- changes nothing but that it is open.
 use Prim.Native.Nat.{ℕ, _+_}
-use mathlib.Core.List.{List}
+use mathlib.Core.Bool.{Bool, false, cond}
+use mathlib.Core.List.{List, []}
+use lib.Dec.{eqb}
 use Rattle.pack.specs.Grid.{entryOf}
 use Rattle.pack.specs.declared.TileKey.{TileKey}
 use Rattle.cache.specs.declared.MaybeKey.{MaybeKey}
 use Rattle.cache.specs.declared.MaybeKey.the-variants as MaybeKey
-use Rattle.cache.specs.Lookups.{nextStep, touched}
 use Rattle.cache.specs.declared.Cache.{Cache}
 use Rattle.cache.specs.declared.MaybeLoading.{MaybeLoading}
 use Rattle.cache.specs.declared.MaybeLoading.the-variants as MaybeLoading
 use Rattle.cache.specs.declared.Pending.{Pending}
 use Rattle.cache.specs.declared.Pending.the-variants as Pending
-use Rattle.cache.specs.declared.next.Next.{Next}
-use Rattle.cache.specs.declared.next.Next.the-variants as Next
-use Rattle.cache.specs.Loads.{chunkLen, chunkOffset, fetched, forgot}
-use Rattle.cache.specs.declared.Request.{Request}
-use Rattle.cache.specs.declared.Request.the-variants as Request
+use Rattle.cache.specs.Keys.{sameKey}
+use Rattle.cache.specs.Loads.{chunkLen, chunkOffset, told}
+use Rattle.cache.specs.Calls.{loadTested}
+use Rattle.cache.specs.declared.Progress.{Progress}
+use Rattle.cache.specs.declared.Progress.the-variants as Progress
 use Rattle.engine.specs.declared.Engine.{Engine}
 use Rattle.engine.specs.declared.Phase.{Phase}
 use Rattle.engine.specs.declared.Phase.the-variants as Phase
@@ -24,23 +25,10 @@ use Rattle.engine.specs.declared.Shared.{Shared}
 use Rattle.engine.specs.declared.Status.{Status}
 use Rattle.engine.specs.declared.Status.the-variants as Status
 use Rattle.engine.specs.declared.Stepped.{Stepped}
-use Rattle.engine.specs.State.{refused}
 use Rattle.engine.specs.Work.{worked}
 use Rattle.engine.specs.Deliver as Deliver
 
 -- ---- a fetch
-
-abbrev pub withPending : Cache → Pending → Cache
-withPending c pending = Deliver.withPending c pending
-
-abbrev pub opened : Engine → Pending → ℕ → ℕ → Stepped
-opened e pending offset len = record {
-  answer = Status.Fetch offset len;
-  engine = record {
-    shared = record { phase = e .shared .phase; header = e .shared .header; cache = withPending (e .shared .cache) pending };
-    follower = e .follower;
-  };
-}
 
 abbrev pub chunkRequest : MaybeLoading → Status
 chunkRequest MaybeLoading.Nothing = Status.Refused 12
@@ -53,31 +41,38 @@ requestOf s Pending.Header = Status.Fetch 0 512
 requestOf s (Pending.Entry key) = Status.Fetch (entryOf (s .header) key) 8
 requestOf s Pending.Chunk = chunkRequest (s .cache .loading)
 
+abbrev pub withPending : Cache → Pending → Cache
+withPending c pending = Deliver.withPending c pending
+
+-- the engine with that fetch open, and its read
+abbrev pub opened : Engine → Pending → Stepped
+opened e pending = record {
+  answer = requestOf (e .shared) pending;
+  engine = record {
+    shared = record { phase = e .shared .phase; header = e .shared .header; cache = withPending (e .shared .cache) pending };
+    follower = e .follower;
+  };
+}
+
 -- ---- the tile that is needed
 
--- without a read: ready, and then used; known missing; missing for want of pages
-abbrev pub settled : Cache → Next → TileKey → Cache
-settled c (Next.Ready i) key = touched c i
-settled c Next.NoPages key = forgot c key
-settled c Next.Missing key = c
-settled c Next.Entry key = c
-settled c (Next.Chunk l) key = c
+-- the cache can't settle it without a read: 11
+abbrev pub awaitsRead : Progress → Bool
+awaitsRead Progress.Done = false
+awaitsRead Progress.More = false
+awaitsRead (Progress.Failed number) = false
+awaitsRead (Progress.Refused number) = eqb number 11
 
-abbrev pub pendingOf : Next → TileKey → Pending
-pendingOf Next.Entry key = Pending.Entry key
-pendingOf (Next.Chunk l) key = Pending.Chunk
-pendingOf (Next.Ready i) key = Pending.Nothing
-pendingOf Next.Missing key = Pending.Nothing
-pendingOf Next.NoPages key = Pending.Nothing
+-- the read towards it: a chunk where the load under way is of that tile, else its entry
+abbrev pub pendingFor : MaybeLoading → TileKey → Pending
+pendingFor MaybeLoading.Nothing key = Pending.Entry key
+pendingFor (MaybeLoading.Tile l) key = cond (sameKey (l .key) key) Pending.Chunk (Pending.Entry key)
 
-abbrev pub needBy : Request → Next → Engine → TileKey → Stepped
-needBy (Request.Read offset len) n e key = opened e (pendingOf n key) offset len
-needBy (Request.Refused number) n e key = refused e number
-needBy Request.Settled n e key = Deliver.arrived e (settled (e .shared .cache) n key)
-
+-- settled without a read, or the fetch opened
 unfoldable pub needStep : Engine → List ℕ → TileKey → Stepped
 needStep e arena key =
-    let n = nextStep (e .shared .cache) key in needBy (fetched (e .shared .cache) n arena (e .shared .header) key) n e key
+    let l = told (loadTested (e .shared .cache) arena (e .shared .header) key 0 []) in
+    cond (awaitsRead (l .answer)) (opened e (pendingFor (e .shared .cache .loading) key)) (Deliver.loaded e l)
 
 abbrev pub readyBy : MaybeKey → Engine → List ℕ → Stepped
 readyBy (MaybeKey.Key key) e arena = needStep e arena key
@@ -90,7 +85,7 @@ readyStep e arena = readyBy (e .follower .due .need) e arena
 
 abbrev pub startedBy : Phase → Engine → List ℕ → Stepped
 startedBy Phase.Failed e arena = record { answer = Status.NoPack; engine = e }
-startedBy Phase.Unread e arena = opened e Pending.Header 0 512
+startedBy Phase.Unread e arena = opened e Pending.Header
 startedBy Phase.Ready e arena = readyStep e arena
 
 unfoldable pub started : Engine → List ℕ → Stepped

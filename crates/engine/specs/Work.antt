@@ -1,6 +1,6 @@
 -- The work of a step that needs no read: `engine.rs`, `step` from `self.fix` on, `reload` and `publish`. Off the map, a match, a road, or nothing.
 -- Inside a step 5 asks for the tile, and 6 and 10 have the fix matched again; the late 12 leaves the engine as it was (document 01,
--- "Refused"). Assumes nothing.
+-- "Refused").
 use Prim.Native.Nat.{ℕ, _+_, _-_}
 use mathlib.Core.Bool.{Bool, true, false, _||_, not, cond}
 use mathlib.Core.List.{List}

@@ -152,7 +152,7 @@ fn load_failed(e: Engine, c: Cache) -> Stepped
 }
 
 // What a step of the load makes of the engine.
-fn loaded(e: Engine, l: Loaded) -> Stepped
+pub(crate) fn loaded(e: Engine, l: Loaded) -> Stepped
     ensures { λ r. ⌜ r ≡ Deliver.loaded e l ⌝ }
 {
     let answer = l.answer;
@@ -177,11 +177,7 @@ fn part_came(e: Engine, arena: &mut [u8], key: TileKey, failure: u32, bytes: &[u
     let s = e.shared;
     let c = s.cache;
     let header = s.header;
-    let n = cache::next::next_step(c, key);
-    if !cache::step::takes(n, header, key, failure, bytes.len()) {
-        return crate::state::refused(e, 11);
-    }
-    let l = cache::step::stepped(c, n, arena, header, key, failure, bytes);
+    let l = cache::load::loaded(c, arena, header, key, failure, bytes);
     loaded(e, l)
 }
 

@@ -1,19 +1,22 @@
-// A step: the fetch that it opens, or the work that needs none. Opening a fetch changes nothing but that it is open.
+// A step: the fetch that it opens, or the work that needs none. Opening a fetch changes nothing but that it is open. What the last
+// three ask of the state is what number 12's test has shown: `Engine::step` makes it first.
 use crate::Engine;
 use crate::Phase;
 use crate::Shared;
 use crate::Status;
 use crate::Stepped;
 use cache::Cache;
-use cache::Loading;
 use cache::MaybeKey;
 use cache::MaybeLoading;
 use cache::Pending;
-use cache::Request;
-use cache::next::Next;
+use cache::Progress;
 use pack::Header;
 use pack::TileKey;
 ghost use mathlib.Core.Path.{_≡_};
+ghost use mathlib.Core.Bool.{true};
+ghost use lib.ListN.{length};
+ghost use Rattle.engine.specs.State.{engineOk};
+ghost use Rattle.engine.specs.declared.Phase.the-variants as PhaseIs;
 ghost use Rattle.engine.specs.Steps as Steps;
 
 pub(crate) fn with_pending(c: Cache, pending: Pending) -> Cache
@@ -28,22 +31,6 @@ pub(crate) fn with_pending(c: Cache, pending: Pending) -> Cache
         loading,
         pending,
         loads: c.loads,
-    }
-}
-
-// The engine with that fetch open.
-fn opened(e: Engine, pending: Pending, offset: u64, len: usize) -> Stepped
-    ensures { λ r. ⌜ r ≡ Steps.opened e pending offset len ⌝ }
-{
-    let mut s = e.shared;
-    let old = s.cache;
-    let cache = with_pending(old, pending);
-    s.cache = cache;
-    let mut d = e;
-    d.shared = s;
-    Stepped {
-        answer: Status::Fetch(offset, len),
-        engine: d,
     }
 }
 
@@ -79,25 +66,44 @@ fn request_of(s: Shared, pending: Pending) -> Status
     }
 }
 
-// The cache once a tile is settled without a read: ready and used, missing, or missing for want of pages.
-fn settled(c: Cache, n: Next, key: TileKey) -> Cache
-    ensures { λ r. ⌜ r ≡ Steps.settled c n key ⌝ }
+// The engine with that fetch open, and its read.
+fn opened(e: Engine, pending: Pending) -> Stepped
+    ensures { λ r. ⌜ r ≡ Steps.opened e pending ⌝ }
 {
-    match n {
-        Next::Ready(i) => cache::look::touch(c, i),
-        Next::NoPages => cache::step::forgot(c, key),
-        Next::Missing | Next::Entry | Next::Chunk(_) => c,
+    let mut s = e.shared;
+    let answer = request_of(s, pending);
+    let old = s.cache;
+    let cache = with_pending(old, pending);
+    s.cache = cache;
+    let mut d = e;
+    d.shared = s;
+    Stepped { answer, engine: d }
+}
+
+// Whether a tile can't be settled without a read: the cache answers 11.
+fn awaits_read(answer: Progress) -> bool
+    ensures { λ r. ⌜ r ≡ Steps.awaitsRead answer ⌝ }
+{
+    match answer {
+        Progress::Done => false,
+        Progress::More => false,
+        Progress::Failed(_) => false,
+        Progress::Refused(number) => number == 11,
     }
 }
 
-// The fetch that a read opens.
-fn pending_of(n: Next, key: TileKey) -> Pending
-    ensures { λ r. ⌜ r ≡ Steps.pendingOf n key ⌝ }
+// The fetch that the read towards a tile opens: a chunk where the load under way is of that tile, else its entry.
+fn pending_for(loading: MaybeLoading, key: TileKey) -> Pending
+    ensures { λ r. ⌜ r ≡ Steps.pendingFor loading key ⌝ }
 {
-    match n {
-        Next::Entry => Pending::Entry(key),
-        Next::Chunk(_) => Pending::Chunk,
-        Next::Ready(_) | Next::Missing | Next::NoPages => Pending::Nothing,
+    match loading {
+        MaybeLoading::Nothing => Pending::Entry(key),
+        MaybeLoading::Tile(l) => {
+            if cache::keys::same_key(l.key, key) {
+                return Pending::Chunk;
+            }
+            Pending::Entry(key)
+        }
     }
 }
 
@@ -108,22 +114,19 @@ fn need_step(e: Engine, arena: &[u8], key: TileKey) -> Stepped
     let s = e.shared;
     let c = s.cache;
     let header = s.header;
-    let n = cache::next::next_step(c, key);
-    match cache::step::fetched(c, n, arena, header, key) {
-        Request::Read(offset, len) => {
-            let pending = pending_of(n, key);
-            opened(e, pending, offset, len)
-        }
-        Request::Refused(number) => crate::state::refused(e, number),
-        Request::Settled => {
-            let d = settled(c, n, key);
-            crate::deliver::arrived(e, d)
-        }
+    let l = cache::load::settled(c, arena, header, key);
+    let answer = l.answer;
+    if awaits_read(answer) {
+        let loading = c.loading;
+        let pending = pending_for(loading, key);
+        return opened(e, pending);
     }
+    crate::deliver::loaded(e, l)
 }
 
 // A step in phase Ready.
 fn ready_step(e: Engine, arena: &[u8]) -> Stepped
+    requires { ⌜ (engineOk e (length (now arena)) ≡ true) × (e .shared .phase ≡ PhaseIs.Ready) ⌝ }
     ensures { λ r. ⌜ r ≡ Steps.readyStep e (now (arena .entry)) ⌝ }
 {
     let f = e.follower;
@@ -137,6 +140,7 @@ fn ready_step(e: Engine, arena: &[u8]) -> Stepped
 
 // A step where no fetch is open.
 fn started(e: Engine, arena: &[u8]) -> Stepped
+    requires { ⌜ engineOk e (length (now arena)) ≡ true ⌝ }
     ensures { λ r. ⌜ r ≡ Steps.started e (now (arena .entry)) ⌝ }
 {
     let s = e.shared;
@@ -146,13 +150,14 @@ fn started(e: Engine, arena: &[u8]) -> Stepped
             answer: Status::NoPack,
             engine: e,
         },
-        Phase::Unread => opened(e, Pending::Header, 0, 512),
+        Phase::Unread => opened(e, Pending::Header),
         Phase::Ready => ready_step(e, arena),
     }
 }
 
 // A step in a state that has been tested: while a fetch is open it is repeated, and nothing changes.
 pub(crate) fn stepped(e: Engine, arena: &[u8]) -> Stepped
+    requires { ⌜ engineOk e (length (now arena)) ≡ true ⌝ }
     ensures { λ r. ⌜ r ≡ Steps.stepped e (now (arena .entry)) ⌝ }
 {
     let s = e.shared;

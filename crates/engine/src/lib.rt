@@ -103,7 +103,7 @@ pub struct Follower {
     pub matcher: Matcher,
     pub due: Due,
     pub ahead: Ahead,
-    // Reads that failed in a row.
+    // Failures since the header or the last finished load.
     pub failures: u8,
     pub horizon_m: f32,
     // Steps that did work, for diagnostics.

@@ -1,4 +1,5 @@
-// The work of a step that needs no read: off the map, a match, a road, or nothing.
+// The work of a step that needs no read: off the map, a match, a road, or nothing. What these functions ask of the state is what number 12's
+// test has shown.
 use crate::Ahead;
 use crate::Due;
 use crate::Engine;
@@ -22,6 +23,12 @@ use predict::End;
 use predict::Outcome;
 use predict::Prediction;
 ghost use mathlib.Core.Path.{_≡_};
+ghost use mathlib.Core.Bool.{true, _&&_};
+ghost use lib.ListN.{length};
+ghost use Rattle.pack.specs.Grid.{isPoint, inGrid};
+ghost use Rattle.matcher.specs.State.{keyOk, headingOk};
+ghost use Rattle.engine.specs.State.{engineOk};
+ghost use Rattle.engine.specs.declared.Phase.the-variants as PhaseIs;
 ghost use Rattle.engine.specs.Work as Work;
 
 // One step more was counted, and nothing else.
@@ -183,6 +190,7 @@ fn match_asks(f: Follower, pages: usize, key: TileKey) -> Follower
 
 // The newest fix matched.
 fn match_step(e: Engine, arena: &[u8], f: Follower, fix: Fix) -> Stepped
+    requires { ⌜ (isPoint (fix .lat) (fix .lon) && headingOk (f .sight .heading)) ≡ true ⌝ }
     ensures { λ r. ⌜ r ≡ Work.matchStep e (now (arena .entry)) f fix ⌝ }
 {
     let s = e.shared;
@@ -297,6 +305,7 @@ fn rematch(f: Follower) -> Follower
 
 // The road ahead of a match, worked out over heights of 0.
 fn road_step(e: Engine, arena: &[u8], f: Follower, fix: Fix, found: Matched) -> Stepped
+    requires { ⌜ inGrid (e .shared .header) (found .tile .key) ≡ true ⌝ }
     ensures { λ r. ⌜ r ≡ Work.roadStep e (now (arena .entry)) f fix found ⌝ }
 {
     let s = e.shared;
@@ -344,6 +353,7 @@ fn road_step(e: Engine, arena: &[u8], f: Follower, fix: Fix, found: Matched) -> 
 
 // A road is due: of the current match, if there is one.
 fn road_due(e: Engine, arena: &[u8], f: Follower, fix: Fix) -> Stepped
+    requires { ⌜ keyOk (f .matcher .current) (e .shared .header) ≡ true ⌝ }
     ensures { λ r. ⌜ r ≡ Work.roadDue e (now (arena .entry)) f fix ⌝ }
 {
     let m = f.matcher;
@@ -364,6 +374,7 @@ fn road_due(e: Engine, arena: &[u8], f: Follower, fix: Fix) -> Stepped
 
 // What is to be done at a fix.
 fn at_fix(e: Engine, arena: &[u8], f: Follower, fix: Fix) -> Stepped
+    requires { ⌜ ((isPoint (fix .lat) (fix .lon) && headingOk (f .sight .heading)) ≡ true) × (keyOk (f .matcher .current) (e .shared .header) ≡ true) ⌝ }
     ensures { λ r. ⌜ r ≡ Work.atFix e (now (arena .entry)) f fix ⌝ }
 {
     let s = e.shared;
@@ -389,6 +400,7 @@ fn at_fix(e: Engine, arena: &[u8], f: Follower, fix: Fix) -> Stepped
 
 // A step that needs no tile.
 pub(crate) fn worked(e: Engine, arena: &[u8]) -> Stepped
+    requires { ⌜ (engineOk e (length (now arena)) ≡ true) × (e .shared .phase ≡ PhaseIs.Ready) ⌝ }
     ensures { λ r. ⌜ r ≡ Work.worked e (now (arena .entry)) ⌝ }
 {
     let before = e.follower;

@@ -1,6 +1,6 @@
 -- Number 12's causes of the cache (`stateOk`) are kept, from any state that has none: by lookups, by a fetch opened or closed, by clearing and
 -- by a key found missing. Neither these nor a step of a load change the page count (`stepped-count`). The idea: `stateOk` reads slots, count,
--- ring and load, and the open fetch by the next step, which reads the same. Assumes nothing.
+-- ring and load, and the open fetch by the next step, which reads the same.
 use Prim.Native.Nat.{ℕ, _+_, _%_, _<_, _≤_}
 use mathlib.Core.Path.{_≡_, refl, sym, ap, _∙_}
 use mathlib.Core.Bool.{Bool, true, false, cond, true≢false}

@@ -1,6 +1,6 @@
 -- A step of a load keeps number 12's causes of the cache (`stateOk`), from any state that has none and has its 96 slots (`stepped-ok`), and it
 -- keeps the 96 (`stepped-size`). The slots are a list here, and `stateOk` doesn't read how long it is: in a shorter one a run begun past its
--- end is not written, so that its load has no run (`short-breaks`). Assumes nothing.
+-- end is not written, so that its load has no run (`short-breaks`).
 use Prim.Native.Nat.{ℕ, _+_, _<_, _≤_}
 use mathlib.Core.Path.{_≡_, refl, sym}
 use mathlib.Core.Bool.{Bool, true, false, _&&_, not, true≢false}

@@ -1,5 +1,5 @@
 -- The theorem of the engine, closed: no public call makes a state that number 12 names out of one that it doesn't, of any engine with its 96
--- slots. The laws of the cache put into those of the engine. Assumes nothing.
+-- slots. The laws of the cache put into those of the engine.
 use Prim.Native.Nat.{ℕ}
 use mathlib.Core.Path.{_≡_}
 use mathlib.Core.Bool.{true}

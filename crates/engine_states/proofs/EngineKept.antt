@@ -1,9 +1,9 @@
 -- No public call makes a state that number 12 names out of one that it doesn't: a fix and the loss of fixes (`fix-kept`, `lost-kept`), another
 -- pack (`reset-kept`), a step (`step-kept`, by `off-map-kept`, `idle-kept`, `match-kept`, `road-kept`), a delivery (`deliver-kept`, of a cache
 -- with its 96 slots). What is needed of the cache's own state is a parameter of each module. The idea: each cause of 12 is looked at by itself
--- (`Ok`), and a call changes few of the parts that it speaks of. Assumes nothing.
+-- (`Ok`), and a call changes few of the parts that it speaks of.
 use Prim.Native.Nat.{ℕ, _+_}
-use mathlib.Core.Path.{_≡_, refl, sym, ap, _∙_}
+use mathlib.Core.Path.{_≡_, refl, sym, ap, subst, _∙_}
 use mathlib.Core.Bool.{Bool, true, false, _&&_, cond, true≢false}
 use mathlib.Core.List.{List, [], _∷_}
 use native.Mathlib.Omega.{arith}
@@ -82,7 +82,7 @@ use Rattle.engine.specs.Deliver.{After, withPending, withPhase, withFailures, s
 use Rattle.engine.specs.Deliver.{loadFailed, loadedBy, partCame, fitsHeader, needCameBy, deliveredBy, delivered}
 use Rattle.engine.specs.State.{unchanged, followed, forgotten, isReady, isUnread, headerOk, sharedOk, heldOk, needOk, matchedOk, loadsNeeded}
 use Rattle.engine.specs.State.{pendingOk, placesOk, aheadOk, failuresOk, reloadLimit, engineOk}
-use Rattle.engine.specs.Steps.{opened, needBy, needStep, readyBy, startedBy, started, steppedBy, stepped}
+use Rattle.engine.specs.Steps.{opened, readyBy, startedBy, started, steppedBy, stepped}
 use Rattle.engine.specs.Work.{counted, ended, offMap, matchEndedBy, matchStep, roadEndedBy, roadStep, roadDueBy, atFixBy, atFix, workedBy}
 use Rattle.engine.specs.Work.{worked}
 use Rattle.engine.specs.declared.Changed.{Changed}
@@ -95,6 +95,8 @@ use Rattle.engine.specs.declared.Stepped.{Stepped}
 use Rattle.engine_states.proofs.KeptParts.{published-ok, Ok, apart, together, withCache, cache-ok, none-pending, off-map-ok, road-off-ok}
 use Rattle.engine_states.proofs.KeptParts.{counted-ok, rematch-ok, standing-of, standing-ok, matched-ok, match-asks-ok, road-asks-ok, needless-ok}
 use Rattle.engine_states.proofs.KeptParts.{failing-ok, failed-ok}
+use Rattle.engine.proofs.NeedLaws.{needBy, need-is, part-is}
+use Rattle.engine.proofs.TestedLaws.{need-in}
 use Rattle.engine_states.proofs.MatcherKept as Matchers
 use Rattle.engine_states.proofs.MatcherKept.{look-accepted, Standing, update-kept, update-needs}
 use Rattle.engine_states.proofs.RoadBounds.{RoadIn, predict-in}
@@ -381,7 +383,7 @@ module _ (e : Engine) (n : ℕ) (ok : engineOk e n ≡ true) where
   -- whatever it reads
   opened-ok : (p : Pending) → stateOk (withPending (e .shared .cache) p) ≡ true
       → pendingOk (withCache (e .shared) (withPending (e .shared .cache) p)) (e .follower .due .need) ≡ true
-      → engineOk (opened e p 0 0 .engine) n ≡ true
+      → engineOk (opened e p .engine) n ≡ true
   opened-ok p good fits =
       together _ n (cache-ok (e .shared) (withPending (e .shared .cache) p) (e .follower) n (apart e n ok) good refl fits)
 
@@ -419,8 +421,9 @@ module _ (aged : (c d : Cache) → Aged c d → stateOk c ≡ true → stateOk d
           (rw (ready, need) (chunk-loads (e .shared .cache) key l q))
 
       ready-by : (x : MaybeKey) → e .follower .due .need ≡ x → engineOk (readyBy x e arena .engine) n ≡ true
-      unfolding needStep
-      ready-by (MaybeKey.Key key) need = need-by (nextStep (e .shared .cache) key) key refl need
+      ready-by (MaybeKey.Key key) need =
+          subst (λ (s : Stepped). engineOk (s .engine) n ≡ true) (sym (need-is e arena key (need-in e n ok key ready need) (state-is e n ok)))
+          (need-by (nextStep (e .shared .cache) key) key refl need)
       ready-by MaybeKey.Nothing need = worked-kept aged e arena n ok ready idle
 
     started-by : (x : Phase) → e .shared .phase ≡ x → e .shared .cache .pending ≡ Pending.Nothing → engineOk (startedBy x e arena .engine) n ≡ true
@@ -659,17 +662,17 @@ module _ (opens-nothing : (c : Cache) → stateOk c ≡ true → stateOk (withPe
     part-kept : (key : TileKey) → e .shared .phase ≡ Phase.Ready → e .follower .due .need ≡ MaybeKey.Key key
         → isRead (nextStep (e .shared .cache) key) ≡ true → withdrawn (e .shared .cache .pending) ≡ Pending.Nothing
         → engineOk (partCame e arena key failure bs .engine) n ≡ true
-    unfolding partCame
     part-kept key ready need reads closed =
         let c : Cache = e .shared .cache in
         let h : Header = e .shared .header in
         let held : needOk (e .shared) (MaybeKey.Key key) ≡ true = rw need at (and-left (needOk (e .shared) (e .follower .due .need)) _ due-rest) in
         let in-grid : inGrid h key ≡ true = rw ready at held in
         let x : Loads.After = Loads.stepped c (nextStep c key) arena h key failure bs in
-        either-told (takes (nextStep c key) h key failure (length bs)) _ _ n
+        subst (λ (a : After). engineOk (a .engine) n ≡ true) (sym (part-is e arena key failure bs in-grid))
+        (either-told (takes (nextStep c key) h key failure (length bs)) _ _ n
         (λ fits. loaded-kept e n ok (x .cache) (steps c arena h key failure bs size (state-is e n ok) fits in-grid)
         (counts c arena h key failure bs) (step-closed c closed (nextStep c key) arena h key failure bs reads) (x .answer))
-        ok
+        ok)
 
     entry-came : (x : MaybeKey) (k : TileKey) → e .follower .due .need ≡ x → e .shared .cache .pending ≡ Pending.Entry k
         → engineOk (needCameBy x e arena failure bs .engine) n ≡ true

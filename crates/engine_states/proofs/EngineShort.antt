@@ -1,6 +1,6 @@
 -- What `deliver-kept` asks for beside number 12's causes, that the cache has its 96 slots, can't be left out (`short-breaks`): number 12 doesn't
 -- read how long the list of slots is, and in a shorter one the run that an entry begins is not written, so that its load has no run. In the code the
--- slots are an array of 96. The smallest such state has no slot and counts one page. Assumes nothing.
+-- slots are an array of 96. The smallest such state has no slot and counts one page.
 use Prim.Native.Nat.{ℕ}
 use mathlib.Core.Path.{_≡_, refl}
 use mathlib.Core.Bool.{true, false}

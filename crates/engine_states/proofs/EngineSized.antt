@@ -1,9 +1,9 @@
 -- No public call changes how many slots the cache has or how long the arena is: a step leaves the slots as they were (`step-slots`), a delivery
 -- keeps their 96 and the arena's length (`deliver-sized`, `deliver-arena`), and so do a fix, a loss of fixes and another pack. So what
 -- `deliver-kept` asks for holds of every engine that began with it, and a step with its delivery makes no state that number 12 names
--- (`step-from-kept`). The idea: lookups change clock and ages alone, and only a chunk is written. Assumes nothing.
+-- (`step-from-kept`). The idea: lookups change clock and ages alone, and only a chunk is written.
 use Prim.Native.Nat.{ℕ, _+_, _*_}
-use mathlib.Core.Path.{_≡_, refl, ap, _∙_}
+use mathlib.Core.Path.{_≡_, refl, sym, ap, subst, _∙_}
 use mathlib.Core.Bool.{Bool, true, false, _&&_, cond}
 use mathlib.Core.List.{List, []}
 use native.Mathlib.Omega.{arith}
@@ -59,9 +59,11 @@ use Rattle.engine.specs.declared.MaybeFix.{MaybeFix}
 use Rattle.engine.specs.declared.MaybeFix.the-variants as MaybeFix
 use Rattle.engine.specs.Calls as Calls
 use Rattle.engine.specs.Deliver.{After, withPending, sectorOf, headerFailed, headerParsed, headerCame, arrived, loadFailed, loadedBy}
-use Rattle.engine.specs.Deliver.{partCame, fitsHeader, needCameBy, deliveredBy, delivered}
-use Rattle.engine.specs.State.{forgotten, engineOk}
-use Rattle.engine.specs.Steps.{needBy, needStep, readyBy, startedBy, started, steppedBy, stepped}
+use Rattle.engine.proofs.NeedLaws.{needBy, need-is, part-cases}
+use Rattle.engine.proofs.TestedLaws.{need-in}
+use Rattle.engine.specs.Deliver.{fitsHeader, needCameBy, deliveredBy, delivered}
+use Rattle.engine.specs.State.{refused, forgotten, engineOk}
+use Rattle.engine.specs.Steps.{readyBy, startedBy, started, steppedBy, stepped}
 use Rattle.engine.specs.Work.{counted, matchEndedBy, matchStep, roadEndedBy, roadStep, roadDueBy, atFixBy, atFix, workedBy, worked}
 use Rattle.engine.specs.declared.Changed.{Changed}
 use Rattle.engine.specs.declared.Engine.{Engine}
@@ -168,26 +170,34 @@ module _ (e : Engine) (arena : List ℕ) where
   need-slots Next.Entry key = refl
   need-slots (Next.Chunk l) key = refl
 
-  ready-slots : (x : MaybeKey) → Kept (readyBy x e arena)
-  unfolding needStep worked
-  ready-slots (MaybeKey.Key key) = need-slots (nextStep (e .shared .cache) key) key
-  ready-slots MaybeKey.Nothing = work-slots (e .follower .sight .fix) (counted (e .follower))
+  -- in a state that 12 does not name
+  module _ (ok : engineOk e (length arena) ≡ true) where
+    ready-slots : (x : MaybeKey) → e .shared .phase ≡ Phase.Ready → e .follower .due .need ≡ x → Kept (readyBy x e arena)
+    unfolding worked
+    ready-slots (MaybeKey.Key key) ready need =
+        subst Kept (sym (need-is e arena key (need-in e (length arena) ok key ready need) (state-is e (length arena) ok)))
+        (need-slots (nextStep (e .shared .cache) key) key)
+    ready-slots MaybeKey.Nothing ready need = work-slots (e .follower .sight .fix) (counted (e .follower))
 
-  started-slots : (x : Phase) → Kept (startedBy x e arena)
-  started-slots Phase.Failed = refl
-  started-slots Phase.Unread = refl
-  started-slots Phase.Ready = ready-slots (e .follower .due .need)
+    started-slots : (x : Phase) → e .shared .phase ≡ x → Kept (startedBy x e arena)
+    started-slots Phase.Failed q = refl
+    started-slots Phase.Unread q = refl
+    started-slots Phase.Ready q = ready-slots (e .follower .due .need) q refl
 
-  stepped-slots : (x : Pending) → Kept (steppedBy x e arena)
-  unfolding started
-  stepped-slots Pending.Nothing = started-slots (e .shared .phase)
-  stepped-slots Pending.Header = refl
-  stepped-slots (Pending.Entry key) = refl
-  stepped-slots Pending.Chunk = refl
+    stepped-slots : (x : Pending) → Kept (steppedBy x e arena)
+    unfolding started
+    stepped-slots Pending.Nothing = started-slots (e .shared .phase) refl
+    stepped-slots Pending.Header = refl
+    stepped-slots (Pending.Entry key) = refl
+    stepped-slots Pending.Chunk = refl
 
   pub step-slots : slotsOf (Calls.step e arena .engine) ≡ slotsOf e
   unfolding Calls.step stepped
-  step-slots = either-kept (engineOk e (length arena)) _ _ (stepped-slots (e .shared .cache .pending)) refl
+  step-slots = by (engineOk e (length arena)) refl
+    where
+      by : (t : Bool) → engineOk e (length arena) ≡ t → Kept (cond t (steppedBy (e .shared .cache .pending) e arena) (refused e 12))
+      by true ok = stepped-slots ok (e .shared .cache .pending)
+      by false ok = refl
 
 pub step-sized : (e : Engine) (arena : List ℕ) → Sized e → Sized (Calls.step e arena .engine)
 step-sized e arena size = ap length (step-slots e arena) ∙ size
@@ -225,12 +235,12 @@ either-arena false a b n p q = q
 
 module _ (e : Engine) (arena : List ℕ) (failure : ℕ) (bs : List ℕ) where
   need-arena : (x : MaybeKey) → length (needCameBy x e arena failure bs .arena) ≡ length arena
-  unfolding partCame
   need-arena MaybeKey.Nothing = refl
   need-arena (MaybeKey.Key key) =
       let n = nextStep (e .shared .cache) key in
-      either-arena (takes n (e .shared .header) key failure (length bs)) _ _ (length arena)
-      (step-arena (e .shared .cache) n arena (e .shared .header) key failure bs) refl
+      subst (λ (a : After). length (a .arena) ≡ length arena) (sym (part-cases e arena key failure bs))
+      (either-arena (takes n (e .shared .header) key failure (length bs)) _ _ (length arena)
+      (either-arena (inGrid (e .shared .header) key) _ _ (length arena) (step-arena (e .shared .cache) n arena (e .shared .header) key failure bs) refl) refl)
 
   open-arena : (x : Pending) → length (deliveredBy x e arena failure bs .arena) ≡ length arena
   open-arena Pending.Nothing = refl
@@ -277,13 +287,14 @@ module _ (sizes : (c : Cache) (arena : List ℕ) (h : Header) (key : TileKey) (f
     → stateOk c ≡ true → length (Loads.stepped c (nextStep c key) arena h key failure bs .cache .pages .slots) ≡ 96)
     (e : Engine) (arena : List ℕ) (failure : ℕ) (bs : List ℕ) (size : Sized e) where
   need-sized : (x : MaybeKey) → stateOk (e .shared .cache) ≡ true → Sized (needCameBy x e arena failure bs .engine)
-  unfolding partCame
   need-sized MaybeKey.Nothing ok = size
   need-sized (MaybeKey.Key key) ok =
       let c : Cache = e .shared .cache in
       let x : Loads.After = Loads.stepped c (nextStep c key) arena (e .shared .header) key failure bs in
-      either-told (takes (nextStep c key) (e .shared .header) key failure (length bs)) _ _
-      (λ t. loaded-sized e size (x .answer) (x .cache) (sizes c arena (e .shared .header) key failure bs size ok)) size
+      subst (λ (a : After). Sized (a .engine)) (sym (part-cases e arena key failure bs))
+      (either-told (takes (nextStep c key) (e .shared .header) key failure (length bs)) _ _
+      (λ t. either-told (inGrid (e .shared .header) key) _ _
+      (λ g. loaded-sized e size (x .answer) (x .cache) (sizes c arena (e .shared .header) key failure bs size ok)) size) size)
 
   open-sized : (x : Pending) → stateOk (e .shared .cache) ≡ true → Sized (deliveredBy x e arena failure bs .engine)
   open-sized Pending.Nothing ok = size

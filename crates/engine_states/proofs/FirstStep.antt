@@ -1,4 +1,4 @@
--- The first step of a new engine asks for the header (`new-steps`): no state that 12 names, in phase Unread, with no read open. Assumes nothing.
+-- The first step of a new engine asks for the header (`new-steps`): no state that 12 names, in phase Unread, with no read open.
 use Prim.Native.Nat.{ℕ}
 use mathlib.Core.Path.{_≡_, refl, ap}
 use mathlib.Core.Bool.{Bool, cond}
@@ -13,7 +13,7 @@ use Rattle.engine.specs.declared.Stepped.{Stepped}
 use Rattle.engine.proofs.StateLaws.{new-ok}
 use Rattle.engine_states.specs.First.{FirstStep}
 
-new-opens : (arena : List ℕ) (horizon : Float) → step (new arena horizon) arena ≡ opened (new arena horizon) Pending.Header 0 512
+new-opens : (arena : List ℕ) (horizon : Float) → step (new arena horizon) arena ≡ opened (new arena horizon) Pending.Header
 unfolding new Caches.fresh step stepped started
 new-opens arena horizon =
     ap (λ (t : Bool). cond t (stepped (new arena horizon) arena) (refused (new arena horizon) 12)) (new-ok arena horizon)

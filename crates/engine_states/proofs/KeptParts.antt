@@ -1,5 +1,5 @@
 -- The causes of number 12 one by one (`Ok`), and what keeps them: another cache beside the same phase and header, and each change that a step
--- makes of a follower. The idea: each change leaves most of the parts that the causes speak of as they were. Assumes nothing.
+-- makes of a follower. The idea: each change leaves most of the parts that the causes speak of as they were.
 use Prim.Native.Nat.{ℕ, _+_, _≤_}
 use mathlib.Core.Path.{_≡_, refl}
 use mathlib.Core.Bool.{Bool, true, false, _&&_, cond}

@@ -1,6 +1,6 @@
 -- A matcher that number 12 doesn't name stays one after a match (`update-kept`), and a tile that the match needs lies in the grid
 -- (`update-needs`). The idea: each candidate kept lies in a tile of the grid, on one of its edges; the match is made of one of them, and so is a
--- challenger that is new. Assumes nothing.
+-- challenger that is new.
 use Prim.Native.Nat.{ℕ, _<_}
 use mathlib.Core.Path.{_≡_, refl, ap, _∙_}
 use mathlib.Core.Bool.{Bool, true, false, _&&_, _||_, not, cond}

@@ -48,8 +48,7 @@ use Rattle.cache.specs.declared.next.Next.{Next}
 use Rattle.cache.specs.declared.next.Next.the-variants as Next
 use Rattle.cache.specs.Loads as Loads
 use Rattle.cache.specs.Loads.{packBytes}
-use Rattle.cache.specs.declared.Request.{Request}
-use Rattle.cache.specs.declared.Request.the-variants as Request
+use Rattle.cache.specs.Calls.{loadTested}
 use Rattle.matcher.specs.declared.Current.{Current}
 use Rattle.matcher.specs.declared.Current.the-variants as Current
 use Rattle.matcher.specs.declared.Matched.{Matched}
@@ -70,7 +69,7 @@ use Rattle.engine.specs.Calls as Calls
 use Rattle.engine.specs.State.{refused, forgotten, isReady, needOk, pendingOk, reloadLimit, engineOk}
 use Rattle.engine.specs.Deliver.{After, over, arrived, headerFailed, headerParsed, headerCame, sectorOf, fitsHeader, loadFailed, loadedBy, loaded, partCame, needCameBy, deliveredBy, delivered}
 use Rattle.engine.specs.Work.{mayAsk, matchEndedBy, matchStep, roadEndedBy, roadStep, roadDueBy, inGridStep, atFixBy, atFix, workedBy, worked, counted}
-use Rattle.engine.specs.Steps.{needBy, needStep, readyBy, startedBy, started, chunkRequest, requestOf, steppedBy, stepped}
+use Rattle.engine.specs.Steps.{awaitsRead, pendingFor, needStep, readyBy, startedBy, started, chunkRequest, requestOf, steppedBy, stepped}
 use Rattle.engine.specs.declared.Changed.{Changed}
 use Rattle.engine.specs.declared.Engine.{Engine}
 use Rattle.engine.specs.declared.Phase.{Phase}
@@ -80,6 +79,7 @@ use Rattle.engine.specs.declared.Status.the-variants as Status
 use Rattle.engine.specs.declared.Stepped.{Stepped}
 use Rattle.engine.proofs.FetchLaws.{isOpen, open-repeats, Opening, opening-is-pending}
 use Rattle.engine_states.specs.Refused.{isRefused, isTaken, RefusedSame}
+use Rattle.engine.proofs.NeedLaws.{part-cases}
 use Rattle.engine_states.proofs.CacheKept.{ok-parts}
 use Rattle.engine_states.proofs.KeptParts.{apart}
 use Rattle.engine_states.proofs.EngineKept.{same-key, state-is, ready-is, isRead, open-fits}
@@ -136,16 +136,35 @@ unfolding atFix
 work-leaves MaybeFix.Nothing e arena f r = absurd (true≢false (sym r))
 work-leaves (MaybeFix.Is fix) e arena f r = fix-leaves e arena f fix (keyOf (e .shared .header) (fix .lat) (fix .lon)) r
 
-need-leaves : (x : Request) (n : Next) (e : Engine) (key : TileKey) → Leaves e (needBy x n e key)
-unfolding arrived
-need-leaves (Request.Read offset len) n e key r = absurd (true≢false (sym r))
-need-leaves (Request.Refused number) n e key r = refl
-need-leaves Request.Settled n e key r = absurd (true≢false (sym r))
+-- a tile that is settled
+settled-leaves : (p : Progress) (e : Engine) (c : Cache) → Leaves e (loadedBy p e c)
+unfolding arrived loadFailed
+settled-leaves Progress.Done e c r = absurd (true≢false (sym r))
+settled-leaves Progress.More e c r = absurd (true≢false (sym r))
+settled-leaves (Progress.Failed number) e c r =
+    either e (ltb (e .follower .failures) 7) _ _ (λ z. absurd (true≢false (sym z))) (λ z. absurd (true≢false (sym z))) r
+settled-leaves (Progress.Refused number) e c r = refl
+
+-- a fetch that is opened is never refused: a chunk is asked for only where there is a load
+opened-asks : (x : MaybeLoading) (e : Engine) (key : TileKey) → e .shared .cache .loading ≡ x → isRefused (requestOf (e .shared) (pendingFor x key)) ≡ false
+opened-asks MaybeLoading.Nothing e key q = refl
+opened-asks (MaybeLoading.Tile l) e key q = by (sameKey (l .key) key)
+  where
+    by : (t : Bool) → isRefused (requestOf (e .shared) (cond t Pending.Chunk (Pending.Entry key))) ≡ false
+    by true = rw q
+    by false = refl
+
+need-leaves : (e : Engine) (arena : List ℕ) (key : TileKey) → Leaves e (needStep e arena key)
+unfolding needStep
+need-leaves e arena key =
+    let l = Loads.told (loadTested (e .shared .cache) arena (e .shared .header) key 0 []) in
+    either e (awaitsRead (l .answer)) _ _
+    (λ r. absurd (true≢false (sym r ∙ opened-asks (e .shared .cache .loading) e key refl)))
+    (settled-leaves (l .answer) e (l .cache))
 
 ready-leaves : (m : MaybeKey) (e : Engine) (arena : List ℕ) → Leaves e (readyBy m e arena)
-unfolding needStep worked
-ready-leaves (MaybeKey.Key key) e arena =
-    need-leaves (Loads.fetched (e .shared .cache) (nextStep (e .shared .cache) key) arena (e .shared .header) key) (nextStep (e .shared .cache) key) e key
+unfolding worked
+ready-leaves (MaybeKey.Key key) e arena = need-leaves e arena key
 ready-leaves MaybeKey.Nothing e arena = work-leaves (e .follower .sight .fix) e arena (counted (e .follower))
 
 phase-leaves : (p : Phase) (e : Engine) (arena : List ℕ) → Leaves e (startedBy p e arena)
@@ -254,9 +273,10 @@ module _ (e : Engine) (arena : List ℕ) (failure : ℕ) (bs : List ℕ) where
   either-kept false x y p q = q
 
   need-kept : (x : MaybeKey) → Kept (needCameBy x e arena failure bs)
-  unfolding partCame
   need-kept MaybeKey.Nothing r = (refl, refl)
-  need-kept (MaybeKey.Key key) r = either-kept (Loads.takes n h key failure (length bs)) _ _ part (λ z. (refl, refl)) r
+  need-kept (MaybeKey.Key key) r =
+      subst Kept (sym (part-cases e arena key failure bs))
+      (either-kept (Loads.takes n h key failure (length bs)) _ _ (either-kept (inGrid h key) _ _ part (λ z. (refl, refl))) (λ z. (refl, refl))) r
     where
       h : Header
       h = e .shared .header

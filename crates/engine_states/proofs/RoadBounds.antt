@@ -2,7 +2,7 @@
 -- places (`road-lengths`), and where no lookup is stale it is not refused with 12 (`road-not-stale`). The idea: each edge that is walked lies in
 -- a tile of the grid, since a tile beside it is checked before it is looked up and every choice is of a tile looked up; a sample is counted only
 -- where it is written; and only a stale lookup ends a walk with 12. One pass shows all three (`forecast-in`), of any property of keys in the
--- grid's place. Assumes nothing.
+-- grid's place.
 use Prim.Native.Nat.{ℕ, zero, suc, _+_, _-_, _<_, _≤_}
 use mathlib.Core.Path.{_≡_, refl, subst, _∙_}
 use mathlib.Core.Bool.{Bool, true, false, _&&_, cond}
@@ -529,3 +529,16 @@ road-not-stale at never n h m horizon samples behind e =
     = forecast-in Anywhere ⊥ (λ key x. tt) (plain at) (λ keys key. never key) n (length samples) (length behind) samples behind refl refl
     h (λ row col key x. tt) m horizon [] tt in
     subst (Ends Anywhere ⊥ (length samples) (length behind)) e ends refl
+
+-- ---- the tile of each edge
+
+-- of a road from a start in the grid, after each of its edges
+pub road-grid : {S : Type 0} (rd : Reader S) (trip : Trip) (room : ℕ) (m : Matched) (leg : Leg) (here : Point) (s : S) (samples : List ℤ)
+    → inGrid (trip .header) (leg .key) ≡ true → (n : ℕ)
+    → inGrid (trip .header) (walkTo rd trip room (record { walk = walkFrom m leg here (pushed noMark samples (whole 0) (pos 0) .mark); carried = s; heights = pushed noMark samples (whole 0) (pos 0) .heights }) n .walk .way .tile) ≡ true
+unfolding walkFrom
+road-grid rd trip room m leg here s samples in-grid n =
+    let h : Header = trip .header in
+    let filled = pushed-fills (length samples) noMark samples (whole 0) (pos 0) (record { most = omega arith; long = refl }) in
+    walk-in (InGrid h) Unit (grid-origin h) rd (λ t key e. tt) trip (λ row col key e. checked-in-grid h row col e) room (length samples) _
+    (record { grid = in-grid; need = tt; filled = filled }) n .grid

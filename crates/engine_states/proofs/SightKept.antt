@@ -1,6 +1,5 @@
 -- A fix that is a point keeps the sight within what number 12 allows (`seen-kept`): at most sixteen places, each a point, and a heading between
 -- -360 and 360. The idea: every place afterwards is one from before or the new one, and a bearing is rounded from at most 360 degrees.
--- Assumes nothing.
 use Prim.Native.Nat.{ℕ, zero, suc, _+_, _-_, _*_, _<_, _≤_}
 use mathlib.Core.Path.{_≡_, refl, sym, ap}
 use mathlib.Core.Bool.{Bool, true, false, _&&_, _||_, not, cond, true≢false}

@@ -1,5 +1,5 @@
 -- The first step of a new engine, over any arena and with any horizon, asks for the header, and has that read open from then on, where none was. So no
--- code that meets the contracts of `new` and `step` is always Working, always NoPack, or hands its state back: document 01, "These fail". Assumes nothing.
+-- code that meets the contracts of `new` and `step` is always Working, always NoPack, or hands its state back: document 01, "These fail".
 use Prim.Native.Nat.{ℕ}
 use mathlib.Core.Path.{_≡_}
 use mathlib.Core.List.{List}

@@ -1,6 +1,6 @@
 -- A point projected onto a segment no further off than some distance has a fraction within 0 and 1 (`fraction-within`). The idea: a fraction is
 -- held to 0 to 1 unless it is not-a-number; then the distance is not-a-number too, and that is at most nothing. All of it is about the
--- definitions of `num` and `geo` alone. Assumes nothing.
+-- definitions of `num` and `geo` alone.
 use Prim.Native.Nat.{ℕ, _+_, _*_, _≤_}
 use mathlib.Core.Path.{_≡_, refl, sym, ap, _∙_}
 use mathlib.Core.Bool.{Bool, true, false, _&&_, _||_, cond, true≢false}
@@ -11,6 +11,7 @@ use borrow.Author.Tests.{ltb-false, eq-eqb}
 use lib.Ieee.{Float, nan, inf, fin, binary32, up, down, isNan, below, level, lt, eq, le, add, sub, mul, div, neg, ofInt}
 use Rattle.num.specs.Order.{clamp}
 use Rattle.num.specs.Root.{squareRoot}
+use Rattle.num.proofs.PartLaws.{IsPart}
 use Rattle.geo.specs.Flat.{whole, lengthOf, fractionOf, projectedAt, projectOf}
 use Rattle.geo.specs.declared.Metres.{Metres}
 
@@ -127,6 +128,14 @@ either-fraction p a dx dy = by (lt (whole 0) len2)
     by : (t : Bool) → (cond t (clamp part (whole 0) (whole 1)) (whole 0) ≡ nan) ⊎ IsFraction (cond t (clamp part (whole 0) (whole 1)) (whole 0))
     by true = clamped part
     by false = inr zero-fraction
+
+-- a projection's fraction, and what a clamp to 0 to 1 leaves, are a part or not-a-number
+pub clamp-part : (x : Float) → IsPart (clamp x (whole 0) (whole 1))
+clamp-part x = clamped x
+
+pub project-part : (p a b : Metres) → IsPart (projectOf p a b .fraction)
+unfolding projectOf
+project-part p a b = either-fraction p a (sub binary32 (b .east) (a .east)) (sub binary32 (b .north) (a .north))
 
 pub fraction-within : (p a b : Metres) (r : Float) → le (projectOf p a b .distance) r ≡ true → IsFraction (projectOf p a b .fraction)
 unfolding projectOf

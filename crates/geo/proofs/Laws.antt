@@ -1,5 +1,4 @@
 -- Laws of points, for callers to cite without unfolding a definition: in a grid within its rules nothing is held back, and a point that is there is answered.
--- Assumes nothing.
 use Prim.Native.Nat.{ℕ, _+_, _*_, _≤_}
 use mathlib.Core.Path.{_≡_}
 use mathlib.Core.Bool.{true}

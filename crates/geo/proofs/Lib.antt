@@ -3,3 +3,4 @@ pub mod Literals
 pub mod Laws
 pub mod Settled
 pub mod FractionLaws
+pub mod PartWay

@@ -1,4 +1,4 @@
--- The figures that the code writes as single floats, by the whole numbers that they are. Each is computed. Assumes nothing.
+-- The figures that the code writes as single floats, by the whole numbers that they are. Each is computed.
 use mathlib.Core.Path.{_≡_, refl}
 use lib.Ieee.{binary32, ofBits, ofInt}
 use Rattle.geo.specs.Flat.{whole}

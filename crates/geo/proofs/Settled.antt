@@ -1,6 +1,5 @@
 -- A turn between two headings lies above -180 and at most at 180, so two turns of each loop are enough.
 -- The idea: rounding keeps a value within two whole numbers that it lies within, since single floats hold those. So each step's bounds are those of the exact sum.
--- Assumes nothing.
 use Prim.Native.Nat.{ℕ, zero, suc, _+_, _-_, _*_, _^_, _≤_, _<_}
 use mathlib.Core.Path.{_≡_, refl, sym, ap, _∙_}
 use mathlib.Core.Bool.{Bool, true, false, _&&_, _||_, cond, true≢false}

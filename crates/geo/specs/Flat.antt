@@ -1,5 +1,4 @@
 -- Flat-earth geometry in metres: `geo.rs`, metres_from, length, turn, project. Each operation is one of IEEE 754 on single floats, in the Rust's order, rounded once.
--- Assumes nothing.
 use Prim.Native.Nat.{ℕ}
 use mathlib.Core.Bool.{Bool, true, false, _&&_, cond}
 use lib.IntN.{ℤ, pos, _-ℤ_}

@@ -1,4 +1,4 @@
--- Points in whole millionths of a degree, exactly: `geo.rs`, Point::of, z_dm and edge_point. No float stands here. Assumes nothing.
+-- Points in whole millionths of a degree, exactly: `geo.rs`, Point::of, z_dm and edge_point. No float stands here.
 use Prim.Native.Nat.{ℕ, _*_}
 use mathlib.Core.Bool.{_&&_, cond}
 use mathlib.Core.List.{List}

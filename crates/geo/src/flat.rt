@@ -38,7 +38,7 @@ pub fn point(header: Header, key: TileKey, node: Node) -> Point
 pub fn z_dm(node: Node) -> i32
     ensures { λ r. ⌜ r ≡ Points.zDm node ⌝ }
 {
-    (node.z as i32) * 2 - 5000
+    (node.z as i32) * tile::Z_STEP_DM - tile::Z_OFFSET_DM
 }
 
 // Metres east and north of `origin`. The differences are taken in 64 bits, so that any two points have them.
@@ -49,7 +49,7 @@ pub fn metres(p: Point, origin: Point, lon_um: u32) -> Metres
     let north = num::convert::f32_of_i64((p.lat as i64) - (origin.lat as i64));
     Metres {
         east: east * num::convert::f32_of_u32(lon_um) * 0.000001,
-        north: north * 111195.0 * 0.000001,
+        north: north * crate::LAT_UM * 0.000001,
     }
 }
 

@@ -1,5 +1,5 @@
 -- Two looks that agree give the same match where it finishes at the first (`update-agrees`). The idea: a match finishes only where every lookup
--- was ready or missing, so that the second look answers the same at each of them. Assumes nothing.
+-- was ready or missing, so that the second look answers the same at each of them.
 use Prim.Native.Nat.{ℕ}
 use mathlib.Core.Path.{_≡_, refl, sym}
 use mathlib.Core.Bool.{true, true≢false}

@@ -1,5 +1,5 @@
 -- The candidate that the match goes to is one of those kept (`chosen-kept`): what holds of all of them holds of it. The idea: the cheapest
--- and the first on the matched edge are found below the count of those kept, and every choice is between such. Assumes nothing.
+-- and the first on the matched edge are found below the count of those kept, and every choice is between such.
 use Prim.Native.Nat.{ℕ, _<_}
 use mathlib.Core.Path.{_≡_, refl}
 use mathlib.Core.Bool.{Bool, true, false, _&&_, _||_, not, cond}

@@ -1,6 +1,6 @@
 -- The code's loop over the tiles around a fix is the run over the cache's look: where it starts (`gather-start`), and one tile more
 -- (`gather-turn`). The idea: the lookups so far changed clock and ages alone, so that `get` in the cache that they left answers as the look at
--- the cache given. Assumes nothing.
+-- the cache given.
 use Prim.Native.Nat.{ℕ, _+_, _*_}
 use mathlib.Core.Path.{_≡_, refl, ap, _∙_}
 use mathlib.Core.Bool.{Bool, true, false}

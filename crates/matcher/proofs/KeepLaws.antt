@@ -1,5 +1,5 @@
 -- The candidates kept stay as many places, of which at most eight are taken: inserting either takes a free place or changes one, and a
--- search inserts alone. A place that is there reads the same whatever stands past the last one. Assumes nothing.
+-- search inserts alone. A place that is there reads the same whatever stands past the last one.
 use Prim.Native.Nat.{ℕ, zero, suc, _+_, _<_, _≤_}
 use mathlib.Core.Path.{_≡_, refl, _∙_}
 use mathlib.Core.Bool.{Bool, true, false, cond}

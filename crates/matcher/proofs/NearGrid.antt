@@ -1,5 +1,5 @@
 -- The keys around a fix lie in the grid (`near-in-grid`). The idea: a key is added only where `checkedOf` answers it, and that answers only keys
--- of the grid. Assumes nothing.
+-- of the grid.
 use Prim.Native.Nat.{ℕ, zero, suc, _+_, _<_, _≤_}
 use mathlib.Core.Path.{_≡_, refl}
 use mathlib.Core.Bool.{Bool, true, false, cond}

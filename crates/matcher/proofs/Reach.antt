@@ -1,5 +1,5 @@
 -- How far a search reaches over a tile's boundary, in whole micro-degrees of latitude: the Rust's `(RADIUS_M / (LAT_UM * 1e-6)) as i32`,
--- computed. Assumes nothing.
+-- computed.
 use mathlib.Core.Path.{_≡_, refl}
 use lib.IntN.{pos}
 use lib.Ieee.{binary32, span, climb, size, odd, units, round, mul, div, ofInt, toSigned, ofFields, ofBits}

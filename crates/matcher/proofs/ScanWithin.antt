@@ -1,6 +1,6 @@
 -- Every candidate that a tile's search keeps lies within the tile (`candidate-within`), so that what holds of all matches within it holds of all
 -- that are kept (`search-all`). The idea: a segment is taken only below their count and in reach, and a candidate enters the eight by `insert`
--- alone. Assumes nothing.
+-- alone.
 use Prim.Native.Nat.{ℕ, _+_, _<_, _≤_}
 use mathlib.Core.Path.{_≡_, refl, _∙_}
 use mathlib.Core.Bool.{Bool, true, false, cond}

@@ -1,5 +1,4 @@
 -- The figures that the code writes as single floats, by the whole numbers that they are; 0, 1 and 180 stand in crate geo. Each is computed.
--- Assumes nothing.
 use mathlib.Core.Path.{_≡_, refl}
 use lib.Ieee.{binary32, ofBits, ofInt}
 use Rattle.geo.specs.Flat.{whole}

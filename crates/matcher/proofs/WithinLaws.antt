@@ -1,5 +1,5 @@
 -- A match found lies within a tile that was looked up, in the grid; or it is the one that was there before (`update-within`). The idea: whatever
--- a tile's search keeps lies within the tile, the match is made of one of those, and a miss makes none. Assumes nothing.
+-- a tile's search keeps lies within the tile, the match is made of one of those, and a miss makes none.
 use Prim.Native.Nat.{ℕ, _<_}
 use mathlib.Core.Path.{_≡_, refl, ap, subst, _∙_}
 use mathlib.Core.Bool.{Bool, true, false, cond}

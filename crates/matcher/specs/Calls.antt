@@ -1,5 +1,5 @@
 -- The public functions, each with its refusals: document 01, "Refused". 12, then 8, then for each tile around the fix the late 12 and 5, which
--- is the answer Need with the key. Assumes nothing.
+-- is the answer Need with the key.
 use Prim.Native.Nat.{ℕ}
 use mathlib.Core.Bool.{_&&_, cond}
 use mathlib.Core.List.{List}
@@ -42,8 +42,10 @@ currentOf (Current.Is m) = CurrentRead.Is m
 unfoldable pub current : Matcher → CurrentRead
 current m = cond (countsOk m) (currentOf (m .current)) (CurrentRead.Refused 12)
 
+-- `update` past number 12's test
+abbrev pub updateTested : Matcher → Cache → List ℕ → Header → Point → Heading → Updated
+updateTested m c arena h fix heading =
+    cond (isPoint (fix .lat) (fix .lon) && headingOk heading) (updated m c arena h fix heading) (refused m c 8)
+
 unfoldable pub update : Matcher → Cache → List ℕ → Header → Point → Heading → Updated
-update m c arena h fix heading =
-    cond (callOk m c h (length arena))
-    (cond (isPoint (fix .lat) (fix .lon) && headingOk heading) (updated m c arena h fix heading) (refused m c 8))
-    (refused m c 12)
+update m c arena h fix heading = cond (callOk m c h (length arena)) (updateTested m c arena h fix heading) (refused m c 12)

@@ -1,4 +1,4 @@
--- Which candidate the match goes to: `matcher.rs`, `update`, from the cheapest on. Assumes nothing.
+-- Which candidate the match goes to: `matcher.rs`, `update`, from the cheapest on.
 use Prim.Native.Nat.{ℕ, _+_}
 use mathlib.Core.Bool.{Bool, true, false, _&&_, _||_, not, cond}
 use lib.Dec.{eqb, ltb}

@@ -1,6 +1,6 @@
 -- A match over a lookup: `matcher.rs`, `update`. The tiles around the fix are looked up in order; each that is found is searched; one that is
 -- not loaded ends the match with its key, and one that no longer passes with 12. `updateOver` knows no cache: the direct engine shares it.
--- `updated` is it at the cache's look, with what the lookups did to clock and ages. Assumes nothing.
+-- `updated` is it at the cache's look, with what the lookups did to clock and ages.
 use Prim.Native.Nat.{ℕ, _+_, _*_}
 use mathlib.Core.Bool.{Bool, cond}
 use mathlib.Core.List.{List, [], _∷_, _++_}

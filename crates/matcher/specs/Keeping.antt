@@ -1,5 +1,5 @@
 -- The candidates kept, at most eight: `matcher.rs`, `insert`. Document 01: "Once eight are kept, a candidate as dear as the worst of them is
--- dropped"; the worst is the last of the dearest by `total_cmp`. Assumes nothing.
+-- dropped"; the worst is the last of the dearest by `total_cmp`.
 use Prim.Native.Nat.{ℕ, _+_}
 use mathlib.Core.Bool.{Bool, true, false, cond}
 use mathlib.Core.List.{List}

@@ -12,3 +12,5 @@ pub mod State
 pub mod Gather
 pub mod Calls
 pub mod Relied
+-- The number of each answer.
+pub mod Numbers

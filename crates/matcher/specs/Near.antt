@@ -1,4 +1,4 @@
--- The tiles that a search around a fix needs: `matcher.rs`, `nearby`. Assumes nothing.
+-- The tiles that a search around a fix needs: `matcher.rs`, `nearby`.
 use Prim.Native.Nat.{ℕ, _+_}
 use mathlib.Core.Bool.{Bool, cond}
 use mathlib.Core.List.{List}

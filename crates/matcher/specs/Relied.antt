@@ -1,4 +1,4 @@
--- What is claimed of a match over a lookup. Assumes nothing.
+-- What is claimed of a match over a lookup.
 use Prim.Native.Nat.{ℕ}
 use mathlib.Core.Path.{_≡_}
 use mathlib.Core.Bool.{Bool, true, false}

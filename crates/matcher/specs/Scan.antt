@@ -1,5 +1,5 @@
 -- The segment of an edge that is closest to a fix, and the way along the edge to it: `matcher.rs`, `search`, the loops over an edge's points.
--- Each float operation is rounded once, in the Rust's order. Assumes nothing.
+-- Each float operation is rounded once, in the Rust's order.
 use Prim.Native.Nat.{ℕ, _+_}
 use mathlib.Core.Bool.{Bool, true, _&&_, _||_, cond}
 use mathlib.Core.List.{List}

@@ -1,5 +1,5 @@
 -- What an edge in reach of the fix costs, and the candidate that it makes: `matcher.rs`, `search`, after the scan of its points. Each float
--- operation is rounded once, in the Rust's order. Assumes nothing.
+-- operation is rounded once, in the Rust's order.
 use Prim.Native.Nat.{ℕ, _+_}
 use mathlib.Core.Bool.{Bool, true, false, _&&_, _||_, not, cond}
 use mathlib.Core.List.{List}

@@ -1,5 +1,5 @@
 -- The match that is made of the candidate chosen, or a miss: `matcher.rs`, `update`, its confidence, direction and ridden metres. Each float
--- operation is rounded once, in the Rust's order. Assumes nothing.
+-- operation is rounded once, in the Rust's order.
 use Prim.Native.Nat.{ℕ, _+_}
 use mathlib.Core.Bool.{Bool, true, false, _&&_, _||_, not, cond}
 use lib.Dec.{ltb}

@@ -1,5 +1,5 @@
 -- Number 12 for a matcher (document 01, "Refused": a challenger above 1, a matcher's edge past its tile's count, a matched key outside the
--- grid), beside the cache's causes; and the headings that number 8 refuses. Assumes nothing.
+-- grid), beside the cache's causes; and the headings that number 8 refuses.
 use Prim.Native.Nat.{ℕ}
 use mathlib.Core.Bool.{Bool, true, _&&_}
 use lib.Dec.{ltb, leb}

@@ -1,4 +1,4 @@
--- The candidates of a tile: `matcher.rs`, `search`. Assumes nothing.
+-- The candidates of a tile: `matcher.rs`, `search`.
 use Prim.Native.Nat.{ℕ}
 use mathlib.Core.List.{List}
 use Rattle.tile.specs.Layout as Layout

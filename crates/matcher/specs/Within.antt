@@ -1,5 +1,5 @@
 -- What the caller of a match may rely on: the match lies within the tile that it was found in, so that number 10 never refuses it as a start
--- (document 01: "start's edge or segment outside the tile, fraction outside 0 to 1 or not a number, height beyond ±1,000,000"). Assumes nothing.
+-- (document 01: "start's edge or segment outside the tile, fraction outside 0 to 1 or not a number, height beyond ±1,000,000").
 use Prim.Native.Nat.{ℕ, _<_, _≤_}
 use mathlib.Core.Path.{_≡_}
 use mathlib.Core.Bool.{true}

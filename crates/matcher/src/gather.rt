@@ -17,6 +17,7 @@ use pack::TileKey;
 ghost use mathlib.Core.Path.{_≡_};
 ghost use Prim.Native.Nat.{_≤_, _+_, _*_};
 ghost use lib.ListN.{length};
+ghost use Rattle.matcher.specs.Calls as Calls;
 ghost use Rattle.matcher.specs.Gather as Gather;
 
 // How the lookups ended: all done; a tile that is not loaded; a ready run that no longer passes.
@@ -145,8 +146,8 @@ fn finished(m: Matcher, g: Gathered, heading: Heading) -> Updated
     }
 }
 
-// A match in a state that has been tested, of a point and a heading that have passed.
-pub fn updated(
+// A match of a point and a heading that have passed.
+fn match_around(
     m: Matcher,
     c: Cache,
     arena: &[u8],
@@ -178,4 +179,24 @@ pub fn updated(
         }
         Ending::Stale => crate::state::refused(m, c, 12),
     }
+}
+
+// `update` past number 12's test, for a caller that has made it: 8 for the point or the heading.
+pub fn updated(
+    m: Matcher,
+    c: Cache,
+    arena: &[u8],
+    header: Header,
+    fix: Point,
+    heading: Heading,
+) -> Updated
+    ensures { λ r. ⌜ r ≡ Calls.updateTested m c (now (arena .entry)) header fix heading ⌝ }
+{
+    if !pack::grid::is_point(fix.lat, fix.lon) {
+        return crate::state::refused(m, c, 8);
+    }
+    if !crate::state::heading_ok(heading) {
+        return crate::state::refused(m, c, 8);
+    }
+    match_around(m, c, arena, header, fix, heading)
 }

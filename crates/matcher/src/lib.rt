@@ -251,12 +251,6 @@ impl Matcher {
         if !state::call_ok(self, cache, header, arena.len()) {
             return state::refused(self, cache, 12);
         }
-        if !pack::grid::is_point(fix.lat, fix.lon) {
-            return state::refused(self, cache, 8);
-        }
-        if !state::heading_ok(heading) {
-            return state::refused(self, cache, 8);
-        }
         gather::updated(self, cache, arena, header, fix, heading)
     }
 }

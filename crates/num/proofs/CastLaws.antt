@@ -1,6 +1,6 @@
 -- Laws of the casts, those of a float for any width. A float past an end of the range is cast to that end (`signed-above`, `signed-below`, `unsigned-above`, `unsigned-below`), and one that no test places is cast to 0 (`signed-none`).
 -- A cast to fewer bits is the cast to more, held to the smaller range (`signed-held`, `unsigned-held`; of an i64 that the code read, `signed-narrowed`, `unsigned-narrowed`).
--- Then whole numbers by their sign (`as-pos`, `as-neg`), the complement -1 - z (`flip-neg`, `flip-pos`), and the size of `lowBits`. Assumes nothing.
+-- Then whole numbers by their sign (`as-pos`, `as-neg`), the complement -1 - z (`flip-neg`, `flip-pos`), and the size of `lowBits`.
 use Prim.Native.Nat.{ℕ, zero, suc, _+_, _-_, _*_, _/_, _^_, _<_, _≤_, min}
 use mathlib.Core.Path.{_≡_, refl, sym, ap, _∙_}
 use mathlib.Core.Bool.{Bool, true, false, cond, _||_, true≢false}

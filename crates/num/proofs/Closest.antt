@@ -1,5 +1,5 @@
 -- A whole number without its low binary digits, rounded to nearest, ties to even: `closest` of `lib.Ieee.Nearest` by a power of two.
--- One digit more than is kept tells the halves apart, and what lies below it a tie. Assumes nothing.
+-- One digit more than is kept tells the halves apart, and what lies below it a tie.
 use Prim.Native.Nat.{ℕ, zero, suc, _+_, _*_, _/_, _%_, _^_, _≤_, _<_, compare, Ordering·lt, Ordering·eq, Ordering·gt, compare·zero-zero, compare·zero-suc, compare·suc-zero, compare·suc-suc}
 use mathlib.Core.Path.{_≡_, sym, ap, ap₂, _∙_}
 use native.Mathlib.Nat.{div-eq-of-lt, mod-eq-of-lt, mod-lt, pow-suc}

@@ -1,5 +1,5 @@
 -- A loop over the numbers below a bound: its start and its turn, what every step keeps, and when two loops agree. The idea: induction on the
--- bound. Assumes nothing.
+-- bound.
 use Prim.Native.Nat.{ℕ, zero, suc, _+_, _<_}
 use mathlib.Core.Path.{_≡_, refl}
 use native.Mathlib.Numerals.{add-one}

@@ -13,3 +13,5 @@ pub mod RootRounded
 pub mod RootNearest
 -- a loop by index
 pub mod FoldLaws
+-- a part of a float, from none of it to all of it
+pub mod PartLaws

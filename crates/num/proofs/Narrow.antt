@@ -1,5 +1,5 @@
 -- `narrow`, a double as a single float, from the double's bit pattern: by its two fields the double is a whole number times a power of two of the smallest one,
--- and `nearestTo` rounds that. The sign goes through. Assumes nothing.
+-- and `nearestTo` rounds that. The sign goes through.
 use Prim.Native.Nat.{ℕ, zero, suc, _+_, _-_, _*_, _/_, _%_, _^_, _≤_, _<_}
 use mathlib.Core.Path.{_≡_, refl, sym, ap, ap₂, _∙_}
 use mathlib.Core.Bool.{Bool, true, false, not, cond}

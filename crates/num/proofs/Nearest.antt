@@ -1,5 +1,5 @@
 -- `nearestTo n i`, the single float nearest to n * 2 ^ i / 2 ^ 1074, from n's 64 leading digits: m = n * 2 ^ z, where z is the count of n's leading zeros, and
--- t = 64 - z + i, the number of digits of n * 2 ^ i. Of these the float keeps 24 and drops t - 949, or keeps fewer where its exponent is the least. Assumes nothing.
+-- t = 64 - z + i, the number of digits of n * 2 ^ i. Of these the float keeps 24 and drops t - 949, or keeps fewer where its exponent is the least.
 use Prim.Native.Nat.{ℕ, zero, suc, _+_, _-_, _*_, _/_, _^_, _≤_, _<_}
 use mathlib.Core.Path.{_≡_, refl, sym, ap, ap₂, _∙_}
 use mathlib.Core.Bool.{Bool, true, false, not, cond}

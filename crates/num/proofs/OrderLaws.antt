@@ -1,6 +1,6 @@
 -- Laws of `order`'s definitions: not-a-number is what differs from itself (`differs`, `unequal`, `is-nan`), and two of the bit patterns, in either format:
 -- a value is negative where its pattern reaches the sign's weight (`sign-bit`), and finite where the rest of the pattern is below an infinity's (`finite-bits`).
--- Both hold of every value of the format, not-a-number too. Last, what `fabsf` is by the sign (`fabsf-negated`, `fabsf-kept`). Assumes nothing.
+-- Both hold of every value of the format, not-a-number too. Last, what `fabsf` is by the sign (`fabsf-negated`, `fabsf-kept`).
 use Prim.Native.Nat.{ℕ, zero, suc, _+_, _-_, _*_, _/_, _%_, _<_, _≤_}
 use mathlib.Core.Path.{_≡_, refl, sym, ap, subst, _∙_}
 use mathlib.Core.Bool.{Bool, true, false, not, cond, true≢false}

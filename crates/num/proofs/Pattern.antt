@@ -1,5 +1,5 @@
 -- The bit patterns of single floats that are not negative: k * 2 ^ 23 + q is the pattern of q * 2 ^ k of the smallest values, also where the
--- rounding up to q = 2 ^ 24 carries into the exponent's field, and at the end of the range into the infinity's pattern. Assumes nothing.
+-- rounding up to q = 2 ^ 24 carries into the exponent's field, and at the end of the range into the infinity's pattern.
 use Prim.Native.Nat.{ℕ, suc, _+_, _-_, _*_, _/_, _%_, _^_, _≤_, _<_}
 use mathlib.Core.Path.{_≡_, refl, sym, ap, _∙_, subst}
 use mathlib.Core.Logic.{inl, inr}

@@ -1,4 +1,4 @@
--- The rounding of the root is to nearest: the root lies within half a unit of what is taken, in squares of whole numbers. Assumes nothing.
+-- The rounding of the root is to nearest: the root lies within half a unit of what is taken, in squares of whole numbers.
 use Prim.Native.Nat.{ℕ, zero, suc, _+_, _-_, _*_, _/_, _%_, _^_, _≤_, _<_, compare, Ordering, Ordering·lt, Ordering·eq, Ordering·gt}
 use mathlib.Core.Path.{_≡_, refl, sym, ap, subst}
 use mathlib.Core.Bool.{false}

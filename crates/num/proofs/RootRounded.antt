@@ -1,5 +1,5 @@
 -- The rounding of a float's root: of a number that is scaled to 49 or 50 digits the whole root has 25, and the last of them says which way to round.
--- With it the root by the fields of a bit pattern, and of what is no positive finite value. Assumes nothing.
+-- With it the root by the fields of a bit pattern, and of what is no positive finite value.
 use Prim.Native.Nat.{ℕ, zero, suc, _+_, _-_, _*_, _/_, _%_, _^_, _≤_, _<_, compare}
 use mathlib.Core.Path.{_≡_, refl, sym, ap, ap₂, _∙_, subst}
 use mathlib.Core.Bool.{Bool, true, false, cond, true≢false}

@@ -1,5 +1,4 @@
 -- Casts of whole numbers that keep low bits. Floats to whole numbers are `lib.Ieee`'s `toSigned` and `toUnsigned`: toward zero, held to the range, 0 for not-a-number.
--- Assumes nothing.
 use Prim.Native.Nat.{ℕ, _-_, _%_}
 use mathlib.Core.Bool.{cond}
 use lib.Dec.{ltb}

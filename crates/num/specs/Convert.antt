@@ -1,5 +1,4 @@
 -- Conversions to single floats, by the kit's account of IEEE 754. Whole numbers are `lib.Ieee`'s `ofInt`, clause 5.4.1, convertFromInt, to nearest with ties to even.
--- Assumes nothing.
 use Prim.Native.Nat.{ℕ, _*_, _^_}
 use mathlib.Core.Bool.{false}
 use lib.Ieee.{Float, nan, inf, fin, binary32, up, down, round}

@@ -1,4 +1,4 @@
--- A loop over the numbers below a bound: each step takes what is so far and the number. Assumes nothing.
+-- A loop over the numbers below a bound: each step takes what is so far and the number.
 use Prim.Native.Nat.{ℕ, zero, suc}
 
 unfoldable pub upTo : {A : Type 0} → (A → ℕ → A) → A → ℕ → A

@@ -1,6 +1,5 @@
 -- Rust's `min`, `max`, `clamp`, `total_cmp`, sign and finiteness of floats, and libm's `fabsf`.
 -- Where document 01 leaves something open it is fixed here: of two zeros, `min` and `max` give the first argument; not-a-number has no sign, and comes last in `totalCmp`.
--- Assumes nothing.
 use mathlib.Core.Bool.{Bool, true, false, cond}
 use lib.Ieee.{Float, nan, inf, fin, isNan, lt, eq}
 use Rattle.num.specs.declared.order.Ordering.{Ordering}

@@ -53,10 +53,13 @@ pub fn nearest(n: u64, i: u32) -> f32
     f32::from_bits(nearest_bits(n, i as u64))
 }
 
-// Rust's `n as f32`.
+// Rust's `n as f32`. To 2^24 the language's own cast loses nothing, and is the only one that it has.
 pub fn f32_of_u32(n: u32) -> f32
     ensures { λ r. ⌜ r ≡ ofInt binary32 (pos n) ⌝ }
 {
+    if n <= 16777216 {
+        return n as f32;
+    }
     nearest(n as u64, 1074)
 }
 
@@ -64,17 +67,33 @@ pub fn f32_of_u32(n: u32) -> f32
 pub fn f32_of_usize(n: usize) -> f32
     ensures { λ r. ⌜ r ≡ ofInt binary32 (pos n) ⌝ }
 {
+    if n <= 16777216 {
+        return n as f32;
+    }
     nearest(n as u64, 1074)
 }
 
-// Rust's `z as f32`. -z does not fit at the least number, so z + 1 is negated and the one added back.
-pub fn f32_of_i64(z: i64) -> f32
+// A large number rounded. -z does not fit at the least number, so z + 1 is negated and the one added back.
+fn rounded_i64(z: i64) -> f32
     ensures { λ r. ⌜ r ≡ ofInt binary32 z ⌝ }
 {
     if z >= 0 {
         return nearest(z as u64, 1074);
     }
     -nearest(((0 - (z + 1)) as u64) + 1, 1074)
+}
+
+// Rust's `z as f32`.
+pub fn f32_of_i64(z: i64) -> f32
+    ensures { λ r. ⌜ r ≡ ofInt binary32 z ⌝ }
+{
+    if z < -16777216 {
+        return rounded_i64(z);
+    }
+    if 16777216 < z {
+        return rounded_i64(z);
+    }
+    z as f32
 }
 
 // Rust's `z as f32`.

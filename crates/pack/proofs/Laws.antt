@@ -1,6 +1,6 @@
 -- Laws of the pack's definitions, for callers to cite without unfolding one: the readers past the end and their size; a list of clauses
 -- by its index; what a header within its rules tells; its tiles' corners and directory entries; keys in the grid; an accepted sector;
--- a located tile; a range of a lent pack. Assumes nothing.
+-- a located tile; a range of a lent pack.
 use Prim.Native.Nat.{ℕ, zero, suc, _+_, _*_, _^_, _<_, _≤_}
 use mathlib.Core.Path.{_≡_, refl, sym}
 use mathlib.Core.Bool.{Bool, true, false, _&&_, cond, true≢false}

@@ -1,5 +1,5 @@
 -- Products and sums that 64 bits hold. An i32 plus the product of a u16 and a u32: the product is small, the sum fits, and what the code
--- reads back is the sum; a product of two u16 is below 2 ^ 32. Assumes nothing.
+-- reads back is the sum; a product of two u16 is below 2 ^ 32.
 use Prim.Native.Nat.{ℕ, _*_, _<_, _≤_, _^_}
 use mathlib.Core.Path.{_≡_}
 use native.Mathlib.Nat.{mul-le-mul}

@@ -1,5 +1,5 @@
 -- Signed numbers for omega, which reads no ℤ: z is `up z` less `dn z`, two numbers of ℕ of which one is 0. Each operation and
--- each test is a linear fact of those, which goes into omega's list; `fits` and `same` turn omega's answer back. Assumes nothing.
+-- each test is a linear fact of those, which goes into omega's list; `fits` and `same` turn omega's answer back.
 use Prim.Native.Nat.{ℕ, zero, suc, _+_, _-_, _*_, _/_, _^_, _<_, _≤_}
 use mathlib.Core.Path.{_≡_, refl, sym, ap, _∙_}
 use mathlib.Core.Bool.{Bool, true, false, cond, true≢false}

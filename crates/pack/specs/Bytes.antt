@@ -1,4 +1,4 @@
--- Numbers in a list of bytes: document 01, "All numbers little-endian". A byte past the end counts as 0, so every reader is total. Assumes nothing.
+-- Numbers in a list of bytes: document 01, "All numbers little-endian". A byte past the end counts as 0, so every reader is total.
 use Prim.Native.Nat.{ℕ, _+_, _-_, _*_, _^_}
 use mathlib.Core.Bool.{cond}
 use mathlib.Core.List.{List}

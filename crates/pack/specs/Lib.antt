@@ -3,3 +3,5 @@ pub mod Bytes
 pub mod Offsets
 pub mod Sector
 pub mod Grid
+-- The number of each answer.
+pub mod Numbers

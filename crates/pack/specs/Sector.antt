@@ -1,5 +1,5 @@
 -- The pack's header: document 01, "pack.rs". A sector of 512 bytes, its fields by their offsets, and the rules as a list of named clauses.
--- The clauses over a parsed header are also what number 12 tests of a header that is given. Assumes nothing.
+-- The clauses over a parsed header are also what number 12 tests of a header that is given.
 use Prim.Native.Nat.{ℕ, _+_, _*_}
 use mathlib.Core.Bool.{Bool, true, false, _&&_, cond}
 use mathlib.Core.List.{List, [], _∷_}

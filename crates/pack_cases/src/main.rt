@@ -51,17 +51,17 @@ fn number(mark: u8, n: u32) -> [u8; 4] {
 }
 
 // A pack into the first `room` bytes of the output.
-fn show(grid: Grid, tiles: &[u8], lengths: &[u32], room: usize) {
+fn show(g: Grid, tiles: &[u8], lengths: &[u32], room: usize) {
     let mut out = [b'.'; 640];
     if 640 < room {
         return;
     }
     let answer = told(writer::pack(
-        grid.south,
-        grid.west,
-        grid.size,
-        grid.rows,
-        grid.cols,
+        g.south,
+        g.west,
+        g.size,
+        g.rows,
+        g.cols,
         tiles,
         lengths,
         &mut out[..room],
@@ -73,644 +73,66 @@ fn show(grid: Grid, tiles: &[u8], lengths: &[u32], room: usize) {
     io::write_all(libc::STDOUT_FILENO, b"\n");
 }
 
-fn main() {
-    let none: [u8; 0] = [];
-    let no_lengths: [u32; 0] = [];
-    let tiles_1 = [
-        86u8,
-        84,
-        1,
-        0,
-        0,
-        0,
-        1,
-        0,
-        0,
-        0,
-        0,
-        0,
-        0,
-        0,
-        0,
-        0,
-        5,
-        0,
-        0,
-        0,
-        0,
-        0,
-        0,
-        0,
-        192,
-        25,
-        164,
-        67,
-        0,
-        0,
-        0,
-        0,
-    ];
-    let tiles_2 = [
-        86u8,
-        84,
-        1,
-        0,
-        0,
-        0,
-        1,
-        0,
-        0,
-        0,
-        0,
-        0,
-        0,
-        0,
-        0,
-        0,
-        5,
-        0,
-        0,
-        0,
-        0,
-        0,
-        0,
-        0,
-        192,
-        25,
-        164,
-        67,
-        0,
-        0,
-        0,
-        0,
-        86,
-        84,
-        1,
-        0,
-        1,
-        0,
-        0,
-        0,
-        1,
-        0,
-        0,
-        0,
-        0,
-        0,
-        0,
-        0,
-        5,
-        0,
-        0,
-        0,
-        0,
-        0,
-        0,
-        0,
-        236,
-        5,
-        244,
-        18,
-        0,
-        0,
-        0,
-        0,
-        3,
-        0,
-        4,
-        0,
-        5,
-        0,
-        0,
-        0,
-    ];
-    let tiles_3 = [
-        86u8,
-        84,
-        1,
-        0,
-        1,
-        0,
-        0,
-        0,
-        1,
-        0,
-        0,
-        0,
-        0,
-        0,
-        0,
-        0,
-        5,
-        0,
-        0,
-        0,
-        0,
-        0,
-        0,
-        0,
-        236,
-        5,
-        244,
-        18,
-        0,
-        0,
-        0,
-        0,
-        3,
-        0,
-        4,
-        0,
-        5,
-        0,
-        0,
-        0,
-        86,
-        84,
-        1,
-        0,
-        0,
-        0,
-        1,
-        0,
-        0,
-        0,
-        0,
-        0,
-        0,
-        0,
-        0,
-        0,
-        5,
-        0,
-        0,
-        0,
-        0,
-        0,
-        0,
-        0,
-        192,
-        25,
-        164,
-        67,
-        0,
-        0,
-        0,
-        0,
-    ];
-    let tiles_4 = [
-        86u8,
-        84,
-        1,
-        0,
-        0,
-        0,
-        1,
-        0,
-        0,
-        0,
-        0,
-        0,
-        0,
-        0,
-        0,
-        0,
-        5,
-        0,
-        0,
-        0,
-        0,
-        0,
-        0,
-        0,
-        192,
-        25,
-        164,
-        67,
-        0,
-        0,
-        0,
-        0,
-        86,
-        84,
-        1,
-        0,
-        1,
-        0,
-        0,
-        0,
-        1,
-        0,
-        0,
-        0,
-        0,
-        0,
-        0,
-        0,
-        5,
-        0,
-        0,
-        0,
-        0,
-        0,
-        0,
-        0,
-        236,
-        5,
-        244,
-        18,
-        0,
-        0,
-        0,
-        0,
-        3,
-        0,
-        4,
-        0,
-        5,
-        0,
-        0,
-        0,
-        86,
-        84,
-        1,
-        0,
-        0,
-        0,
-        1,
-        0,
-        0,
-        0,
-        0,
-        0,
-        0,
-        0,
-        0,
-        0,
-        5,
-        0,
-        0,
-        0,
-        0,
-        0,
-        0,
-        0,
-        192,
-        25,
-        164,
-        67,
-        0,
-        0,
-        0,
-        0,
-    ];
-    let tiles_5 = [
-        86u8,
-        84,
-        1,
-        0,
-        0,
-        0,
-        1,
-        0,
-        0,
-        0,
-        0,
-        0,
-        0,
-        0,
-        0,
-        0,
-        6,
-        0,
-        0,
-        0,
-        0,
-        0,
-        0,
-        0,
-        192,
-        25,
-        164,
-        67,
-        0,
-        0,
-        0,
-        0,
-    ];
-    let tiles_6 = [
-        86u8,
-        84,
-        1,
-        0,
-        1,
-        0,
-        1,
-        0,
-        2,
-        0,
-        0,
-        0,
-        0,
-        0,
-        0,
-        0,
-        5,
-        0,
-        0,
-        0,
-        0,
-        0,
-        0,
-        0,
-        50,
-        222,
-        169,
-        18,
-        0,
-        0,
-        0,
-        0,
-        3,
-        0,
-        4,
-        0,
-        5,
-        0,
-        0,
-        0,
-        2,
-        0,
-        4,
-        0,
-        5,
-        0,
-        0,
-        0,
-    ];
-    let tiles_7 = [
-        86u8,
-        84,
-        1,
-        0,
-        1,
-        0,
-        0,
-        0,
-        1,
-        0,
-        0,
-        0,
-        0,
-        0,
-        0,
-        0,
-        5,
-        0,
-        0,
-        0,
-        0,
-        0,
-        0,
-        0,
-        236,
-        5,
-        244,
-        18,
-        0,
-        0,
-        0,
-        0,
-        3,
-        0,
-        4,
-        0,
-        5,
-        0,
-        0,
-        0,
-    ];
+fn sized(south: i32, west: i32, size: u32, rows: u16, cols: u16) -> Grid {
+    Grid {
+        south,
+        west,
+        size,
+        rows,
+        cols,
+    }
+}
+
+// The same of the tiles' bytes from one place to another.
+fn show_part(g: Grid, all: [u8; 184], from: usize, to: usize, lengths: &[u32], room: usize) {
+    if 184 < to {
+        return;
+    }
+    if to < from {
+        return;
+    }
+    show(g, &all[from..to], lengths, room);
+}
+
+// Of the tiles two are good, (0, 1) and then (1, 0). The first comes again, then the first with a wrong sum, then (1, 1) with nodes out of order.
+fn tiles(all: [u8; 184]) {
+    let none: [u32; 0] = [];
+    let usual = sized(-5, 7, 1000, 2, 2);
     // No tile; one; two, in row order and not.
-    show(
-        Grid {
-            south: -5,
-            west: 7,
-            size: 1000,
-            rows: 2,
-            cols: 2,
-        },
-        &none,
-        &no_lengths,
-        640,
-    );
-    show(
-        Grid {
-            south: -5,
-            west: 7,
-            size: 1000,
-            rows: 2,
-            cols: 2,
-        },
-        &tiles_1,
-        &[32u32],
-        640,
-    );
-    show(
-        Grid {
-            south: -5,
-            west: 7,
-            size: 1000,
-            rows: 2,
-            cols: 2,
-        },
-        &tiles_2,
-        &[32u32, 40],
-        640,
-    );
-    show(
-        Grid {
-            south: -5,
-            west: 7,
-            size: 1000,
-            rows: 2,
-            cols: 2,
-        },
-        &tiles_3,
-        &[40u32, 32],
-        640,
-    );
+    show_part(usual, all, 0, 0, &none, 640);
+    show_part(usual, all, 0, 32, &[32u32], 640);
+    show_part(usual, all, 0, 72, &[32u32, 40], 640);
+    show_part(usual, all, 32, 104, &[40u32, 32], 640);
     // Just enough room, and a byte less.
-    show(
-        Grid {
-            south: -5,
-            west: 7,
-            size: 1000,
-            rows: 2,
-            cols: 2,
-        },
-        &tiles_2,
-        &[32u32, 40],
-        616,
-    );
-    show(
-        Grid {
-            south: -5,
-            west: 7,
-            size: 1000,
-            rows: 2,
-            cols: 2,
-        },
-        &tiles_2,
-        &[32u32, 40],
-        615,
-    );
+    show_part(usual, all, 0, 72, &[32u32, 40], 616);
+    show_part(usual, all, 0, 72, &[32u32, 40], 615);
     // A key twice; one outside the grid.
-    show(
-        Grid {
-            south: -5,
-            west: 7,
-            size: 1000,
-            rows: 2,
-            cols: 2,
-        },
-        &tiles_4,
-        &[32u32, 40, 32],
-        640,
-    );
-    show(
-        Grid {
-            south: -5,
-            west: 7,
-            size: 1000,
-            rows: 1,
-            cols: 2,
-        },
-        &tiles_2,
-        &[32u32, 40],
-        640,
-    );
+    show_part(usual, all, 0, 104, &[32u32, 40, 32], 640);
+    show_part(sized(-5, 7, 1000, 1, 2), all, 0, 72, &[32u32, 40], 640);
     // Bytes that `Tile::parse` refuses; nodes out of order; a size that a node passes.
-    show(
-        Grid {
-            south: -5,
-            west: 7,
-            size: 1000,
-            rows: 2,
-            cols: 2,
-        },
-        &tiles_5,
-        &[32u32],
-        640,
-    );
-    show(
-        Grid {
-            south: -5,
-            west: 7,
-            size: 1000,
-            rows: 2,
-            cols: 2,
-        },
-        &tiles_6,
-        &[48u32],
-        640,
-    );
-    show(
-        Grid {
-            south: -5,
-            west: 7,
-            size: 3,
-            rows: 2,
-            cols: 2,
-        },
-        &tiles_7,
-        &[40u32],
-        640,
-    );
+    show_part(usual, all, 104, 136, &[32u32], 640);
+    show_part(usual, all, 136, 184, &[48u32], 640);
+    show_part(sized(-5, 7, 3, 2, 2), all, 32, 72, &[40u32], 640);
     // Lengths that leave a byte over, and that want one more.
-    show(
-        Grid {
-            south: -5,
-            west: 7,
-            size: 1000,
-            rows: 2,
-            cols: 2,
-        },
-        &tiles_1,
-        &[31u32],
-        640,
-    );
-    show(
-        Grid {
-            south: -5,
-            west: 7,
-            size: 1000,
-            rows: 2,
-            cols: 2,
-        },
-        &tiles_1,
-        &[33u32],
-        640,
-    );
+    show_part(usual, all, 0, 32, &[31u32], 640);
+    show_part(usual, all, 0, 32, &[33u32], 640);
+}
+
+fn grids(all: [u8; 184]) {
+    let none: [u32; 0] = [];
     // No rows; a grid past 360 degrees, and up to it.
-    show(
-        Grid {
-            south: -5,
-            west: 7,
-            size: 1000,
-            rows: 0,
-            cols: 2,
-        },
-        &none,
-        &no_lengths,
-        640,
-    );
-    show(
-        Grid {
-            south: 359998001,
-            west: 7,
-            size: 1000,
-            rows: 2,
-            cols: 2,
-        },
-        &none,
-        &no_lengths,
-        640,
-    );
-    show(
-        Grid {
-            south: 359998000,
-            west: -360000000,
-            size: 1000,
-            rows: 2,
-            cols: 2,
-        },
-        &none,
-        &no_lengths,
-        640,
-    );
+    show(sized(-5, 7, 1000, 0, 2), b"", &none, 640);
+    show(sized(359998001, 7, 1000, 2, 2), b"", &none, 640);
+    show(sized(359998000, -360000000, 1000, 2, 2), b"", &none, 640);
     // A directory that alone passes 32 bits; the same with a bad tile beside it.
-    show(
-        Grid {
-            south: 0,
-            west: 0,
-            size: 1,
-            rows: 65535,
-            cols: 65535,
-        },
-        &none,
-        &no_lengths,
-        640,
-    );
-    show(
-        Grid {
-            south: 0,
-            west: 0,
-            size: 1,
-            rows: 65535,
-            cols: 65535,
-        },
-        &tiles_5,
-        &[32u32],
-        640,
-    );
+    let wide = sized(0, 0, 1, 65535, 65535);
+    show(wide, b"", &none, 640);
+    show_part(wide, all, 104, 136, &[32u32], 640);
+}
+
+fn main() {
+    let all =
+        *b"\x56\x54\x01\x00\x00\x00\x01\x00\x00\x00\x00\x00\x00\x00\x00\x00\x05\x00\x00\x00\x00\x00\x00\x00\xc0\x19\xa4\x43\x00\x00\x00\x00\x56\x54\x01\x00\x01\x00\x00\x00\x01\x00\x00\x00\x00\x00\x00\x00\x05\x00\x00\x00\x00\x00\x00\x00\xec\x05\xf4\x12\x00\x00\x00\x00\x03\x00\x04\x00\x05\x00\x00\x00\x56\x54\x01\x00\x00\x00\x01\x00\x00\x00\x00\x00\x00\x00\x00\x00\x05\x00\x00\x00\x00\x00\x00\x00\xc0\x19\xa4\x43\x00\x00\x00\x00\x56\x54\x01\x00\x00\x00\x01\x00\x00\x00\x00\x00\x00\x00\x00\x00\x06\x00\x00\x00\x00\x00\x00\x00\xc0\x19\xa4\x43\x00\x00\x00\x00\x56\x54\x01\x00\x01\x00\x01\x00\x02\x00\x00\x00\x00\x00\x00\x00\x05\x00\x00\x00\x00\x00\x00\x00\x32\xde\xa9\x12\x00\x00\x00\x00\x03\x00\x04\x00\x05\x00\x00\x00\x02\x00\x04\x00\x05\x00\x00\x00";
+    tiles(all);
+    grids(all);
 }

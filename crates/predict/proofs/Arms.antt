@@ -1,5 +1,5 @@
 -- What an arm of a `match` on several variants knows: the value is one of them. An ending of such an arm doesn't go on (`ended`), and a lookup
--- of one asks for its tile (`asked`). The idea: the number of the variant tells it. Assumes nothing.
+-- of one asks for its tile (`asked`). The idea: the number of the variant tells it.
 use Prim.Native.Nat.{ℕ}
 use mathlib.Core.Path.{_≡_, refl}
 use mathlib.Core.Bool.{false}

@@ -1,5 +1,5 @@
 -- The points of a leg one after the other, back along the road just ridden: none is the start, one more is `backStep` as long as the road isn't
--- over, and then nothing changes any more. The idea: `backsTo` is a loop by index. Assumes nothing.
+-- over, and then nothing changes any more. The idea: `backsTo` is a loop by index.
 use Prim.Native.Nat.{ℕ, _+_, _≤_}
 use mathlib.Core.Path.{_≡_, _∙_}
 use mathlib.Core.Bool.{true, false}

@@ -1,5 +1,5 @@
 -- The figures that the code writes as single floats, by the whole numbers that they are, and infinity as the code makes it; 0 and 1 stand in
--- crate geo. Each is computed. Assumes nothing.
+-- crate geo. Each is computed.
 use mathlib.Core.Path.{_≡_, refl}
 use mathlib.Core.Bool.{false}
 use lib.Ieee.{binary32, inf, ofBits, ofInt, div}

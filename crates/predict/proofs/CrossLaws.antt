@@ -1,6 +1,6 @@
 -- The lookups of a junction. Two readers that answer the same, while what they carry stays related, find the same ways on (`cross-simulates`,
 -- `over-simulates`). Two looks that agree do so where the lookups at the first don't end with a key or 12 (`cross-settles`, `cross-agrees`).
--- The idea: induction on the tiles, by cases of one lookup. Assumes nothing.
+-- The idea: induction on the tiles, by cases of one lookup.
 use Prim.Native.Nat.{ℕ, zero, suc}
 use mathlib.Core.Path.{_≡_, refl, sym, ap, subst}
 use mathlib.Core.Bool.{Bool, true, false, cond, true≢false}

@@ -1,7 +1,6 @@
 -- The turns of the edge loop of `follow`. One edge is the definition's: where the walk ends on it (`step-ended`), at its horizon
 -- (`step-over`) and at its junction (`step-on`), by the points of the leg (`points-on`, `points-over`). A walk that ended is the whole
 -- (`walk-whole`). The idea: an edge that a walk goes on along was answered with bytes, and the points stay as they are once the road is over.
--- Assumes nothing.
 use Prim.Native.Nat.{ℕ, _+_, _-_, _<_, _≤_}
 use mathlib.Core.Path.{_≡_, refl, sym, ap, _∙_}
 use mathlib.Core.Bool.{Bool, true, false, cond, true≢false}

@@ -1,6 +1,6 @@
 -- Equal lowest costs are a fork: where the second costs what the best does (`equal-is-fork`), and where two choices of a junction have the lowest
 -- cost (`two-lowest-fork`). The idea: the loop over the choices. Once the first of the two is passed, the best costs no more than it. Once both
--- are, the second costs no more either, and nothing costs less. So the margin is a zero of either sign, below FORK_MARGIN. Assumes nothing.
+-- are, the second costs no more either, and nothing costs less. So the margin is a zero of either sign, below FORK_MARGIN.
 use Prim.Native.Nat.{ℕ, zero, suc, _+_, _-_, _*_, _<_, _≤_}
 use mathlib.Core.Path.{_≡_, refl, sym, ap, subst, _∙_}
 use mathlib.Core.Bool.{Bool, true, false, not, _&&_, _||_, cond, true≢false}

@@ -1,5 +1,5 @@
 -- What the code answers, at its lookups in the cache, is the definition's answer at the cache's look (`code-predicts`). The idea: the road is
--- the same by both readers, and the clock and the ages that the code carries are those that the keys found leave. Assumes nothing.
+-- the same by both readers, and the clock and the ages that the code carries are those that the keys found leave.
 use Prim.Native.Nat.{ℕ}
 use mathlib.Core.Path.{_≡_, _∙_}
 use mathlib.Core.Bool.{Bool}

@@ -28,7 +28,8 @@ pub mod FollowLaws
 pub mod Looks
 pub mod WalkLaws
 -- Laws of the road ahead, for its proofs and for callers to cite. RoadLaws: by two readers, in the cache, and by two looks that agree.
--- InCache: what the code answers. Literals: the figure that the code writes.
+-- InCache: what the code answers. Literals: the figure that the code writes. Exact: what is held to 32 bits is never reached.
 pub mod RoadLaws
 pub mod InCache
 pub mod Literals
+pub mod Exact

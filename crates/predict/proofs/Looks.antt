@@ -1,6 +1,6 @@
 -- A lookup of the cache as the reader of a walk has it: what is carried on is what the lookup carries, found or not (`look-carried`). And a
 -- walk that ended, at the decision (`taken-ended`) or at the junction's lookups (`onward-ended`), stays so. The idea: a lookup that found
--- nothing carries on what it was given. Assumes nothing.
+-- nothing carries on what it was given.
 use Prim.Native.Nat.{ℕ}
 use mathlib.Core.Path.{_≡_, refl}
 use mathlib.Core.Bool.{Bool, true, false, true≢false}

@@ -1,5 +1,5 @@
 -- A list whose places take the next one's, one after another: one place more (`shift-turn`), and the end (`shift-end`). The idea: induction on
--- the list. Assumes nothing.
+-- the list.
 use Prim.Native.Nat.{ℕ, zero, suc, _+_, _<_}
 use mathlib.Core.Path.{_≡_, refl, ap}
 use mathlib.Core.List.{List, [], _∷_, _++_}

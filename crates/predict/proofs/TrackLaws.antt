@@ -1,5 +1,5 @@
 -- What stands past the points passed last; and the highest number below a bound that has a property, found from above: the end of the loop, its
--- hit and its turn, and that a number found lies below the bound. Each is one step of the recursion. Assumes nothing.
+-- hit and its turn, and that a number found lies below the bound. Each is one step of the recursion.
 use Prim.Native.Nat.{ℕ, zero, suc, _+_, _<_}
 use mathlib.Core.Path.{_≡_, refl}
 use mathlib.Core.Bool.{Bool, true, false, cond}

@@ -1,4 +1,4 @@
--- A loop whose step does nothing any more stays as it is. The idea: induction on the number of turns left. Assumes nothing.
+-- A loop whose step does nothing any more stays as it is. The idea: induction on the number of turns left.
 use Prim.Native.Nat.{ℕ, zero, suc, _+_, _-_, _≤_}
 use mathlib.Core.Path.{_≡_, _∙_}
 use native.Mathlib.Omega.{arith}

@@ -1,6 +1,6 @@
 -- The points of a leg one after the other, for a caller that follows a leg in its own loop: none is the start, one more is `advanced` as long
 -- as the road isn't over, and then nothing changes any more; and the heights keep their length. The idea: `vertices` is a loop by index, and
--- all that is ever done to the heights is a store. Assumes nothing.
+-- all that is ever done to the heights is a store.
 use Prim.Native.Nat.{ℕ, zero, suc, _+_, _-_, _<_, _≤_}
 use mathlib.Core.Path.{_≡_, refl, _∙_}
 use mathlib.Core.Bool.{Bool, true, false, cond}

@@ -1,7 +1,7 @@
 -- A walk over the first n edges: its start and its turn (`walk-start`, `walk-turn`), and that it stays as it ended (`walk-stays`). Two readers
 -- that answer the same, while what they carry stays related, give the same walk (`walk-simulates`). Two looks that agree do so where the walk at
 -- the first doesn't end with a key or 12 (`walk-agrees`). The idea: an edge's lookups are made one after the other, and each is ready or missing
--- where the edge doesn't end the walk so. Assumes nothing.
+-- where the edge doesn't end the walk so.
 use Prim.Native.Nat.{ℕ, zero, suc, _+_, _-_, _≤_}
 use mathlib.Core.Path.{_≡_, refl, sym, ap, subst, _∙_}
 use mathlib.Core.Bool.{Bool, true, false, cond, true≢false}

@@ -1,4 +1,4 @@
--- A place of a list that is there reads the same whatever stands past the last one, and a pair of tests fails by either. Assumes nothing.
+-- A place of a list that is there reads the same whatever stands past the last one, and a pair of tests fails by either.
 use Prim.Native.Nat.{ℕ, zero, suc, _<_}
 use mathlib.Core.Path.{_≡_, refl}
 use mathlib.Core.Bool.{Bool, true, false, _&&_}

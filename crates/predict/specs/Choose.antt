@@ -1,5 +1,5 @@
 -- The choices of a junction, at most twelve, and the best and the second of them: `predict.rs`, `predict`. Choices past the twelfth are
--- dropped. Of two equal lowest costs the first is the best, and the second's cost is the same: a Fork. Assumes nothing.
+-- dropped. Of two equal lowest costs the first is the best, and the second's cost is the same: a Fork.
 use Prim.Native.Nat.{ℕ, _+_}
 use mathlib.Core.Bool.{Bool, true, false, _&&_, cond}
 use lib.Dec.{ltb, leb}

@@ -1,5 +1,5 @@
 -- The ways on that one tile has at a node: `predict.rs`, `consider`: "Wrong-way oneways and the road just ridden are not candidates", nor an
--- edge that was followed before. Adjacency entries aren't checked to touch their node. Assumes nothing.
+-- edge that was followed before. Adjacency entries aren't checked to touch their node.
 use Prim.Native.Nat.{ℕ, _+_, _-_}
 use mathlib.Core.Bool.{Bool, _&&_, not, cond}
 use mathlib.Core.List.{List}

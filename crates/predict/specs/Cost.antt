@@ -1,5 +1,5 @@
 -- What a way on costs: `predict.rs`, the closure `consider`: "The cost of a choice is built in the Rust's order, each operation rounded once"
--- (document 01). Its own comments name other figures; the function decides. Assumes nothing.
+-- (document 01). Its own comments name other figures; the function decides.
 use Prim.Native.Nat.{ℕ}
 use mathlib.Core.Bool.{Bool, _&&_, _||_, not, cond}
 use lib.Bits.{bitAnd}

@@ -1,6 +1,6 @@
 -- The ways on from every tile that shares the junction's node: `predict.rs`, `predict`, the loop over `boundary_twins`. A tile outside the grid
 -- or missing blocks the road; one that is not loaded ends it with its key, and one that no longer passes with 12. `crossOver` is written over
--- any reader. Assumes nothing.
+-- any reader.
 use Prim.Native.Nat.{ℕ}
 use mathlib.Core.Bool.{Bool, true, false, cond}
 use mathlib.Core.List.{List}

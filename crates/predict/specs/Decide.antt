@@ -1,5 +1,5 @@
 -- The way that is taken at a junction: `predict.rs`, `predict`, from `best` on. "Two equal lowest costs are a Fork, not the first of them"
--- (document 01): the margin is then 0, below FORK_MARGIN. Each float operation is rounded once, in the Rust's order. Assumes nothing.
+-- (document 01): the margin is then 0, below FORK_MARGIN. Each float operation is rounded once, in the Rust's order.
 use mathlib.Core.Bool.{Bool, cond}
 use lib.Ieee.{Float, binary32, ofBits, add, sub, mul, div, lt}
 use Rattle.num.specs.Order.{min, isFinite}

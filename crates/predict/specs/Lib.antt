@@ -21,3 +21,5 @@ pub mod Walk
 -- The road ahead: the definition over a look, the public function, and what is claimed of it.
 pub mod Predict
 pub mod Relied
+-- The number of each answer.
+pub mod Numbers

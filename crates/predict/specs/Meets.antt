@@ -1,5 +1,5 @@
 -- The tiles that the road touches: "Memory is answered when a 97th tile is met, or when pages pass max(1, page count - 12)" (document 01;
--- `predict.rs`, `tiles` and `page_budget`). A tile counts once. Assumes nothing.
+-- `predict.rs`, `tiles` and `page_budget`). A tile counts once.
 use Prim.Native.Nat.{ℕ, _+_, _-_, max}
 use mathlib.Core.Bool.{Bool, true, false, _&&_, cond}
 use lib.Dec.{ltb, leb}

@@ -1,4 +1,4 @@
--- The heading that leaves a junction along an edge, over its first 25 m: `predict.rs`, `outgoing`. Assumes nothing.
+-- The heading that leaves a junction along an edge, over its first 25 m: `predict.rs`, `outgoing`.
 use Prim.Native.Nat.{ℕ, zero, suc, _+_, _-_}
 use mathlib.Core.Bool.{Bool, cond}
 use mathlib.Core.List.{List}

@@ -1,7 +1,7 @@
 -- The road ahead: `predict.rs`, `predict`. `predictOver` is written once over a look and a page count and knows no cache: the direct engine
 -- shares it. `predict` is it at the cache's look, with what the lookups did to clock and ages. Order (document 01, "Refused"): 12; 9 for the
 -- start's key; without direction Uncertain, before any lookup; the late 12, 5, 6 and 10 of the start; then 12 late or 5 at any lookup of the
--- walk. Every height of both arrays is given in every case. Any horizon is accepted. Assumes nothing.
+-- walk. Every height of both arrays is given in every case. Any horizon is accepted.
 use Prim.Native.Nat.{ℕ}
 use mathlib.Core.Bool.{Bool, false, not, cond}
 use mathlib.Core.List.{List, []}
@@ -182,11 +182,14 @@ predictedIn c arena h m horizon samples behind =
       behind = f .behind;
     }
 
+-- `predict` past number 12's test
+abbrev pub predictTested : Cache → List ℕ → Header → Matched → Float → List ℤ → List ℤ → After
+predictTested c arena h m horizon samples behind =
+    cond (inGrid h (m .tile .key)) (predictedIn c arena h m horizon samples behind) (untouched (refused c 9) samples behind)
+
 unfoldable pub predict : Cache → List ℕ → Header → Matched → Float → List ℤ → List ℤ → After
 predict c arena h m horizon samples behind =
-    cond (cacheOk c h (length arena))
-    (cond (inGrid h (m .tile .key)) (predictedIn c arena h m horizon samples behind) (untouched (refused c 9) samples behind))
-    (untouched (refused c 12) samples behind)
+    cond (cacheOk c h (length arena)) (predictTested c arena h m horizon samples behind) (untouched (refused c 12) samples behind)
 
 -- ---- the code's
 

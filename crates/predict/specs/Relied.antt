@@ -1,4 +1,4 @@
--- What is claimed of a road over a look. Assumes nothing.
+-- What is claimed of a road over a look.
 use Prim.Native.Nat.{ℕ}
 use mathlib.Core.Path.{_≡_}
 use mathlib.Core.Bool.{Bool, true, false, not}

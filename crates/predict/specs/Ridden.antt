@@ -1,6 +1,6 @@
 -- The road just ridden: `predict.rs`, `ridden`: "back along the matched edge for `start.ridden_m`, at most 200 m, and never past the edge's end
 -- node, without a decision at any junction", and "The extra last sample of `ridden` keeps the low 16 bits" (document 01). The leg is the
--- matched edge against the direction of travel. Each float operation is rounded once, in the Rust's order. Assumes nothing.
+-- matched edge against the direction of travel. Each float operation is rounded once, in the Rust's order.
 use Prim.Native.Nat.{ℕ, _+_, _-_}
 use mathlib.Core.Bool.{Bool, true, _&&_, not, cond}
 use mathlib.Core.List.{List}

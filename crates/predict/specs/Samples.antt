@@ -1,4 +1,4 @@
--- An elevation every 20 m of road: `predict.rs`, `Sampler::push`. Each float operation is rounded once, in the Rust's order. Assumes nothing.
+-- An elevation every 20 m of road: `predict.rs`, `Sampler::push`. Each float operation is rounded once, in the Rust's order.
 use Prim.Native.Nat.{ℕ, zero, suc, _+_, _-_}
 use mathlib.Core.Bool.{cond}
 use mathlib.Core.List.{List}

@@ -1,5 +1,5 @@
 -- The same boundary point in each tile that shares it: `predict.rs`, `boundary_twins`, in its order: rows the tile's own, the one before, the
--- one after, and in each the columns likewise. Assumes nothing.
+-- one after, and in each the columns likewise.
 use Prim.Native.Nat.{ℕ, _+_, _/_, _%_}
 use mathlib.Core.Bool.{Bool, true, _&&_, not, cond}
 use lib.Dec.{eqb, leb}

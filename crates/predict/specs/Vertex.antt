@@ -1,6 +1,6 @@
 -- One point more along an edge: `predict.rs`, `predict`, the vertex loop. "At the horizon the walk is left from inside the vertex loop"
 -- (document 01). A walk along an edge goes by the points' numbers along its leg, from 0 at its start, whichever way that is: the Rust counts
--- its index up or down. Each float operation is rounded once, in the Rust's order. Assumes nothing.
+-- its index up or down. Each float operation is rounded once, in the Rust's order.
 use Prim.Native.Nat.{ℕ, _+_, _-_}
 use mathlib.Core.Bool.{Bool, true, cond}
 use mathlib.Core.List.{List}

@@ -1,4 +1,4 @@
--- The edges followed last: `predict.rs`, `visited`. VISITED is 128: past it the oldest goes. Assumes nothing.
+-- The edges followed last: `predict.rs`, `visited`. VISITED is 128: past it the oldest goes.
 use Prim.Native.Nat.{ℕ, _+_, _%_}
 use mathlib.Core.Bool.{Bool, _&&_}
 use lib.Dec.{eqb}

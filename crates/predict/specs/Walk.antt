@@ -1,7 +1,7 @@
 -- Following the road ahead from edge to edge: `predict.rs`, `predict`, the edge loop, at most MAX_EDGES (2,000) of them. Each step is written
 -- once, over any reader: `walkTo` knows no cache, and the direct engine shares it. `follow` is it at the cache's lookups. A tile that is not
 -- loaded ends the walk with its key, one that no longer passes with 12; a missing tile of an edge that is taken ends it with its key too, as in
--- the Rust. Assumes nothing.
+-- the Rust.
 use Prim.Native.Nat.{ℕ, _+_, _-_, _%_}
 use mathlib.Core.Bool.{Bool, true, false, cond}
 use mathlib.Core.List.{List}

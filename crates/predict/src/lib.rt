@@ -235,9 +235,5 @@ pub fn predict(
     if !cache::state::cache_ok(cache, header, arena.len()) {
         return road::refused(cache, 12);
     }
-    let id = start.tile;
-    if !pack::grid::in_grid(header, id.key) {
-        return road::refused(cache, 9);
-    }
     road::predicted(cache, arena, header, start, horizon_m, samples, behind)
 }

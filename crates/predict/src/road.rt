@@ -289,8 +289,8 @@ fn from_start(
     }
 }
 
-// The road ahead in a state that has been tested, of a start whose key lies in the grid.
-pub fn predicted(
+// The road ahead of a start whose key lies in the grid.
+fn directed(
     c: Cache,
     arena: &[u8],
     header: Header,
@@ -310,4 +310,25 @@ pub fn predicted(
             from_start(c, arena, header, start, along, horizon_m, samples, behind)
         }
     }
+}
+
+// `predict` past number 12's test, for a caller that has made it: 9 for the start's key.
+pub fn predicted(
+    c: Cache,
+    arena: &[u8],
+    header: Header,
+    start: Matched,
+    horizon_m: f32,
+    samples: &mut [i16],
+    behind: &mut [i16],
+) -> Predicted
+    ensures { λ r. ⌜ r ≡ Predict.predictTested c (now (arena .entry)) header start «horizon_m» (now (samples .entry)) (now (behind .entry)) .predicted ⌝ }
+    ensures { λ r. ⌜ now (samples .exit) ≡ Predict.predictTested c (now (arena .entry)) header start «horizon_m» (now (samples .entry)) (now (behind .entry)) .samples ⌝ }
+    ensures { λ r. ⌜ now (behind .exit) ≡ Predict.predictTested c (now (arena .entry)) header start «horizon_m» (now (samples .entry)) (now (behind .entry)) .behind ⌝ }
+{
+    let id = start.tile;
+    if !pack::grid::in_grid(header, id.key) {
+        return refused(c, 9);
+    }
+    directed(c, arena, header, start, horizon_m, samples, behind)
 }

@@ -1,7 +1,7 @@
 -- Laws of the text and of its writers. Texts that are put one behind the other are put as one: none, one byte, two texts, the next byte of a text
 -- (`append-none`, `append-one`, `append-more`, `append-next`), and what is put from 0 on is how the buffer begins (`whole`).
 -- Numbers in decimal by their last digit (`decimal-one`, `decimal-more`), and how long they are (`decimal-some`, `length-decimal`, `number-ends`). How long whole
--- metres of 16 bits are (`length-metres`), a line (`length-line`), the lines of one sample more (`lines-more`), and samples by index (`length-samples`, `sample-at`). Assumes nothing.
+-- metres of 16 bits are (`length-metres`), a line (`length-line`), the lines of one sample more (`lines-more`), and samples by index (`length-samples`, `sample-at`).
 use Prim.Native.Nat.{ℕ, zero, suc, _+_, _*_, _/_, _%_, _^_, _<_, _≤_}
 use mathlib.Core.Path.{_≡_, refl, sym, ap, _∙_}
 use mathlib.Core.List.{List, [], _∷_, _++_, append-assoc, append-nil}

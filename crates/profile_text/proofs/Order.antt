@@ -1,5 +1,5 @@
 -- Heights in their order, for omega, which reads no ℤ: z is `up z` less `dn z`, two numbers of ℕ of which one is 0. How far one lies above another (`gap`, `gap-is`), and the lowest and the
--- highest of a list (`lowest-each`, `highest-each`). Assumes nothing.
+-- highest of a list (`lowest-each`, `highest-each`).
 use Prim.Native.Nat.{ℕ, zero, suc, _+_, _-_, _<_, _≤_}
 use mathlib.Core.Path.{_≡_, refl, sym, ap, _∙_}
 use mathlib.Core.Bool.{Bool, true, false, cond, true≢false}

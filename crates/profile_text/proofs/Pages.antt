@@ -1,5 +1,5 @@
 -- Laws of the printed page. Columns (`length-right`, `length-left`), the bar (`bar-most`, `bar-highest`), lines of 40 characters and a line end (`length-ahead`, `length-rise`, `length-bar`, `page-line-length`), and
--- pages (`page-length`, `page-past`, and `page-is`, how the code finds a page's samples), the answer (`too-many`, `too-short`, `fits`, `printed-fits`). Assumes nothing.
+-- pages (`page-length`, `page-past`, and `page-is`, how the code finds a page's samples), the answer (`too-many`, `too-short`, `fits`, `printed-fits`).
 use Prim.Native.Nat.{ℕ, zero, suc, _+_, _-_, _*_, _/_, _%_, _<_, _≤_}
 use mathlib.Core.Path.{_≡_, refl, sym, ap, _∙_}
 use mathlib.Core.Bool.{Bool, true, false, cond}
@@ -12,6 +12,7 @@ use lib.Seq.{take-all, drop-nil, getD-take, getD-drop}
 use lib.IntN.{ℤ, pos, negsuc, natAbs, _-ℤ_}
 use lib.Signed.{mag, leZ}
 use borrow.Author.Tests.{lt-ltb, le-ltb, ltb-true, ltb-false, eq-eqb, ne-eqb}
+use Rattle.profile_text.specs.Codes.{codes}
 use Rattle.profile_text.specs.Text.{decimal, linesBy}
 use Rattle.profile_text.specs.Page.{rightIn, leftIn, tenths, rise, barLength, ahead, bar, pageLine, pageHeading, lowest, highest, pageOf, page, refusal, answer, printed, written}
 use Rattle.profile_text.specs.declared.page.Printed.{Printed}
@@ -80,7 +81,7 @@ module _ (low high : ℤ) where
   page-line-length i z l h e f = simp length-append (omega (arith, length-ahead i l, length-rise z h, length-bar (barLength low high z) (bar-most low high z e f)))
 
 pub heading-length : length pageHeading ≡ 41
-unfolding pageHeading rightIn bar leftIn
+unfolding pageHeading rightIn bar leftIn codes
 heading-length = refl
 
 lines-length : (row : ℕ → ℤ → List ℕ) (i : ℕ) (zs : List ℤ) → ((j : ℕ) → j < length zs → length (row (i + j) (getD zs j (pos 0))) ≡ 41) → length (linesBy row i zs) ≡ 41 * length zs

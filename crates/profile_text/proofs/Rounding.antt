@@ -1,5 +1,5 @@
 -- Whole metres are the nearest, of two as near the one further from zero, and no other number is (`whole-metres-rounded`, `rounded-only`). How the code reaches them,
--- by quotient and remainder of a division by ten (`one-up`, `one-down`, `as-cut`), and that they are small (`whole-metres-mag`). Assumes nothing.
+-- by quotient and remainder of a division by ten (`one-up`, `one-down`, `as-cut`), and that they are small (`whole-metres-mag`).
 use Prim.Native.Nat.{ℕ, zero, suc, _+_, _-_, _*_, _/_, _%_, _<_, _≤_}
 use mathlib.Core.Path.{_≡_, refl, sym, ap, _∙_}
 use mathlib.Core.Bool.{Bool, true, false, cond, true≢false}

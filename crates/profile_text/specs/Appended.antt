@@ -1,4 +1,4 @@
--- What the private writers promise: text put behind what a buffer holds so far. Assumes nothing.
+-- What the private writers promise: text put behind what a buffer holds so far.
 use Prim.Native.Nat.{ℕ, _+_}
 use mathlib.Core.Path.{_≡_}
 use mathlib.Core.List.{List, _++_}

@@ -1,4 +1,4 @@
--- The printed profile page: document 02, request 2. Lines and columns, over the heights of the whole road in decimetres. Text is a list of ASCII codes. Assumes nothing.
+-- The printed profile page: document 02, request 2. Lines and columns, over the heights of the whole road in decimetres. Text is a list of ASCII codes.
 use Prim.Native.Nat.{ℕ, zero, suc, _-_, _*_, _/_, _%_}
 use mathlib.Core.Bool.{cond}
 use mathlib.Core.List.{List, [], _∷_, _++_}
@@ -6,6 +6,7 @@ use lib.Dec.{ltb, eqb}
 use lib.ListN.{length, take, drop, replicate}
 use lib.IntN.{ℤ, pos, negsuc, natAbs, _-ℤ_}
 use lib.Signed.{ltZ}
+use Rattle.profile_text.specs.Codes.{codes}
 use Rattle.profile_text.specs.Text.{decimal, linesBy}
 use Rattle.profile_text.specs.declared.page.Printed.{Printed}
 use Rattle.profile_text.specs.declared.page.Printed.the-variants as Printed
@@ -78,7 +79,7 @@ pageLine low high i z = ahead i ++ (rightIn 9 (rise z) ++ bar (barLength low hig
 
 -- "ahead" and "rise", "right in their columns, and 25 blanks"
 unfoldable pub pageHeading : List ℕ
-pageHeading = rightIn 6 (97 ∷ 104 ∷ 101 ∷ 97 ∷ 100 ∷ []) ++ (rightIn 9 (114 ∷ 105 ∷ 115 ∷ 101 ∷ []) ++ bar 0)
+pageHeading = rightIn 6 (codes "ahead") ++ (rightIn 9 (codes "rise") ++ bar 0)
 
 -- ---- pages
 

@@ -1,5 +1,4 @@
 -- What the program `profile` prints, from the bytes of its input: document 01, "Program `profile`", with document 02's request 3. Text is a list of ASCII codes.
--- Assumes nothing.
 use Prim.Native.Nat.{ℕ, zero, suc, _+_, _-_, _*_, _/_, _%_, _≤_}
 use mathlib.Core.Path.{_≡_}
 use mathlib.Core.Bool.{_&&_, cond}
@@ -8,6 +7,7 @@ use lib.Dec.{leb, ltb, eqb}
 use lib.ListN.{length}
 use lib.IntN.{ℤ, pos, negsuc, negℤ, natAbs, _-ℤ_, _*ℤ_}
 use Rattle.num.specs.Cast.{signed16}
+use Rattle.profile_text.specs.Codes.{codes}
 
 -- ---- numbers
 
@@ -63,13 +63,11 @@ samples [] = []
 samples (lo ∷ []) = []
 samples (lo ∷ hi ∷ bs) = signed16 (lo + hi * 256) ∷ samples bs
 
--- "distance rise" and a line end
 unfoldable pub heading : List ℕ
-heading = 100 ∷ 105 ∷ 115 ∷ 116 ∷ 97 ∷ 110 ∷ 99 ∷ 101 ∷ 32 ∷ 114 ∷ 105 ∷ 115 ∷ 101 ∷ 10 ∷ []
+heading = codes "distance rise\n"
 
--- "bad input" and a line end
 unfoldable pub badInput : List ℕ
-badInput = 98 ∷ 97 ∷ 100 ∷ 32 ∷ 105 ∷ 110 ∷ 112 ∷ 117 ∷ 116 ∷ 10 ∷ []
+badInput = codes "bad input\n"
 
 -- up to 501 samples and no odd byte; no input is the heading alone
 unfoldable pub profile : List ℕ → List ℕ

@@ -1,5 +1,4 @@
 -- `parse` by its clauses: one that fails refuses the tile. The first three stand together as the code tests them, and so do the two about nodes.
--- Assumes nothing.
 use Prim.Native.Nat.{ℕ}
 use mathlib.Core.Path.{_≡_, refl, sym}
 use mathlib.Core.Bool.{Bool, true, false, _&&_}

@@ -1,13 +1,13 @@
--- Laws about conjunctions, about a test of every number below a bound and of any, and about a list of clauses. Assumes nothing.
-use Prim.Native.Nat.{ℕ, zero, suc, _+_, _<_}
+-- Laws about conjunctions, about a sum that is tested as a difference, about a test of every number below a bound and of any, and about a list of clauses.
+use Prim.Native.Nat.{ℕ, zero, suc, _+_, _-_, _≤_, _<_}
 use mathlib.Core.Path.{_≡_, refl, sym, ap, _∙_}
 use mathlib.Core.Bool.{Bool, true, false, _&&_, _||_, true≢false}
 use mathlib.Core.List.{List, [], _∷_}
 use native.Mathlib.Numerals.{add-one}
 use native.Mathlib.Omega.{arith}
-use lib.Dec.{eqb}
+use lib.Dec.{leb, eqb}
 use lib.ListN.{getD}
-use borrow.Author.Tests.{eqb-true, eqb-false}
+use borrow.Author.Tests.{eqb-true, eqb-false, leb-true, leb-false, le-leb, lt-leb}
 use Rattle.pack.specs.Sector.{allOf}
 use Rattle.tile.specs.Below.{allBelow, anyBelow}
 
@@ -24,6 +24,18 @@ and-right false b e = absurd (true≢false (sym e))
 pub and-miss : (a b : Bool) → b ≡ false → (a && b) ≡ false
 and-miss true b e = e
 and-miss false b e = refl
+
+-- ---- a sum against a bound, as a difference
+
+pub leb-room : (a s n : ℕ) → s ≤ n → leb a (n - s) ≡ leb (a + s) n
+leb-room a s n h = go (leb (a + s) n) refl
+  where
+    go : (t : Bool) → leb (a + s) n ≡ t → leb a (n - s) ≡ t
+    go true e = le-leb a (n - s) (omega (arith, leb-true (a + s) n e))
+    go false e = lt-leb a (n - s) (omega (arith, leb-false (a + s) n e))
+
+pub leb-none : (a s n : ℕ) → n < s → leb (a + s) n ≡ false
+leb-none a s n h = lt-leb (a + s) n (omega arith)
 
 -- ---- every number below a bound
 

@@ -1,5 +1,5 @@
 -- The order of places by y, then x, and nodes that stand in it. Of nodes each of which follows the one before it, no later one lies below any earlier
--- one; and what a pass over the nodes asks of the next one, with the place of the one before it at hand. Assumes nothing.
+-- one; and what a pass over the nodes asks of the next one, with the place of the one before it at hand.
 use Prim.Native.Nat.{ℕ, zero, suc, _+_, _≤_, _<_}
 use mathlib.Core.Path.{_≡_, refl, sym, _∙_}
 use mathlib.Core.Bool.{Bool, true, false, _&&_, _||_, not, true≢false}

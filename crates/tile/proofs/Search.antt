@@ -1,6 +1,5 @@
 -- The binary search of `nodeAt`. A step keeps the answer, and more steps than there are nodes between low and high change nothing.
 -- What is found is a node at the place asked for; and in an accepted tile, whose nodes stand in order, a node that is there is found.
--- Assumes nothing.
 use Prim.Native.Nat.{ℕ, zero, suc, _+_, _-_, _/_, _≤_, _<_}
 use mathlib.Core.Path.{_≡_, refl, sym, _∙_}
 use mathlib.Core.Bool.{Bool, true, false, _&&_, cond, true≢false}
@@ -12,12 +11,12 @@ use Rattle.pack.specs.declared.TileKey.{TileKey}
 use Rattle.tile.specs.Layout.{nodesOf, nodeOf}
 use Rattle.tile.specs.Order.{before, inOrder}
 use Rattle.tile.specs.Parse.{accepts, nodesOrdered}
-use Rattle.tile.specs.Readers.{search, nodeAt, standsAt, isThere, isFound}
+use Rattle.tile.specs.Readers.{search, nodesThere, nodeAt, standsAt, isThere, isFound}
 use Rattle.tile.specs.declared.Found.{Found}
 use Rattle.tile.specs.declared.Found.the-variants as Found
 use Rattle.tile.proofs.Laws.{and-left, and-right, any-at, any-none}
 use Rattle.tile.proofs.Ordered.{before-itself, same-place, in-order-all}
-use Rattle.tile.proofs.Within.{accepted-order}
+use Rattle.tile.proofs.Within.{accepted-order, nodes-there}
 
 -- ---- steps
 
@@ -116,7 +115,8 @@ search-there bs x y i (suc left) low high e =
 
 pub node-at-there : (bs : List ℕ) (x y i : ℕ) → nodeAt bs x y ≡ Found.At i → (i < nodesOf bs) × ((nodeOf bs i .x ≡ x) × (nodeOf bs i .y ≡ y))
 unfolding nodeAt
-node-at-there bs x y i e = search-there bs x y i (nodesOf bs) 0 (nodesOf bs) e
+node-at-there bs x y i e =
+    let there : There bs x y (nodesThere bs) i = search-there bs x y i (nodesThere bs) 0 (nodesThere bs) e in (omega arith, there .1)
 
 -- ---- what is there is found
 
@@ -168,10 +168,10 @@ module _ (bs : List ℕ) (ordered : Ordered bs) (x y i : ℕ) (at-x : nodeOf bs 
       go false false q r right low-half =
           nothing-found (middle low high) (sym (rw (search-some bs x y left low high (omega arith), q, r) at e))
 
-node-at-found : (bs : List ℕ) → Ordered bs → (x y i : ℕ) → i < nodesOf bs → nodeOf bs i .x ≡ x → nodeOf bs i .y ≡ y → nodeAt bs x y ≡ Found.Nothing → ⊥
+node-at-found : (bs : List ℕ) → Ordered bs → (x y i : ℕ) → i < nodesThere bs → nodeOf bs i .x ≡ x → nodeOf bs i .y ≡ y → nodeAt bs x y ≡ Found.Nothing → ⊥
 unfolding nodeAt
 node-at-found bs ordered x y i h at-x at-y e =
-    search-found bs ordered x y i at-x at-y (nodesOf bs) 0 (nodesOf bs) (omega arith) (omega arith) h (omega arith) e
+    search-found bs ordered x y i at-x at-y (nodesThere bs) 0 (nodesThere bs) (omega arith) (omega arith) h (omega arith) e
 
 -- ---- exactly
 
@@ -187,8 +187,8 @@ stands-not bs x y i not-there = go (eqb (nodeOf bs i .x) x) (eqb (nodeOf bs i .y
     go false b p q = refl
 
 -- document 02, request 7: a node is found exactly if one stands at that place
-ordered-exact : (bs : List ℕ) → nodesOrdered bs ≡ true → (x y : ℕ) → isFound (nodeAt bs x y) ≡ isThere bs x y
-ordered-exact bs e x y = go (nodeAt bs x y) refl
+ordered-exact : (bs : List ℕ) → nodesOrdered bs ≡ true → nodesThere bs ≡ nodesOf bs → (x y : ℕ) → isFound (nodeAt bs x y) ≡ isThere bs x y
+ordered-exact bs e all-there x y = go (nodeAt bs x y) refl
   where
     ordered : Ordered bs
     ordered i j h k = in-order-all (nodeOf bs) (nodesOf bs) i j e h k
@@ -198,7 +198,7 @@ ordered-exact bs e x y = go (nodeAt bs x y) refl
         let there = node-at-there bs x y i q in sym (any-at (standsAt bs x y) i (nodesOf bs) (there .0) (stands bs x y i (there .1 .0) (there .1 .1)))
     go Found.Nothing q =
         sym (any-none (standsAt bs x y) (nodesOf bs)
-        (λ (i : ℕ) (h : i < nodesOf bs). stands-not bs x y i (λ at-x at-y. node-at-found bs ordered x y i h at-x at-y q)))
+        (λ (i : ℕ) (h : i < nodesOf bs). stands-not bs x y i (λ at-x at-y. node-at-found bs ordered x y i (rw all-there h) at-x at-y q)))
 
 pub node-at-exact : (bs : List ℕ) (key : TileKey) (size : ℕ) → accepts bs key size ≡ true → (x y : ℕ) → isFound (nodeAt bs x y) ≡ isThere bs x y
-node-at-exact bs key size ok = ordered-exact bs (accepted-order bs key size ok)
+node-at-exact bs key size ok = ordered-exact bs (accepted-order bs key size ok) (nodes-there bs key size ok)

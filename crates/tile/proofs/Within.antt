@@ -1,6 +1,6 @@
 -- What an accepted tile tells a caller: its length, its key, that each record lies within its bytes, that each number of a record is in range, and
 -- that its nodes stand in order.
--- So a reader of an accepted tile succeeds. Then what an answer of `parse` says. All of it is about the definitions alone. Assumes nothing.
+-- So a reader of an accepted tile answers what it answered before the bytes were asked, and none of an index below its count is refused. Then what an answer of `parse` says. All of it is about the definitions alone.
 use Prim.Native.Nat.{ℕ, _+_, _-_, _*_, _/_, _≤_, _<_, min, max}
 use mathlib.Core.Path.{_≡_, refl}
 use mathlib.Core.Bool.{Bool, true, false, _&&_, cond}
@@ -9,7 +9,7 @@ use native.Mathlib.Nat.{max-le, le-max-right}
 use native.Mathlib.Omega.{arith}
 use lib.Dec.{leb, ltb, eqb}
 use lib.ListN as ListN
-use borrow.Author.Tests.{ltb-true, ltb-false, leb-true, eqb-true, eqb-false, lt-ltb}
+use borrow.Author.Tests.{ltb-true, ltb-false, leb-true, eqb-true, eqb-false, lt-ltb, le-leb}
 use Rattle.pack.specs.Bytes.{u16At, u32At}
 use Rattle.pack.specs.declared.TileKey.{TileKey}
 use Rattle.tile.specs.Layout.{nodesOf, edgesOf, verticesOf, headOf, length, nodeStart, entryStart, edgeStart, vertexStart, placeAt, nodeOf, edgeOf, entryOf, pointOf, adjacencyStart, adjacencyEnd}
@@ -66,27 +66,40 @@ edge-ok bs i e =
       vertices = leb-true (u32At bs (at + 4) + u16At bs (at + 8)) (verticesOf bs) (and-right to-in vertices-in rest);
     }
 
--- ---- readers that ask only for an index below its count
+-- ---- readers: a record that is below its count and within the bytes is read
 
-pub node-reads : (bs : List ℕ) (i : ℕ) → i < nodesOf bs → Readers.node bs i ≡ NodeRead.At (nodeOf bs i)
-unfolding Readers.node
-node-reads bs i h = rw (lt-ltb i (nodesOf bs) h)
+both : {a b : Bool} → a ≡ true → b ≡ true → (a && b) ≡ true
+both {a} {b} p q = rw (p, q)
 
-pub edge-reads : (bs : List ℕ) (i : ℕ) → i < edgesOf bs → Readers.edge bs i ≡ EdgeRead.At (edgeOf bs i)
-unfolding Readers.edge
-edge-reads bs i h = rw (lt-ltb i (edgesOf bs) h)
+module _ (bs : List ℕ) where
+  pub has-node : (i : ℕ) → i < nodesOf bs → nodeStart i + 8 ≤ ListN.length bs → Readers.hasNode bs i ≡ true
+  has-node i h k = both (lt-ltb i (nodesOf bs) h) (le-leb (nodeStart i + 8) (ListN.length bs) k)
 
-pub entry-reads : (bs : List ℕ) (j : ℕ) → j < edgesOf bs * 2 → Readers.incidentEntry bs j ≡ EntryRead.At (entryOf bs j)
-unfolding Readers.incidentEntry
-entry-reads bs j h = rw (lt-ltb j (edgesOf bs * 2) h)
+  pub node-reads : (i : ℕ) → i < nodesOf bs → nodeStart i + 8 ≤ ListN.length bs → Readers.node bs i ≡ NodeRead.At (nodeOf bs i)
+  unfolding Readers.node
+  node-reads i h k = rw (has-node i h k)
+
+  pub edge-reads : (i : ℕ) → i < edgesOf bs → edgeStart bs i + 16 ≤ ListN.length bs → Readers.edge bs i ≡ EdgeRead.At (edgeOf bs i)
+  unfolding Readers.edge
+  edge-reads i h k = rw (lt-ltb i (edgesOf bs) h, le-leb (edgeStart bs i + 16) (ListN.length bs) k)
+
+  pub entry-reads : (j : ℕ) → j < edgesOf bs * 2 → entryStart bs j + 2 ≤ ListN.length bs → Readers.incidentEntry bs j ≡ EntryRead.At (entryOf bs j)
+  unfolding Readers.incidentEntry
+  entry-reads j h k = rw (lt-ltb j (edgesOf bs * 2) h, le-leb (entryStart bs j + 2) (ListN.length bs) k)
 
 -- where a node's entries end: with none, where they begin
 abbrev pub entriesEnd : List ℕ → ℕ → ℕ
 entriesEnd bs i = max (adjacencyEnd bs i) (adjacencyStart bs i)
 
-pub incident-reads : (bs : List ℕ) (i : ℕ) → i < nodesOf bs → Readers.incident bs i ≡ Entries.Range (adjacencyStart bs i) (entriesEnd bs i)
+-- a node's entries are read where the records of all nodes are within the bytes
+pub incident-reads : (bs : List ℕ) (i : ℕ) → i < nodesOf bs → nodeStart (nodesOf bs) ≤ ListN.length bs
+    → Readers.incident bs i ≡ Entries.Range (adjacencyStart bs i) (entriesEnd bs i)
 unfolding Readers.incident
-incident-reads bs i h = rw (lt-ltb i (nodesOf bs) h)
+incident-reads bs i h k = rw (go (ltb (i + 1) (nodesOf bs)) refl)
+  where
+    go : (t : Bool) → ltb (i + 1) (nodesOf bs) ≡ t → Readers.hasNode bs (cond t (i + 1) i) ≡ true
+    go true e = let l : i + 1 < nodesOf bs = ltb-true (i + 1) (nodesOf bs) e in has-node bs (i + 1) l (omega arith)
+    go false e = has-node bs i h (omega arith)
 
 pub incident-rises : (bs : List ℕ) (i : ℕ) → adjacencyStart bs i ≤ entriesEnd bs i
 incident-rises bs i = le-max-right (adjacencyEnd bs i) (adjacencyStart bs i)
@@ -124,6 +137,24 @@ module _ (bs : List ℕ) (key : TileKey) (size : ℕ) (ok : accepts bs key size 
   pub vertex-within : (v : ℕ) → v < verticesOf bs → vertexStart bs v + 6 ≤ ListN.length bs
   vertex-within v h = omega (arith, length-is)
 
+  -- so each record that is below its count is read
+
+  pub accepted-node : (i : ℕ) → i < nodesOf bs → Readers.node bs i ≡ NodeRead.At (nodeOf bs i)
+  accepted-node i h = node-reads bs i h (node-within i h)
+
+  pub accepted-edge : (i : ℕ) → i < edgesOf bs → Readers.edge bs i ≡ EdgeRead.At (edgeOf bs i)
+  accepted-edge i h = edge-reads bs i h (edge-within i h)
+
+  pub accepted-entry : (j : ℕ) → j < edgesOf bs * 2 → Readers.incidentEntry bs j ≡ EntryRead.At (entryOf bs j)
+  accepted-entry j h = entry-reads bs j h (entry-within j h)
+
+  pub accepted-incident : (i : ℕ) → i < nodesOf bs → Readers.incident bs i ≡ Entries.Range (adjacencyStart bs i) (entriesEnd bs i)
+  accepted-incident i h = incident-reads bs i h (omega (arith, length-is))
+
+  -- and the search goes over every node
+  pub nodes-there : Readers.nodesThere bs ≡ nodesOf bs
+  nodes-there = omega (arith, length-is)
+
   -- the numbers of a record are in range
 
   pub node-good : (i : ℕ) → i < nodesOf bs → NodeGood bs size i
@@ -153,12 +184,15 @@ module _ (bs : List ℕ) (key : TileKey) (size : ℕ) (ok : accepts bs key size 
   point-reads i h index = rw (go (eqb index 0) (ltb (edgeOf bs i .vertices) index) refl refl)
     where
       go : (first past : Bool) → eqb index 0 ≡ first → ltb (edgeOf bs i .vertices) index ≡ past → Readers.hasPoint bs (edgeOf bs i) index ≡ true
-      go true past e f = rw (e, lt-ltb (edgeOf bs i .from) (nodesOf bs) (edge-good i h .from))
-      go false true e f = rw (e, f, lt-ltb (edgeOf bs i .to) (nodesOf bs) (edge-good i h .to))
+      go true past e f =
+          rw (e, has-node bs (edgeOf bs i .from) (edge-good i h .from) (node-within (edgeOf bs i .from) (edge-good i h .from)))
+      go false true e f =
+          rw (e, f, has-node bs (edgeOf bs i .to) (edge-good i h .to) (node-within (edgeOf bs i .to) (edge-good i h .to)))
       go false false e f =
           let there : edgeOf bs i .«first_vertex» + index - 1 < verticesOf bs
           = omega (arith, edge-good i h .vertices, ltb-false (edgeOf bs i .vertices) index f, eqb-false index 0 e) in
-          rw (e, f, lt-ltb (edgeOf bs i .«first_vertex» + index - 1) (verticesOf bs) there)
+          let v : ℕ = edgeOf bs i .«first_vertex» + index - 1 in
+          rw (e, f) (both (lt-ltb v (verticesOf bs) there) (le-leb (vertexStart bs v + 6) (ListN.length bs) (vertex-within v there)))
 
 -- ---- what an answer of `parse` says
 

@@ -1,5 +1,4 @@
 -- A tile's bytes: document 01, "tile.rs", and the table at the top of src/lib.rt. Where each record stands, and what it holds. Bytes past the end count as 0.
--- Assumes nothing.
 use Prim.Native.Nat.{ℕ, _+_, _-_, _*_, _/_, _%_}
 use mathlib.Core.Bool.{Bool, cond}
 use mathlib.Core.List.{List}

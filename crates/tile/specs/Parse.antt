@@ -1,5 +1,4 @@
 -- When a tile's bytes are accepted: document 01, "tile.rs", and document 02, request 7, as a list of named clauses. Whatever fails, the number is 4.
--- Assumes nothing.
 use Prim.Native.Nat.{ℕ, _+_, _*_, _/_, min}
 use mathlib.Core.Bool.{Bool, _&&_, cond}
 use mathlib.Core.List.{List, [], _∷_}

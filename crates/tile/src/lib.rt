@@ -9,7 +9,8 @@
 // | Vertices  | 6 B    | x, y, z: the edge's interior points, from `from` to `to`                                                                            |
 //
 // Elevation `z` is fifths of a metre above -500 m. Nodes are sorted by (y, x), which `parse` tests. A node on the tile boundary continues in the neighbouring tile at the same point.
-// The functions work on the tile's bytes and numbers; a byte past the end counts as 0.
+// The functions work on the tile's bytes and numbers. A record that does not end within the bytes is refused with 7 by its reader; in a head, and in the
+// total functions of `raw`, a byte past the end counts as 0.
 pub mod check;
 pub mod class;
 pub mod flag;

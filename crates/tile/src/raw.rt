@@ -1,4 +1,5 @@
-// The records of a tile's bytes, total for every index: what the public readers answer once an index has passed. A byte past the end counts as 0.
+// The records of a tile's bytes, total for every index: what the public readers answer once an index has passed, and whether it does. A byte past the
+// end counts as 0.
 use crate::Edge;
 use crate::Incident;
 use crate::Node;
@@ -80,17 +81,103 @@ fn vertex(bytes: &[u8], number: u64) -> Node
     place(bytes, 32 + nodes * 8 + edges * 20 + (number as usize) * 6)
 }
 
+// Whether the record of `size` bytes at `at` ends within the bytes.
+fn inside(bytes: &[u8], at: usize, size: usize) -> bool
+    ensures { λ r. ⌜ r ≡ Readers.inside (now (bytes .entry)) at size ⌝ }
+{
+    if bytes.len() < size {
+        return false;
+    }
+    at <= bytes.len() - size
+}
+
+// Whether a node's record is there: below the count, and within the bytes.
+pub fn has_node(bytes: &[u8], index: u32) -> bool
+    ensures { λ r. ⌜ r ≡ Readers.hasNode (now (bytes .entry)) index ⌝ }
+{
+    if index < pack::bytes::u16_at(bytes, 8) as u32 {
+        return inside(bytes, 32 + (index as usize) * 8, 8);
+    }
+    false
+}
+
+pub fn has_edge(bytes: &[u8], index: u16) -> bool
+    ensures { λ r. ⌜ r ≡ Readers.hasEdge (now (bytes .entry)) index ⌝ }
+{
+    let edges = pack::bytes::u16_at(bytes, 10);
+    if index < edges {
+        let nodes = pack::bytes::u16_at(bytes, 8) as usize;
+        return inside(
+            bytes,
+            32 + nodes * 8 + (edges as usize) * 4 + (index as usize) * 16,
+            16,
+        );
+    }
+    false
+}
+
+pub fn has_entry(bytes: &[u8], entry: u32) -> bool
+    ensures { λ r. ⌜ r ≡ Readers.hasEntry (now (bytes .entry)) entry ⌝ }
+{
+    if entry < (pack::bytes::u16_at(bytes, 10) as u32) * 2 {
+        let nodes = pack::bytes::u16_at(bytes, 8) as usize;
+        return inside(bytes, 32 + nodes * 8 + (entry as usize) * 2, 2);
+    }
+    false
+}
+
+fn has_vertex(bytes: &[u8], number: u64) -> bool
+    ensures { λ r. ⌜ r ≡ Readers.hasVertex (now (bytes .entry)) number ⌝ }
+{
+    if number < pack::bytes::u32_at(bytes, 12) as u64 {
+        let nodes = pack::bytes::u16_at(bytes, 8) as usize;
+        let edges = pack::bytes::u16_at(bytes, 10) as usize;
+        return inside(
+            bytes,
+            32 + nodes * 8 + edges * 20 + (number as usize) * 6,
+            6,
+        );
+    }
+    false
+}
+
+// The node whose record is read last for a node's entries: the next one where there is one.
+pub fn last_read(bytes: &[u8], index: u16) -> u32
+    ensures { λ r. ⌜ r ≡ Readers.lastRead (now (bytes .entry)) index ⌝ }
+{
+    let next = (index as u32) + 1;
+    if next < pack::bytes::u16_at(bytes, 8) as u32 {
+        return next;
+    }
+    index as u32
+}
+
+// How many nodes are there: those of the count whose records end within the bytes.
+pub fn nodes_there(bytes: &[u8]) -> u16
+    ensures { λ r. ⌜ r ≡ Readers.nodesThere (now (bytes .entry)) ⌝ }
+{
+    let nodes = pack::bytes::u16_at(bytes, 8);
+    if bytes.len() < 32 {
+        return 0;
+    }
+    let room = (bytes.len() - 32) / 8;
+    if room < nodes as usize {
+        return room as u16;
+    }
+    nodes
+}
+
 // Whether what a point number reads is there.
 pub fn has_point(bytes: &[u8], edge: Edge, index: usize) -> bool
     ensures { λ r. ⌜ r ≡ Readers.hasPoint (now (bytes .entry)) edge index ⌝ }
 {
     if index == 0 {
-        return edge.from < pack::bytes::u16_at(bytes, 8);
+        return has_node(bytes, edge.from as u32);
     }
     if (edge.vertices as usize) < index {
-        return edge.to < pack::bytes::u16_at(bytes, 8);
+        return has_node(bytes, edge.to as u32);
     }
-    (edge.first_vertex as u64) + (index as u64) - 1 < pack::bytes::u32_at(bytes, 12) as u64
+    has_vertex(bytes, (edge.first_vertex as u64) + (index as u64) - 1)
 }
 
 // Point `index` of an edge; past its vertices the end node.

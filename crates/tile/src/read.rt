@@ -1,4 +1,4 @@
-// The readers of a tile's bytes. An index past its count is 7.
+// The readers of a tile's bytes. An index past its count is 7, and so is a record that does not end within the bytes.
 use crate::Edge;
 use crate::EdgeRead;
 use crate::Entries;
@@ -44,7 +44,7 @@ pub fn id(bytes: &[u8]) -> TileId
 pub fn node(bytes: &[u8], index: u16) -> NodeRead
     ensures { λ r. ⌜ r ≡ Readers.node (now (bytes .entry)) index ⌝ }
 {
-    if index < pack::bytes::u16_at(bytes, 8) {
+    if crate::raw::has_node(bytes, index as u32) {
         return NodeRead::At(crate::raw::node(bytes, index));
     }
     NodeRead::Refused(7)
@@ -53,7 +53,7 @@ pub fn node(bytes: &[u8], index: u16) -> NodeRead
 pub fn edge(bytes: &[u8], index: u16) -> EdgeRead
     ensures { λ r. ⌜ r ≡ Readers.edge (now (bytes .entry)) index ⌝ }
 {
-    if index < pack::bytes::u16_at(bytes, 10) {
+    if crate::raw::has_edge(bytes, index) {
         return EdgeRead::At(crate::raw::edge(bytes, index));
     }
     EdgeRead::Refused(7)
@@ -63,7 +63,7 @@ pub fn edge(bytes: &[u8], index: u16) -> EdgeRead
 pub fn incident(bytes: &[u8], node: u16) -> Entries
     ensures { λ r. ⌜ r ≡ Readers.incident (now (bytes .entry)) node ⌝ }
 {
-    if pack::bytes::u16_at(bytes, 8) <= node {
+    if !crate::raw::has_node(bytes, crate::raw::last_read(bytes, node)) {
         return Entries::Refused(7);
     }
     let start = crate::raw::adjacency_start(bytes, node as u32) as u32;
@@ -78,7 +78,7 @@ pub fn incident(bytes: &[u8], node: u16) -> Entries
 pub fn incident_entry(bytes: &[u8], entry: u32) -> EntryRead
     ensures { λ r. ⌜ r ≡ Readers.incidentEntry (now (bytes .entry)) entry ⌝ }
 {
-    if entry < (pack::bytes::u16_at(bytes, 10) as u32) * 2 {
+    if crate::raw::has_entry(bytes, entry) {
         return EntryRead::At(crate::raw::entry(bytes, entry));
     }
     EntryRead::Refused(7)
@@ -100,12 +100,12 @@ pub fn points(edge: Edge) -> usize
     edge.vertices as usize + 2
 }
 
-// The node at exactly (x, y), by binary search over the (y, x) order.
+// The node at exactly (x, y), by binary search over the (y, x) order of the nodes that are there.
 pub fn node_at(bytes: &[u8], x: u16, y: u16) -> Found
     ensures { λ r. ⌜ r ≡ Readers.nodeAt (now (bytes .entry)) x y ⌝ }
 {
     let mut low: u32 = 0;
-    let mut high = pack::bytes::u16_at(bytes, 8) as u32;
+    let mut high = crate::raw::nodes_there(bytes) as u32;
     while low < high {
         let middle = (low + high) / 2;
         let n = crate::raw::node(bytes, middle as u16);

@@ -1,6 +1,6 @@
 -- Plain data as parameters of a function that is walked by hand: what a walk asks of one type (`Datum`), that unsigned numbers, structs and enums have
 -- it, and what follows for a list of them (`slots` and what comes after). Of plain data nothing is kept at exit (`drops`), and nothing has to be said of
--- it there. Assumes nothing.
+-- it there.
 use mathlib.Core.Path.{_≡_, refl, sym, subst}
 use mathlib.Core.List.{List, [], _∷_}
 use lib.Dec.{T as Holds}

@@ -1,5 +1,5 @@
 -- The view's type, and what each of its two fields owns, out of what the view owns. A thin function that hands a field back, as `bytes` and `head` do,
--- is shown here for either field but for the walk through its two locals. Assumes nothing.
+-- is shown here for either field but for the walk through its two locals.
 use mathlib.Core.Path.{_≡_, refl}
 use Prim.Native.Nat.{ℕ}
 use mathlib.Core.List.{List, [], _∷_}

@@ -1,6 +1,6 @@
 -- What a view rests on: the view of accepted bytes has the head that `tile::parse` answered, and the view of a run that the cache's lookup answered is
 -- one of bytes that `tile::parse` accepts for its key. Then what `node_at` finds: of any bytes, a node exactly if they are a tile of that key and one
--- stands at that place. About the definitions alone. Assumes nothing.
+-- stands at that place. About the definitions alone.
 use Prim.Native.Nat.{ℕ, _<_}
 use mathlib.Core.Bool.{Bool, true, false, _&&_}
 use mathlib.Core.List.{List}

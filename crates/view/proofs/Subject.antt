@@ -1,7 +1,7 @@
 -- A function whose first parameter is a tile's bytes, lent, or a view of them, whose others are plain data, and whose answer is plain data: f of the
 -- bytes and the data. Its subject is that first parameter. `Answer` is its contract. For a caller: `to` is what it is passed, and `answers` what is had
 -- after the call. For its own walk: `Entry` and `Post` are its two ends, `exits` the exit, and `meets` takes a walk to the contract. Neither subject
--- owns anything that is needed after a call, so nothing is kept of it at exit. Assumes nothing.
+-- owns anything that is needed after a call, so nothing is kept of it at exit.
 use mathlib.Core.Path.{_≡_, refl}
 use Prim.Native.Nat.{ℕ}
 use mathlib.Core.List.{List, [], _∷_}

@@ -1,4 +1,4 @@
--- The tile view: document 01, "The tile view is a record that holds the lent tile bytes". Assumes nothing.
+-- The tile view: document 01, "The tile view is a record that holds the lent tile bytes".
 use Prim.Native.Nat.{ℕ}
 use mathlib.Core.Bool.{Bool, true, false}
 use mathlib.Core.List.{List}

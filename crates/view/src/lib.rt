@@ -3,8 +3,9 @@
 // Thin functions make the view and take it apart; covered functions on slice and numbers, those of `tile` and `geo` and the module `on`, do the reading.
 // An enum can't hold a view, so what may be refused is asked first, on the bytes: `tile::parse`, or the cache's lookup. Then the view is made of those
 // bytes. Making it refuses nothing, and every reader is total: a view of any other bytes reads them as the core does, with 7 for an index past its
-// count. `node_at` and `edge_point` go from bytes to a view and on to its answer; their callers meet no view.
+// count. `node_at`, `edge_point` and the module `through` go from bytes to a view and on to its answer; their callers meet no view.
 pub mod on;
+pub mod through;
 
 use geo::EdgePoint;
 use pack::Header;
@@ -137,25 +138,13 @@ impl<'a> Tile<'a> {
     }
 }
 
-fn node_in(bytes: &[u8], x: u16, y: u16) -> Found
-    ensures { λ r. ⌜ r ≡ Readers.nodeAt (now (bytes .entry)) x y ⌝ }
-{
-    Tile::view(bytes).node_at(x, y)
-}
-
-fn point_in(bytes: &[u8], header: Header, edge: Edge, index: usize) -> EdgePoint
-    ensures { λ r. ⌜ r ≡ Points.edgePoint header (now (bytes .entry)) edge index ⌝ }
-{
-    Tile::view(bytes).edge_point(header, edge, index)
-}
-
 // The node at exactly (x, y) of a tile's bytes; 4 where they are no tile of that key.
 pub fn node_at(bytes: &[u8], key: TileKey, size: u32, x: u16, y: u16) -> NodeFound
     ensures { λ r. ⌜ r ≡ Views.nodeAt (now (bytes .entry)) key size x y ⌝ }
 {
     match tile::parse(bytes, key, size) {
         Parsed::Refused(number) => NodeFound::Refused(number),
-        Parsed::Tile(_) => match node_in(bytes, x, y) {
+        Parsed::Tile(_) => match through::node_at(bytes, x, y) {
             Found::At(index) => NodeFound::At(index),
             Found::Nothing => NodeFound::Nothing,
         },
@@ -173,5 +162,5 @@ pub fn edge_point(
 ) -> EdgePoint
     ensures { λ r. ⌜ r ≡ Points.edgePoint header (Lookups.runBytes (now (arena .entry)) first len) edge index ⌝ }
 {
-    point_in(on::run(arena, first, len), header, edge, index)
+    through::edge_point(on::run(arena, first, len), header, edge, index)
 }

@@ -24,7 +24,7 @@ use Rattle.tile.specs.declared.EdgeRead.the-variants as EdgeRead
 use Rattle.tile.specs.declared.Entries.the-variants as Entries
 use Rattle.tile.specs.declared.EntryRead.the-variants as EntryRead
 use Rattle.tile.proofs.Laws.{all-at}
-use Rattle.tile.proofs.Within.{node-reads, edge-reads, entry-reads, incident-reads, point-reads}
+use Rattle.tile.proofs.Within.{accepted-node, accepted-edge, accepted-entry, accepted-incident, point-reads}
 use Rattle.writer.specs.TileWritten.{Given, tileGood, tileBytes, tileLength, nodeCount, edgeCount, vertexCount, placeGiven, edgeGiven, entriesAt, firstEntry}
 use Rattle.writer.proofs.EntryLaws.{first-fits, first-more}
 use Rattle.writer.proofs.GivenLaws.{EdgeGiven, good-lon, good-node, good-order, good-edge, good-entries}
@@ -116,15 +116,15 @@ module _ (g : Given) (ok : tileGood g ≡ true) (w : Widths g) where
   -- ---- the public readers
 
   pub node-answers : (i : ℕ) → i < nodeCount g → Readers.node tile i ≡ NodeRead.At (placeGiven (g .nodes) i)
-  node-answers i h = node-reads tile i (omega (arith, nodes-read g ok w)) ∙ ap NodeRead.At (written-node g ok w i h)
+  node-answers i h = accepted-node tile (g .key) (g .size) written-accepts i (omega (arith, nodes-read g ok w)) ∙ ap NodeRead.At (written-node g ok w i h)
 
   pub edge-answers : (i : ℕ) → i < edgeCount g → Readers.edge tile i ≡ EdgeRead.At (edgeGiven (g .edges) i)
-  edge-answers i h = edge-reads tile i (omega (arith, edges-read g ok w)) ∙ ap EdgeRead.At (written-edge g ok w i h)
+  edge-answers i h = accepted-edge tile (g .key) (g .size) written-accepts i (omega (arith, edges-read g ok w)) ∙ ap EdgeRead.At (written-edge g ok w i h)
 
   pub incident-answers : (i : ℕ) → i < nodeCount g
       → Readers.incident tile i ≡ Entries.Range (firstEntry (g .edges) i) (firstEntry (g .edges) (i + 1))
   incident-answers i h =
-      incident-reads tile i (omega (arith, nodes-read g ok w))
+      accepted-incident tile (g .key) (g .size) written-accepts i (omega (arith, nodes-read g ok w))
       ∙ rw (written-end g ok w i h, written-start g ok w i h, max-eq-left {n = firstEntry (g .edges) (i + 1)} {m = firstEntry (g .edges) i} (omega (arith, first-more (g .edges) i)))
 
   -- an entry that is given as a number: edge × 2, plus 1 where the edge ends there
@@ -134,7 +134,8 @@ module _ (g : Given) (ok : tileGood g ≡ true) (w : Widths g) where
   pub entry-answers : (i k : ℕ) → i < nodeCount g → k < ListN.length (entriesAt (g .edges) i)
       → Readers.incidentEntry tile (firstEntry (g .edges) i + k) ≡ EntryRead.At (incidentOf (getD (entriesAt (g .edges) i) k 0))
   entry-answers i k h l =
-      entry-reads tile (firstEntry (g .edges) i + k) (omega (arith, edges-read g ok w, first-fits (g .edges) i (nodeCount g) h, good-entries g ok))
+      accepted-entry tile (g .key) (g .size) written-accepts (firstEntry (g .edges) i + k)
+      (omega (arith, edges-read g ok w, first-fits (g .edges) i (nodeCount g) h, good-entries g ok))
       ∙ ap (λ (value : ℕ). EntryRead.At (incidentOf value)) (written-entries g ok w i k h l)
 
   -- point `index` of an edge: its start node, its vertices, its end node

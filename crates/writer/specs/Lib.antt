@@ -4,3 +4,5 @@ pub mod TileWritten
 pub mod Steps
 pub mod PackWritten
 pub mod PackSteps
+-- The number of each answer.
+pub mod Numbers

@@ -7,18 +7,18 @@ use std::hint::black_box;
 /// Degrees that a bearing may lie from the original's.
 const ALLOWED: f64 = 0.05;
 
-/// Stands in the place that the port writes to; no bearing has these bits.
-const UNTOUCHED: u32 = 0xdeadbeef;
+/// Stands in the degrees of a refused answer.
+const NO_DEGREES: u32 = 0;
 
 /// As engine.rs has it, where it is private.
 pub fn lon_scale_of_rust(lat: i32) -> u32 {
     (geo::LAT_UM * libm::cosf((lat as f32 * 1e-6).to_radians())) as u32
 }
 
-/// The port's code and what then stands in its place.
+/// The port's number and its degrees.
 pub fn bearing_of_port(east: f32, north: f32) -> (u32, f32) {
-    let mut degrees = f32::from_bits(UNTOUCHED);
-    (ffi::terrain_bearing(east, north, &mut degrees), degrees)
+    let answer = ffi::terrain_bearing(east, north);
+    (answer.number, answer.degrees)
 }
 
 /// Degrees between two bearings on the circle.
@@ -108,8 +108,8 @@ fn refused(scale: &Scale) -> Tally {
         let (code, out) = bearing_of_port(east, north);
         let (rust, second) = (geo::bearing(east, north), oracle_angles::geo::bearing(east, north));
         let kept = rust == second || (rust.is_nan() && second.is_nan());
-        let good = code == 8 && out.to_bits() == UNTOUCHED && kept;
-        tally.count(good, (east, north), (code, out.to_bits(), second), (8, UNTOUCHED, rust));
+        let good = code == 8 && out.to_bits() == NO_DEGREES && kept;
+        tally.count(good, (east, north), (code, out.to_bits(), second), (8, NO_DEGREES, rust));
     })
 }
 

@@ -63,12 +63,7 @@ fn format() -> Vec<Tally> {
         tallies.push(beside(name, &[&bytes[..]; 4], port, rust));
     }
     let segments = some(|r| [0; 6].map(|_| r.within(8_000_000) as f32 / 1_000.0));
-    let port = |[px, py, ax, ay, bx, by]: [f32; 6]| {
-        let mut out = [0; 2];
-        // SAFETY: the function writes at most these two words. Marks would show in the time.
-        unsafe { port::terrain_project(px, py, ax, ay, bx, by, out.as_mut_ptr()) };
-        Ok(out)
-    };
+    let port = |[px, py, ax, ay, bx, by]: [f32; 6]| port::project(px, py, ax, ay, bx, by);
     let rust = |[px, py, ax, ay, bx, by]: [f32; 6]| rust::project(px, py, ax, ay, bx, by);
     tallies.push(beside("project", &segments, port, rust));
     tallies

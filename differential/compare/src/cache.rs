@@ -9,7 +9,7 @@ pub mod script;
 pub mod unordered;
 
 use crate::random::{Random, pick};
-use crate::{Scale, ffi_cache, tally::Tally};
+use crate::{Scale, replay, tally::Tally};
 use oracle::Oracle;
 use oracle_cache::cache::PAGE_BYTES;
 use packs::Pack;
@@ -38,7 +38,7 @@ impl Case {
 
     /// Counts each answer and the arena; the first that differs is told with the script up to it.
     pub fn count(&self, tally: &mut Tally, name: &str) {
-        let port = ffi_cache::replay(&self.script, &self.pack, &self.arena);
+        let port = replay::replay(&self.script, &self.pack, &self.arena);
         let rust: Vec<u32> = self.answers.iter().flatten().copied().collect();
         let same = port.words == rust && port.arena == self.after && port.alone;
         self.answers.iter().for_each(|answer| tally.end(told([answer[0], answer[1], 0, 0])));
@@ -46,7 +46,7 @@ impl Case {
         tally.told(compared, (!same).then(|| format!("{name}: {}", self.difference(&port))));
     }
 
-    fn difference(&self, port: &ffi_cache::Replayed) -> String {
+    fn difference(&self, port: &replay::Replayed) -> String {
         let rust = self.answers.iter().flatten();
         let Some(n) = rust.zip(&port.words).position(|(rust, port)| rust != port) else {
             let (all, some) = (self.answers.len() * ANSWER, port.words.len());

@@ -59,7 +59,7 @@ fn line(number: usize, status: Status, a: &Ahead) -> String {
     format!("{number} {status} {matched} {} {end} {}\n", a.len, a.confidence)
 }
 
-fn fix(line: &str) -> Option<Fix> {
+pub fn fix(line: &str) -> Option<Fix> {
     let words: Vec<&str> = line.split(' ').collect();
     let [lat, lon, at] = words[..] else {
         return None;
@@ -105,6 +105,29 @@ fn text(pack: &[u8], drive: &str, every: u64) -> String {
     }
     let a = engine.ahead();
     out + &profile::table(&a.samples[..a.len])
+}
+
+/// What each fix is matched to, as of the road that is published then, and the last road's heights.
+fn ridden(pack: &[u8], drive: &str) -> (Vec<Option<(u16, u16, u16)>>, Vec<i16>) {
+    let mut arena = vec![0; PAGES * PAGE_BYTES];
+    let mut engine = Lookahead::new(&mut arena, HORIZON);
+    let (mut card, mut all) = (Card { pack, every: 0, reads: 0 }, Vec::new());
+    for line in drive.lines() {
+        engine.fix(fix(line).expect("a fix"));
+        (0..STEPS).map(|_| engine.step(&mut card)).find(|&status| status != Status::Working);
+        let matched = engine.ahead().matched.as_ref();
+        all.push(matched.map(|m| (m.tile.key.row, m.tile.key.col, m.edge)));
+    }
+    let a = engine.ahead();
+    (all, a.samples[..a.len].to_vec())
+}
+
+pub fn matches(pack: &[u8], drive: &str) -> Vec<Option<(u16, u16, u16)>> {
+    ridden(pack, drive).0
+}
+
+pub fn samples(pack: &[u8], drive: &str) -> Vec<i16> {
+    ridden(pack, drive).1
 }
 
 /// Prints what the program prints for these files.
@@ -243,10 +266,9 @@ pub fn write(pack: &str, drive: &str) -> Vec<Tally> {
     Vec::new()
 }
 
-/// Writes the pack of any network, and a drive of a sled on it, as far as a receiver can tell it.
-pub fn write_any(pack: &str, drive: &str, seed: &str) -> Vec<Tally> {
-    let mut random = Random(seed.parse().expect("a number"));
-    let network = packs::network(&mut random);
+/// The pack of any network, and a drive of a sled on it, as far as a receiver can tell it.
+pub fn any(random: &mut Random) -> (Vec<u8>, String) {
+    let network = packs::network(random);
     let sled = Sled::new(&network);
     let mut at_ms = 0;
     let mut fix = |fix: sled::Fix| {
@@ -255,8 +277,14 @@ pub fn write_any(pack: &str, drive: &str, seed: &str) -> Vec<Tally> {
         let digit = (at_ms % 7) as i32;
         Some(format!("{} {} {at_ms}\n", e7(lat, digit)?, e7(lon, digit)?))
     };
-    let lines: String = sled.fixes(&mut random, 40).into_iter().filter_map(&mut fix).collect();
-    fs::write(pack, &network.pack.bytes).expect("the pack can be written");
+    let lines: String = sled.fixes(random, 40).into_iter().filter_map(&mut fix).collect();
+    (network.pack.bytes.clone(), lines)
+}
+
+/// Writes such a pack and drive.
+pub fn write_any(pack: &str, drive: &str, seed: &str) -> Vec<Tally> {
+    let (bytes, lines) = any(&mut Random(seed.parse().expect("a number")));
+    fs::write(pack, bytes).expect("the pack can be written");
     fs::write(drive, lines).expect("the drive can be written");
     Vec::new()
 }

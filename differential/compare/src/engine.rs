@@ -15,7 +15,7 @@ pub mod trips;
 pub mod unaltered;
 
 use crate::cache::script::{Ending, Record, record};
-use crate::{Scale, ffi_cache, tally::Tally};
+use crate::{Scale, replay, tally::Tally};
 use oracle::Oracle;
 use oracle_angles::{PATHS, Path, TOOK};
 use script::*;
@@ -56,7 +56,7 @@ impl Case {
 
     /// Counts each answer and the arena; the first that differs is told with the script up to it.
     pub fn count(&self, tally: &mut Tally, name: &str) {
-        let port = ffi_cache::replay_engine(&self.script, &joined(&self.packs), &self.arena);
+        let port = replay::replay_engine(&self.script, &joined(&self.packs), &self.arena);
         let rust = self.answers.iter().flat_map(Answer::words);
         let words = port.words.iter().zip(rust).enumerate();
         let same = port.words.len() == self.answers.len() * ANSWER
@@ -68,7 +68,7 @@ impl Case {
         tally.told(compared, (!same).then(|| format!("{name}: {}", self.difference(&port))));
     }
 
-    fn difference(&self, port: &ffi_cache::Replayed) -> String {
+    fn difference(&self, port: &replay::Replayed) -> String {
         if port.words.is_empty() {
             return format!("no answers to {} records", self.script.len());
         }

@@ -1,5 +1,17 @@
-//! The functions of include/terrain.h. Those on numbers and on one place to write to are safe for
-//! every argument that Rust's types allow.
+//! The leaves among the functions of include/terrain.h. Those on numbers are safe for every argument
+//! that Rust's types allow.
+
+#[repr(C)]
+pub struct Degrees {
+    pub number: u32,
+    pub degrees: f32,
+}
+
+#[repr(C)]
+pub struct Printed {
+    pub number: u32,
+    pub length: usize,
+}
 
 unsafe extern "C" {
     fn terrain_crc32(bytes: *const u8, len: usize) -> u32;
@@ -21,8 +33,8 @@ unsafe extern "C" {
     pub safe fn terrain_total_cmp(a: f32, b: f32) -> i32;
     pub safe fn terrain_is_finite(x: f32) -> u32;
     pub safe fn terrain_sqrt(x: f32) -> f32;
-    /// 0, or 8 with `out` left alone.
-    pub safe fn terrain_bearing(east: f32, north: f32, out: &mut f32) -> u32;
+    /// 0 and the degrees, or 8 and 0.
+    pub safe fn terrain_bearing(east: f32, north: f32) -> Degrees;
     pub safe fn terrain_lon_scale_um(lat: i32) -> u32;
     fn terrain_profile_page(
         samples: *const i16,
@@ -30,15 +42,14 @@ unsafe extern "C" {
         page: u32,
         out: *mut u8,
         room: usize,
-        len: &mut usize,
-    ) -> u32;
+    ) -> Printed;
 }
 
-/// 0 and the page's length, or the refusal's number with `len` as it was.
-pub fn profile_page(samples: &[i16], page: u32, out: &mut [u8], len: &mut usize) -> u32 {
+/// 0 and the page's length, or the refusal's number and 0.
+pub fn profile_page(samples: &[i16], page: u32, out: &mut [u8]) -> Printed {
     let (heights, text) = (samples.as_ptr(), out.as_mut_ptr());
-    // SAFETY: pointers and counts are the slices'; only `out` and `len` are written.
-    unsafe { terrain_profile_page(heights, samples.len(), page, text, out.len(), len) }
+    // SAFETY: pointers and counts are the slices'; only `out` is written.
+    unsafe { terrain_profile_page(heights, samples.len(), page, text, out.len()) }
 }
 
 pub fn crc32(bytes: &[u8]) -> u32 {

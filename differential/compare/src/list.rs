@@ -1,12 +1,11 @@
-//! A fixed list of cases for machines without Rust: 4,096 records of four little-endian words,
-//! (kind, a, b, expected). What is expected comes from the original, rustc and libm alone; the
-//! library is then held against it.
+//! Cases of the leaves for the list that is replayed without Rust: kind, two arguments and what is
+//! expected, which comes from the original, rustc and libm alone; the library is then held against
+//! it.
 use crate::numbers::{FUNCTIONS, Function, sample, turns};
-use crate::{ffi, random::Random, tally::Tally};
-use std::fs;
+use crate::{ffi, random::Random, record, tally::Tally};
 
 const RECORDS: usize = 4_096;
-/// The last of them, over the bytes of the others.
+/// The last of them, over the bytes of a pack.
 const CRCS: usize = 256;
 const GRID_LIMIT: i32 = 360_000_000;
 
@@ -56,19 +55,14 @@ fn randoms(records: &mut Vec<Record>, words: &[u32]) {
     }
 }
 
-fn bytes_of(records: &[Record]) -> Vec<u8> {
-    records.iter().flatten().flat_map(|word| word.to_le_bytes()).collect()
-}
-
-/// Every length to 64, all that stands before the checksums, and random ranges of it.
-fn checksums(records: &mut Vec<Record>) -> Tally {
-    let bytes = bytes_of(records);
+/// Every length to 64, all of the bytes, and random ranges of them.
+fn checksums(records: &mut Vec<Record>, bytes: &[u8]) -> Tally {
     let (mut random, mut tally) = (Random(1), Tally::new("crc32"));
     for n in 0..CRCS {
         let len = match n {
             0..=64 => n,
             65 => bytes.len(),
-            _ => random.next() as usize % (1 << random.below(16)),
+            _ => random.next() as usize % (1 << random.below(15)),
         };
         let at = random.below((bytes.len() - len + 1) as u64) as usize;
         let range = &bytes[at..at + len];
@@ -89,13 +83,17 @@ fn answers(f: &Function, records: &[Record]) -> Tally {
     tally
 }
 
-pub fn write(file: &str) -> Vec<Tally> {
+/// Counts and records them; the checksums are over these bytes.
+pub fn count(bytes: &[u8]) -> Vec<Tally> {
     let words: Vec<u32> = turns(1).into_iter().collect();
     let mut records = Vec::new();
     boundaries(&mut records, &words);
     randoms(&mut records, &words);
-    let crc32 = checksums(&mut records);
+    let crc32 = checksums(&mut records, bytes);
     assert_eq!(records.len(), RECORDS);
-    fs::write(file, bytes_of(&records)).unwrap_or_else(|error| panic!("{file}: {error}"));
+    for [kind, given @ ..] in &records {
+        let payload = given.iter().flat_map(|word| word.to_le_bytes());
+        record::case(*kind, &payload.collect::<Vec<_>>());
+    }
     functions().map(|f| answers(f, &records)).chain([crc32]).collect()
 }

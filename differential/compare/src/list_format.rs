@@ -1,17 +1,17 @@
-//! A fixed list of the Rust's answers on format and geometry for machines without Rust, refusals
-//! by the documents' numbers; the library is held against it as it is written.
+//! Cases of the format and the geometry for the list that is replayed without Rust: the Rust's
+//! answers, refusals by the documents' numbers; the library is held against them.
 //!
-//! A case is the u16 length of its payload, its kind (u8), a zero and the payload: what is given,
-//! the number, the words of the answer (zeros if refused) and for tiles their bytes, all
-//! little-endian. Four zeros end the list.
+//! A case is what is given, the number, the words of the answer (zeros if refused), and for a tile
+//! how many bytes it has and they, filled up to whole words.
 use crate::expected::{self as rust, Grid, View};
 use crate::ffi_format::{self as port, Answer};
 use crate::packs::{self, RULES, SPOILT, sector, words};
 use crate::random::{Random, pick};
-use crate::{format, geometry, tally::Tally};
-use std::{array, collections::BTreeSet, fs};
+use crate::{format, geometry, record, tally::Tally};
+use std::{array, collections::BTreeSet};
 
-const MOST: usize = 65_536;
+/// The kind that is none: the first one is the next.
+const BEFORE: usize = 64;
 /// Each kind from 1 on, and the numbers that it has to have.
 #[rustfmt::skip]
 const KINDS: [(&str, &[u32]); 10] = [("header parse", &[0, 3, 4]), ("tile parse", &[0, 4]),
@@ -22,7 +22,6 @@ const KINDS: [(&str, &[u32]); 10] = [("header parse", &[0, 3, 4]), ("tile parse"
 type Both<const N: usize> = (&'static str, Answer<N>, Answer<N>);
 
 struct List {
-    bytes: Vec<u8>,
     tallies: Vec<Tally>,
     met: BTreeSet<(usize, u32)>,
 }
@@ -41,9 +40,13 @@ impl List {
     fn put<const N: usize>(&mut self, kind: usize, given: &[u8], both: Both<N>, tile: &[u8]) {
         let number = both.2.err().unwrap_or(0);
         let answer = [le(&[number]), le(&both.2.unwrap_or([0; N]))].concat();
-        let len = (given.len() + answer.len() + tile.len()) as u16;
-        self.bytes
-            .extend([&len.to_le_bytes()[..], &[kind as u8, 0], given, &answer, tile].concat());
+        let mut payload = [given, &answer].concat();
+        if [2, 6].contains(&kind) {
+            payload.extend(le(&[tile.len() as u32]));
+            payload.extend(tile);
+            payload.resize(payload.len().next_multiple_of(4), 0);
+        }
+        record::case((BEFORE + kind) as u32, &payload);
         self.met.insert((kind, number));
         self.tallies[kind - 1].same(given, both);
     }
@@ -150,21 +153,18 @@ impl List {
     }
 }
 
-pub fn write(file: &str) -> Vec<Tally> {
+/// Counts and records them.
+pub fn count() -> Vec<Tally> {
     let tallies = KINDS.map(|(name, _)| Tally::new(name)).into();
-    let (mut list, random) =
-        (List { bytes: vec![], tallies, met: BTreeSet::new() }, &mut Random(0));
+    let (mut list, random) = (List { tallies, met: BTreeSet::new() }, &mut Random(0));
     list.sectors(random);
     list.tiles(random);
     list.grids(random);
     list.records(random);
     list.geometry(random);
-    list.bytes.extend([0; 4]);
     for (n, (name, numbers)) in KINDS.iter().enumerate() {
         let met = |&number| list.met.contains(&(n + 1, number));
         assert!(numbers.iter().all(met), "{name}: not every number of {numbers:?}");
     }
-    assert!(list.bytes.len() <= MOST, "{} bytes", list.bytes.len());
-    fs::write(file, &list.bytes).unwrap_or_else(|error| panic!("{file}: {error}"));
     list.tallies
 }

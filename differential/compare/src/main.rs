@@ -1,4 +1,4 @@
-//! Compares libabi.a with the Rust original.
+//! Compares libterrain.a with the Rust original.
 
 /// A function's name, the port's answer and the Rust's; each may have a first argument of its own,
 /// and common ones are names, as they stand here twice.
@@ -20,12 +20,13 @@ mod drive;
 mod engine;
 mod expected;
 mod ffi;
-mod ffi_cache;
 mod ffi_format;
+mod ffi_terrain;
 mod format;
 mod geometry;
 mod list;
 mod list_format;
+mod map;
 mod matching;
 mod numbers;
 mod packs;
@@ -33,8 +34,11 @@ mod page;
 mod panics;
 mod profile;
 mod random;
+mod record;
+mod replay;
 mod road;
 mod tally;
+mod words;
 mod write;
 
 use std::{
@@ -107,7 +111,7 @@ const FULL: Scale = Scale {
 /// Every part, on as many threads as there are processors where a part takes one itself: each
 /// thread takes the next part that is left. The tallies come in the parts' order.
 fn compare(scale: &Scale) -> Vec<Tally> {
-    let parts: [fn(&Scale) -> Vec<Tally>; 13] = [
+    let parts: [fn(&Scale) -> Vec<Tally>; 15] = [
         numbers::compare,
         engine::compare,
         matching::compare,
@@ -121,6 +125,8 @@ fn compare(scale: &Scale) -> Vec<Tally> {
         |_| profile::compare(),
         page::compare,
         write::compare,
+        |_| words::compare(),
+        map::compare,
     ];
     let next = AtomicUsize::new(0);
     let done = Mutex::new(parts.map(|_| Vec::new()));
@@ -154,8 +160,14 @@ fn main() -> ExitCode {
         ["full", "format"] => {
             crc::compare(&FULL).into_iter().chain(format_and_geometry(&FULL)).collect()
         }
+        ["gate", "format"] => {
+            crc::compare(&GATE).into_iter().chain(format_and_geometry(&GATE)).collect()
+        }
+        ["gate", "angles"] => angles::compare(&GATE),
         ["gate", "write"] => write::compare(&GATE),
         ["full", "write"] => write::compare(&FULL),
+        ["gate", "map"] => map::compare(&GATE),
+        ["full", "map"] => map::compare(&FULL),
         ["gate", "crossing"] => crossing::compare(&GATE),
         ["full", "crossing"] => crossing::compare(&FULL),
         ["gate", "cache"] => cache::compare(&GATE),
@@ -167,17 +179,14 @@ fn main() -> ExitCode {
         ["gate", "engine"] => engine::compare(&GATE),
         ["full", "engine"] => engine::compare(&FULL),
         ["bench"] => bench::run(),
-        ["list", file] => list::write(file),
-        ["list_format", file] => list_format::write(file),
-        ["list_cache", file] => cache::list::write(file),
-        ["list_matches", file] => matching::list::write(file),
-        ["list_roads", file] => road::list::write(file),
-        ["list_engine", file] => engine::list::write(file),
+        ["list_replay", file] => record::write(file),
         ["bench", "road"] => road::bench::run(),
         ["bench", "engine"] => engine::bench::run(),
+        ["bench", "write"] => write::bench::run(),
         ["panics"] => panics::print(),
         ["gate", "drive"] => drive::compare(),
         ["gate", "profile"] => profile::compare(),
+        ["gate", "words"] => words::compare(),
         ["gate", "page"] => page::compare(&GATE),
         ["full", "page"] => page::compare(&FULL),
         ["drive", pack, list] => drive::print(pack, list, "0"),
@@ -189,7 +198,7 @@ fn main() -> ExitCode {
         ["sample", pack, list, seed] => drive::write_any(pack, list, seed),
         _ => {
             eprintln!(
-                "usage: run [gate [crossing | cache | matching | road | engine | drive | profile | page | write] | full [numbers [NAME] | format | crossing | cache | matching | road | engine | page | write] | bench [road | engine] | panics | list FILE | list_format FILE | list_cache FILE | list_matches FILE | list_roads FILE | list_engine FILE | drive PACK DRIVE [K] | profile [FILE] | sample PACK DRIVE [SEED]"
+                "usage: run [gate [format | angles | crossing | cache | matching | road | engine | drive | profile | page | write | map | words] | full [numbers [NAME] | format | crossing | cache | matching | road | engine | page | write] | bench [road | engine | write] | panics | list_replay FILE | drive PACK DRIVE [K] | profile [FILE] | sample PACK DRIVE [SEED]"
             );
             return ExitCode::from(2);
         }

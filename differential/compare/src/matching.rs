@@ -12,7 +12,7 @@ pub mod unaltered;
 use crate::cache::oracle::Oracle as OfCache;
 use crate::cache::packs::Pack;
 use crate::cache::script::{Ending, MORE, Record, STEP, record};
-use crate::{Scale, ffi_cache, tally::Tally};
+use crate::{Scale, replay, tally::Tally};
 use oracle::{Ended, Oracle};
 use oracle_angles::matcher::Matcher;
 use oracle_angles::{MET, WAYS};
@@ -43,7 +43,7 @@ impl Case {
 
     /// Counts each answer and the arena; the first that differs is told with the script up to it.
     pub fn count(&self, tally: &mut Tally, name: &str) {
-        let port = ffi_cache::replay_matches(&self.script, &self.pack, &self.arena);
+        let port = replay::replay_matches(&self.script, &self.pack, &self.arena);
         let rust: Vec<u32> = self.answers.iter().flatten().copied().collect();
         let words = port.words.iter().zip(&rust).enumerate();
         let same = port.words.len() == rust.len()
@@ -55,7 +55,7 @@ impl Case {
         tally.told(compared, (!same).then(|| format!("{name}: {}", self.difference(&port))));
     }
 
-    fn difference(&self, port: &ffi_cache::Replayed) -> String {
+    fn difference(&self, port: &replay::Replayed) -> String {
         let rust = self.answers.iter().flatten();
         let differs = |(n, (&port, &rust)): (usize, (&u32, &u32))| !script::same(n, port, rust);
         let Some(n) = port.words.iter().zip(rust).enumerate().position(differs) else {

@@ -116,7 +116,7 @@ fn one(tally: &mut Tally, random: &mut Random, n: u64) {
 }
 
 /// The length that is told where nothing was.
-const UNTOLD: usize = 77;
+const UNTOLD: usize = 0;
 
 /// The library's answer, its output and the length that it told; the output may be too short.
 fn lent(tally: &mut Tally, random: &mut Random, n: u64) {
@@ -126,8 +126,8 @@ fn lent(tally: &mut Tally, random: &mut Random, n: u64) {
     let near = random.between(-2, 3) + text.len() as i64;
     let room = pick(&[text.len(), near as usize, random.below(2_200) as usize], random);
     let before = vec![random.bits() as u8; room];
-    let (mut after, mut len) = (before.clone(), UNTOLD);
-    let number = ffi::profile_page(&samples, p, &mut after, &mut len);
+    let mut after = before.clone();
+    let ffi::Printed { number, length } = ffi::profile_page(&samples, p, &mut after);
     let own = if samples.len() > SAMPLES {
         (12, before, UNTOLD)
     } else if room < text.len() {
@@ -135,7 +135,7 @@ fn lent(tally: &mut Tally, random: &mut Random, n: u64) {
     } else {
         (0, [&text[..], &before[text.len()..]].concat(), text.len())
     };
-    let port = (number, after, len);
+    let port = (number, after, length);
     tally.count(port == own, (p, room, &samples), &port, &own);
     tally.end(("number", number));
 }

@@ -4,7 +4,7 @@
 use crate::tally::Tally;
 use std::fs;
 use std::io::Write;
-use std::process::{Command, Stdio};
+use std::process::{Command, Output, Stdio};
 
 pub const ROOT: &str = concat!(env!("CARGO_MANIFEST_DIR"), "/../..");
 
@@ -66,19 +66,23 @@ pub fn print(file: Option<&str>) -> Vec<Tally> {
     Vec::new()
 }
 
-/// What a program of the repository prints for an input. One that ends before it has read all of it
+/// What a program of the repository writes for an input. One that ends before it has read all of it
 /// is no failure.
-pub fn printed(program: &str, words: &[&str], input: &[u8]) -> Vec<u8> {
+pub fn ran(program: &str, words: &[&str], input: &[u8]) -> Output {
     let path = format!("{ROOT}/target/bin/{program}");
     let mut child = Command::new(&path)
         .args(words)
         .stdin(Stdio::piped())
         .stdout(Stdio::piped())
-        .stderr(Stdio::null())
+        .stderr(Stdio::piped())
         .spawn()
         .unwrap_or_else(|why| panic!("{path}: {why} (rt check {program} builds it)"));
     let _ = child.stdin.take().expect("piped").write_all(input);
-    child.wait_with_output().expect("the program ends").stdout
+    child.wait_with_output().expect("the program ends")
+}
+
+pub fn printed(program: &str, words: &[&str], input: &[u8]) -> Vec<u8> {
+    ran(program, words, input).stdout
 }
 
 fn lines(text: &[u8]) -> Vec<&[u8]> {

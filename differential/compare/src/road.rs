@@ -14,7 +14,7 @@ pub mod unaltered;
 
 use crate::cache::packs::Pack;
 use crate::cache::script::{Ending, Record, SET_BYTE, SET_HEADER, SET_SLOT, record};
-use crate::{Scale, ffi_cache, matching, tally::Tally};
+use crate::{Scale, matching, replay, tally::Tally};
 use oracle_angles::{RULES, Rule, WAS};
 use script::*;
 use std::sync::atomic::Ordering;
@@ -44,7 +44,7 @@ impl Case {
 
     /// Counts each answer and the arena; the first that differs is told with the script up to it.
     pub fn count(&self, tally: &mut Tally, name: &str) {
-        let port = ffi_cache::replay_roads(&self.script, &self.pack, &self.arena);
+        let port = replay::replay_roads(&self.script, &self.pack, &self.arena);
         let same = port.words.len() == self.answers.len() * ANSWER
             && self.answers.iter().flat_map(Answer::words).eq(port.words.iter().copied())
             && port.arena == self.after
@@ -54,7 +54,7 @@ impl Case {
         tally.told(compared, (!same).then(|| format!("{name}: {}", self.difference(&port))));
     }
 
-    fn difference(&self, port: &ffi_cache::Replayed) -> String {
+    fn difference(&self, port: &replay::Replayed) -> String {
         let rust: Vec<u32> = self.answers.iter().flat_map(Answer::words).collect();
         let Some(n) = port.words.iter().zip(&rust).position(|(port, rust)| port != rust) else {
             let at = port.arena.iter().zip(&self.after).position(|(port, rust)| port != rust);

@@ -1,6 +1,11 @@
 //! The program `write_pack`, and by it both writers: a pack of the comparison's own generator is
 //! told as text, field by field, and the program has to write it, byte for byte, in whatever order
-//! its tiles are told. The Rust parses and drives over such packs in the other parts.
+//! its tiles are told. The Rust parses and drives over such packs in the other parts. Of a text that
+//! makes no pack the program has to say so with the line and number that the account has.
+mod account;
+pub mod bench;
+mod texts;
+
 use crate::Scale;
 use crate::engine::packs;
 use crate::packs::{seal, seal_sector};
@@ -9,6 +14,9 @@ use crate::random::Random;
 use crate::tally::Tally;
 use oracle::pack::{Header, TileKey};
 use oracle::tile::Tile;
+
+/// Changes of each text.
+const CHANGES: usize = 6;
 
 fn u16_at(bytes: &[u8], at: usize) -> u16 {
     u16::from_le_bytes(bytes[at..at + 2].try_into().expect("2 bytes"))
@@ -132,7 +140,23 @@ fn one(tally: &mut Tally, random: &mut Random) {
     tally.count(written(&blocks).is_empty(), "outside the grid", &blocks[0][..12], 0);
 }
 
+/// Changes of one pack's text.
+fn messages(tally: &mut Tally, random: &mut Random) {
+    let pack = packs::network(random).pack.bytes;
+    let Some(all) = tiles(&pack) else { return };
+    let text = grid(&pack) + &all.into_iter().map(tile).collect::<String>();
+    (0..CHANGES).for_each(|_| texts::spoilt(tally, random, &text));
+}
+
 pub fn compare(scale: &Scale) -> Vec<Tally> {
     let step = |tally: &mut Tally, random: &mut Random, _| one(tally, random);
-    vec![Tally::over("write_pack", scale, scale.written, step)]
+    let spoilt = |tally: &mut Tally, random: &mut Random, n| {
+        if n == 0 {
+            texts::fixed(tally);
+        }
+        messages(tally, random);
+    };
+    let mut told = Tally::over("write_pack, messages", scale, scale.written, spoilt);
+    texts::met(&mut told);
+    vec![Tally::over("write_pack", scale, scale.written, step), told]
 }

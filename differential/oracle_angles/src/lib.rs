@@ -1,5 +1,5 @@
 //! The Rust original with its two angle functions answered by the port: build.rs writes the
-//! sources to target/terrain_angles and links libabi.a. The ways of matcher, prediction and engine
+//! sources to target/terrain_angles and links libterrain.a. The ways of matcher, prediction and engine
 //! are counted.
 #![no_std]
 
@@ -205,7 +205,14 @@ mod changed {
 }
 pub use changed::*;
 
+/// The degrees, or a number that is not 0.
+#[repr(C)]
+struct Degrees {
+    number: u32,
+    degrees: f32,
+}
+
 unsafe extern "C" {
-    safe fn terrain_bearing(east: f32, north: f32, out: &mut f32) -> u32;
+    safe fn terrain_bearing(east: f32, north: f32) -> Degrees;
     safe fn terrain_lon_scale_um(lat: i32) -> u32;
 }

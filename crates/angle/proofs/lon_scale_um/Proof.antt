@@ -1,4 +1,4 @@
--- `angle::lon_scale_um` meets its contract: each operation is one step of the definition. Assumes nothing.
+-- `angle::lon_scale_um` meets its contract: each operation is one step of the definition.
 use mir.Facts.{toZ-ofZ}
 use Rattle.angle.specs.Cosine.{lonScaleUm}
 use borrow.Author.Needs.{needs}

@@ -1,5 +1,4 @@
 -- `crc::crc32` meets its contract: the register of 32 ones takes the octets, and its complement is the check sequence.
--- Assumes nothing.
 use mathlib.Core.Path.{sym}
 use native.Mathlib.Omega.{arith}
 use Rattle.crc.proofs.Laws.{takes-crc}

@@ -1,5 +1,4 @@
 -- `crc::crc32_skipping` meets its contract: the register takes the octets before, as many zeros as there are octets to skip, and the octets behind.
--- Assumes nothing.
 use Prim.Native.Nat.{ℕ, zero, suc, _+_, _-_, _≤_}
 use mathlib.Core.Path.{_≡_, refl, sym, ap, _∙_}
 use mathlib.Core.List.{List, _∷_, _++_}

@@ -1,4 +1,4 @@
--- `crc::crc_eight` meets its contract: the eight entries are the sum that `takes-sum` asks for. Assumes nothing.
+-- `crc::crc_eight` meets its contract: the eight entries are the sum that `takes-sum` asks for.
 use Prim.Native.Nat.{ℕ, zero, suc, _+_, _/_}
 use mathlib.Core.Path.{_≡_, refl, sym, ap, ap₂, subst, _∙_}
 use mathlib.Core.Bool.{Bool}

@@ -1,5 +1,4 @@
 -- `crc::crc_octets` meets its contract: with the octets that are left before it, whatever follows leaves the same from the register as from the one at the start.
--- Assumes nothing.
 use Prim.Native.Nat.{ℕ, _≤_, _<_, _-_, _/_, _^_}
 use mathlib.Core.Path.{_≡_, refl, sym, ap, _∙_}
 use mathlib.Core.Bool.{Bool}

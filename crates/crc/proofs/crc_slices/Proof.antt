@@ -1,5 +1,4 @@
 -- `crc::crc_slices` meets its contract: at each turn the register has taken the octets before `i`, eight more at a time, and at the end those that are left.
--- Assumes nothing.
 use Prim.Native.Nat.{ℕ, _+_, _-_, _≤_}
 use mathlib.Core.Path.{_≡_, refl, sym, ap, _∙_}
 use mathlib.Core.List.{List, _++_}

@@ -1,4 +1,4 @@
--- `crc::crc_update` meets its contract: both of the ways to take the octets do, and the slices have their rule. Assumes nothing.
+-- `crc::crc_update` meets its contract: both of the ways to take the octets do, and the slices have their rule.
 use borrow.Author.Needs.{needs}
 use Rattle.crc.proofs.Rule.{slices, slices-rule}
 use Rattle.crc.proofs.crc_update.Statement.{statement}

@@ -1,4 +1,4 @@
--- `crc::entry` meets its contract: the table's rule at the low octet. Assumes nothing.
+-- `crc::entry` meets its contract: the table's rule at the low octet.
 use Prim.Native.Nat.{ℕ}
 use mathlib.Core.Path.{ap, _∙_}
 use native.Mathlib.Omega.{arith}

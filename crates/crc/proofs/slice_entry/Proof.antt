@@ -1,4 +1,4 @@
--- `crc::slice_entry` meets its contract: the slices' rule at the low octet. Assumes nothing.
+-- `crc::slice_entry` meets its contract: the slices' rule at the low octet.
 use Prim.Native.Nat.{ℕ, _-_, _*_}
 use mathlib.Core.Path.{sym, ap, _∙_}
 use native.Mathlib.Omega.{arith}

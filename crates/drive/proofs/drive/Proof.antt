@@ -1,4 +1,4 @@
--- `drive` is safe and ends: each turn takes a number more of 65,535, and the arena keeps its length. Assumes nothing.
+-- `drive` is safe and ends: each turn takes a number more of 65,535, and the arena keeps its length.
 use Prim.Native.Nat.{_≤_, _-_}
 use mathlib.Core.Path.{_≡_}
 use lib.ListN.{length}

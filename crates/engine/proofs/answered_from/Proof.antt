@@ -1,4 +1,4 @@
--- `engine::answered_from` meets its contract: each return by whether the pack has the bytes (`bytes-there`, `bytes-past`). Assumes nothing.
+-- `engine::answered_from` meets its contract: each return by whether the pack has the bytes (`bytes-there`, `bytes-past`).
 use Prim.Native.Nat.{ℕ, _+_, _-_}
 use mathlib.Core.Path.{_≡_, sym, _∙_}
 use mathlib.Core.List.{List, []}

@@ -1,4 +1,4 @@
--- `geo::edge_point` meets its contract. Each return by the tests that led there. Assumes nothing.
+-- `geo::edge_point` meets its contract. Each return by the tests that led there.
 use mathlib.Core.Path.{sym, _∙_}
 use mir.Syntax.{w32}
 use borrow.Author.Needs.{needs}

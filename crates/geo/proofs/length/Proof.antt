@@ -1,4 +1,4 @@
--- `geo::length` meets its contract: a figure that is not finite is refused, and else the length is that of `flat::length`. Assumes nothing.
+-- `geo::length` meets its contract: a figure that is not finite is refused, and else the length is that of `flat::length`.
 use mathlib.Core.Path.{sym, _∙_}
 use borrow.Author.Needs.{needs}
 use borrow.Author.Tests.{not-true, not-false}

@@ -1,4 +1,4 @@
--- `geo::project` meets its contract: a figure that is not finite is refused, and else the projection is that of `flat::project`. Assumes nothing.
+-- `geo::project` meets its contract: a figure that is not finite is refused, and else the projection is that of `flat::project`.
 use mathlib.Core.Path.{sym, _∙_}
 use borrow.Author.Needs.{needs}
 use borrow.Author.Tests.{not-true, not-false}

@@ -1,4 +1,4 @@
--- `geo::turn` meets its contract: a heading beyond 360 degrees is refused, and else the turn is that of `flat::turn`. Assumes nothing.
+-- `geo::turn` meets its contract: a heading beyond 360 degrees is refused, and else the turn is that of `flat::turn`.
 use mathlib.Core.Path.{sym, _∙_}
 use borrow.Author.Needs.{needs}
 use borrow.Author.Tests.{not-true, not-false}

@@ -1,4 +1,4 @@
--- `matcher::edge_step` meets its contract: each return by what the scan found. Assumes nothing.
+-- `matcher::edge_step` meets its contract: each return by what the scan found.
 use mathlib.Core.Path.{sym, _∙_}
 use borrow.Author.Needs.{needs}
 use Rattle.matcher.specs.Tile.{edgeStep}

@@ -1,5 +1,4 @@
 -- `matcher::nearby` meets its contract: each return by the refusals tested before it, the point's numbers read back from their bits.
--- Assumes nothing.
 use mathlib.Core.Path.{sym, _∙_}
 use mir.Syntax.{w32}
 use borrow.Author.Tests.{not-true, not-false}

@@ -1,5 +1,4 @@
 -- `matcher::search` meets its contract. The loop's invariant: the candidates kept so far are the definition's after as many turns.
--- Assumes nothing.
 use Prim.Native.Nat.{ℕ, _-_, _≤_}
 use mathlib.Core.Path.{_≡_, sym}
 use native.Mathlib.Omega.{arith}

@@ -1,5 +1,4 @@
 -- `pack::header_at` meets its contract. A call for each field, in the order of the struct.
--- Assumes nothing.
 use mir.Syntax.{w32}
 use Rattle.pack.proofs.Signed.{got}
 use Rattle.pack.proofs.header_at.Statement.{statement}

@@ -1,5 +1,4 @@
 -- `pack::is_magic` meets its contract. Each return by the tests that led there.
--- Assumes nothing.
 use mathlib.Core.Bool.{and-true}
 use borrow.Author.Tests.{eq-eqb, ne-eqb}
 use Rattle.pack.proofs.is_magic.Statement.{statement}

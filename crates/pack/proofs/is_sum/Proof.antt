@@ -1,5 +1,4 @@
 -- `pack::is_sum` meets its contract. The part that is summed is the first 508 bytes.
--- Assumes nothing.
 use mathlib.Core.Path.{sym}
 use native.Mathlib.Omega.{arith}
 use lib.Seq.{length-take-le}

@@ -1,5 +1,4 @@
 -- `pack::read` meets its contract. What the code tests by a difference the definition tests by a sum.
--- Assumes nothing.
 use Prim.Native.Nat.{_+_}
 use native.Mathlib.Omega.{arith}
 use lib.ListN.{length}

@@ -1,5 +1,4 @@
 -- `pack::spans` meets its contract. The far end fits 64 bits, so its test is the definition's.
--- Assumes nothing.
 use native.Mathlib.Omega.{arith}
 use lib.IntN.{negsuc}
 use Rattle.pack.proofs.Rise.{small, rise-is, sum-fits, sum-is}

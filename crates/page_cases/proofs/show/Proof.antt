@@ -1,4 +1,4 @@
--- `show` is safe and ends: a page that was written lies within the buffer. Assumes nothing.
+-- `show` is safe and ends: a page that was written lies within the buffer.
 use mathlib.Core.Path.{sym, _∙_}
 use native.Mathlib.Omega.{arith}
 use lib.Seq.{length-take-le}

@@ -1,4 +1,4 @@
--- `show_all` is safe and ends: the page number goes up to twelve. Assumes nothing.
+-- `show_all` is safe and ends: the page number goes up to twelve.
 use Prim.Native.Nat.{_≤_, _-_}
 use borrow.Author.Needs.{needs}
 use Rattle.page_cases.proofs.show_all.Statement.{statement}

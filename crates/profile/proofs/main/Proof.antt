@@ -1,4 +1,4 @@
--- `profile::main` meets its contract: the text that is written lies within the buffer. Assumes nothing.
+-- `profile::main` meets its contract: the text that is written lies within the buffer.
 use mathlib.Core.Path.{sym, ap}
 use native.Mathlib.Omega.{arith}
 use lib.ListN.{length, length-append}

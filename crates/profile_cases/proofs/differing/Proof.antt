@@ -1,4 +1,4 @@
--- `differing` is safe and ends. The loop's invariant: so many whole metres and decimetres since the last half make up the count. Assumes nothing.
+-- `differing` is safe and ends. The loop's invariant: so many whole metres and decimetres since the last half make up the count.
 use Prim.Native.Nat.{ℕ, zero, suc, _+_, _-_, _*_, _/_, _<_, _≤_}
 use mathlib.Core.Path.{_≡_}
 use native.Mathlib.Omega.{arith}

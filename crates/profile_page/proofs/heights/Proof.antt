@@ -1,4 +1,4 @@
--- `heights` is safe and ends: the count goes up to the number of heights, which the array keeps. Assumes nothing.
+-- `heights` is safe and ends: the count goes up to the number of heights, which the array keeps.
 use Prim.Native.Nat.{_≤_, _-_}
 use mathlib.Core.Path.{_≡_}
 use native.Mathlib.Omega.{arith}

@@ -1,4 +1,4 @@
--- `number` is safe and ends: the place goes up to the end of the word. Assumes nothing.
+-- `number` is safe and ends: the place goes up to the end of the word.
 use Prim.Native.Nat.{_≤_, _-_}
 use lib.ListN.{length}
 use borrow.Author.Needs.{needs}

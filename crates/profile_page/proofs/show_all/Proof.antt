@@ -1,4 +1,4 @@
--- `show_all` is safe and ends: no road has more than eleven pages. Assumes nothing.
+-- `show_all` is safe and ends: no road has more than eleven pages.
 use Prim.Native.Nat.{_≤_, _-_}
 use borrow.Author.Needs.{needs}
 use Rattle.profile_page.proofs.show_all.Statement.{statement}

@@ -1,4 +1,4 @@
--- `put` meets its contract: a store within the buffer, whose length the slice of the whole tells. Assumes nothing.
+-- `put` meets its contract: a store within the buffer, whose length the slice of the whole tells.
 use native.Mathlib.Omega.{arith}
 use borrow.Author.Needs.{needs}
 use Rattle.profile_text.proofs.Laws.{append-one}

@@ -1,5 +1,4 @@
 -- `put_bytes` meets its contract. The loop's invariant: the first i bytes of the text are put. The measure is what is left of it.
--- Assumes nothing.
 use Prim.Native.Nat.{_+_, _-_, _≤_}
 use native.Mathlib.Nat.{add-zero}
 use native.Mathlib.Omega.{arith}

@@ -1,4 +1,4 @@
--- `put_line` meets its contract: the four parts of a line, one behind the other. Assumes nothing.
+-- `put_line` meets its contract: the four parts of a line, one behind the other.
 use Prim.Native.Nat.{_<_}
 use mathlib.Core.Path.{_≡_, ap, _∙_}
 use native.Mathlib.Nat.{mul-comm}

@@ -1,5 +1,5 @@
 -- `put_number` meets its contract. The loop's invariant: n's digits are those of what is left, and then those that stand from `first` on.
--- As n has at most five and what is left has one, there is room for another (`room`). The measure is `first`. Assumes nothing.
+-- As n has at most five and what is left has one, there is room for another (`room`). The measure is `first`.
 use Prim.Native.Nat.{ℕ, suc, _+_, _-_, _/_, _%_, _<_, _≤_}
 use mathlib.Core.Path.{_≡_, refl, sym, ap, _∙_}
 use mathlib.Core.List.{List, _∷_, _++_, append-assoc, append-nil}

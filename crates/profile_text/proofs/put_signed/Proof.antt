@@ -1,4 +1,4 @@
--- `put_signed` meets its contract: a '-' before the size of a number below 0. Assumes nothing.
+-- `put_signed` meets its contract: a '-' before the size of a number below 0.
 use mathlib.Core.Path.{_≡_, ap}
 use mathlib.Core.Bool.{true, false}
 use mathlib.Core.List.{_∷_}

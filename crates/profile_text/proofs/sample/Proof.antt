@@ -1,4 +1,4 @@
--- `sample` meets its contract: two bytes make 16 bits, which from 32768 up stand for -1 less their complement. Assumes nothing.
+-- `sample` meets its contract: two bytes make 16 bits, which from 32768 up stand for -1 less their complement.
 use Prim.Native.Nat.{ℕ, _+_, _*_, _-_, _≤_}
 use mathlib.Core.Path.{_≡_}
 use native.Mathlib.Omega.{arith}

@@ -1,4 +1,4 @@
--- `size` meets its contract: below 0 the code's -1 - z is one less. Assumes nothing.
+-- `size` meets its contract: below 0 the code's -1 - z is one less.
 use mathlib.Core.Path.{_≡_, ap, _∙_}
 use mathlib.Core.Bool.{true, false}
 use native.Mathlib.Omega.{arith}

@@ -1,5 +1,5 @@
 -- `text` meets its contract. The loop's invariant: behind the heading stand the lines of the first i samples, of 12 bytes each at most.
--- The measure is what is left of the samples. Assumes nothing.
+-- The measure is what is left of the samples.
 use Prim.Native.Nat.{ℕ, _+_, _-_, _*_, _/_, _%_, _<_, _≤_}
 use mathlib.Core.Path.{_≡_}
 use mathlib.Core.List.{List, _++_}
@@ -16,6 +16,7 @@ use mir.Val.{toZ, ofZ}
 use borrow.Author.Needs.{needs}
 use borrow.Author.Tests.{le-leb, lt-leb, eq-eqb, ne-eqb}
 use Rattle.num.specs.Cast.{signed16}
+use Rattle.profile_text.specs.Codes.{codes}
 use Rattle.profile_text.specs.Appended.{Appended}
 use Rattle.profile_text.specs.Text.{profile, heading, badInput, line, lines, linesBy, samples}
 use Rattle.profile_text.proofs.Laws.{append-none, append-more, whole, length-line, lines-more, length-samples, sample-at}
@@ -62,7 +63,7 @@ put-bytes-requires : tie.Need-put-bytes-requires Inv-loop μ-loop
 put-bytes-requires c κs = search needs
 
 returns : tie.Need-returns Inv-loop μ-loop
-unfolding badInput
+unfolding badInput codes
 returns c = rw (too-long _ (c .before .before .before .if1 .taken)) (whole (c .put-bytes .ensures))
 
 slice-aggregate-put-bytes-2 : tie.Need-slice-aggregate-put-bytes-2 Inv-loop μ-loop
@@ -72,7 +73,7 @@ put-bytes-requires-2 : tie.Need-put-bytes-requires-2 Inv-loop μ-loop
 put-bytes-requires-2 c κs = search needs
 
 returns-2 : tie.Need-returns-2 Inv-loop μ-loop
-unfolding badInput
+unfolding badInput codes
 returns-2 c = rw (odd _ (c .before .before .before .before .if1 .left) (c .before .before .before .if2 .taken)) (whole (c .put-bytes2 .ensures))
 
 slice-aggregate-put-bytes-3 : tie.Need-slice-aggregate-put-bytes-3 Inv-loop μ-loop
@@ -111,7 +112,7 @@ loop-again c =
     )
 
 returns-3 : tie.Need-returns-3 Inv-loop μ-loop
-unfolding heading
+unfolding heading codes
 returns-3 c =
     let short = c .before .before .before .before .before .before .if1 .left in
     let even = c .before .before .before .before .before .if2 .left in

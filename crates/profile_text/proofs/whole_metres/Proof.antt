@@ -1,5 +1,4 @@
 -- `whole_metres` meets its contract: quotient, remainder and the metres, one further from zero, fit 16 bits, and the code's tests decide what the definition does.
--- Assumes nothing.
 use mathlib.Core.Path.{_≡_, sym, ap, _∙_}
 use native.Mathlib.Omega.{arith}
 use lib.IntN.{ℤ, pos}

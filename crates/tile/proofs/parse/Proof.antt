@@ -1,5 +1,4 @@
 -- `tile::parse` meets its contract: a clause that fails refuses, and at the end all of them hold.
--- Assumes nothing.
 use Prim.Native.Nat.{_<_}
 use mathlib.Core.Path.{sym, _∙_}
 use native.Mathlib.Omega.{arith}

@@ -4,7 +4,7 @@
 use super::packs::{self, Pack, row};
 use super::script::*;
 use super::{Case, Writer};
-use crate::{ffi_cache, tally::Tally};
+use crate::{replay, tally::Tally};
 use oracle_cache::cache::{Cache, PAGE_BYTES};
 use std::{hint::black_box, time::Instant};
 
@@ -19,11 +19,11 @@ fn nanoseconds(run: impl FnOnce()) -> f64 {
 
 /// The best of several passes of `script`'s last record.
 fn of_port(case: &Case) -> f64 {
-    let (script, arena) = (bytes(&case.script), &mut case.arena.clone());
+    let (script, arena) = (&case.script, &mut case.arena.clone());
     let mut best = |times| {
         let run = |_| {
             nanoseconds(|| {
-                black_box(ffi_cache::repeat(&script, &case.pack, arena, times));
+                black_box(replay::repeat(script, &case.pack, arena, times));
             })
         };
         (0..PASSES).map(run).fold(f64::INFINITY, f64::min)

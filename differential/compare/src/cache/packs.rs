@@ -1,6 +1,6 @@
 //! Packs for a cache from a seed: tiles at the limits of pages and chunks, entries and tiles that
 //! are refused, and packs that end too early.
-use super::{list, script::word};
+use super::script::word;
 use crate::packs::{Plain, seal, sector, words};
 use crate::random::{Random, pick};
 use oracle::pack::{Header, TileKey};
@@ -221,49 +221,24 @@ pub fn of(lens: &[usize]) -> Pack {
     built.pack()
 }
 
-/// A tile of each kind and size, for a list that is kept.
+/// Tiles of several sizes and cells of each way that have none, for a list that is kept.
 pub fn every() -> Pack {
     let random = &mut Random(7);
-    let lens = [32, 500, 2_048, 2_050, 8_192, 8_194, 16_384, 24_578, 40_960, 49_152];
-    let (rows, cols) = (3, 6);
+    let lens = [32, 500, 2_048, 2_050, 8_192, 8_194, 16_384];
+    let (rows, cols) = (3, 5);
     let mut built = begun(rows, cols, 1_000);
     for (n, key) in keys(rows, cols).enumerate() {
         match lens.get(n) {
             Some(&len) => built.put(&tile(random, key, 1_000, len)),
-            None => built.odd(random, key, 12 + n as u64 - lens.len() as u64),
+            None => built.odd(random, key, 12 + (n - lens.len()) as u64 % 8),
         }
     }
     built.pack()
 }
 
-/// The pack with the vertices of its tiles, and all of what is no tile, as a list's pattern has
-/// them, so that the list need not tell them.
-pub fn patterned(mut pack: Pack) -> Pack {
-    let entries = pack.bytes[512..pack.header.data as usize].to_vec();
-    for entry in entries.chunks_exact(8) {
-        let [at, len] = [0, 4]
-            .map(|n| u32::from_le_bytes(entry[n..n + 4].try_into().expect("4 bytes")) as usize);
-        let end = at.saturating_add(len);
-        if at < pack.header.data as usize || end > pack.bytes.len() || len > LARGEST {
-            continue;
-        }
-        let bytes = &mut pack.bytes[at..end];
-        let (is_tile, is_good) = (bytes.starts_with(b"VT"), is_sealed(bytes));
-        let counts = |at: usize| usize::from(u16::from_le_bytes([bytes[at], bytes[at + 1]]));
-        let from = if is_tile { 32 + 8 * counts(8) + 20 * counts(10) } else { 0 };
-        (from..len).for_each(|n| bytes[n] = list::pattern(at + n));
-        if is_tile {
-            seal(bytes);
-            bytes[24] ^= u8::from(!is_good);
-        }
-    }
-    pack
-}
-
-fn is_sealed(bytes: &[u8]) -> bool {
-    let mut copy = bytes.to_vec();
-    seal(&mut copy);
-    copy == bytes
+/// The largest tile, and some small ones.
+pub fn largest() -> Pack {
+    of(&[49_152, 500, 8_194])
 }
 
 /// Row `n` of `of`.

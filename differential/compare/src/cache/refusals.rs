@@ -25,7 +25,7 @@ const ENTRY: u32 = 512 + 8 * 3;
 /// Records that change a state: kind and words.
 type Changes = &'static [(u32, &'static [u32])];
 
-/// Calls that are given the state alone, state and header, and also the arena.
+/// Calls that are given state and arena, and those that are also given the header.
 const OF_STATE: [u32; 3] = [CLEAR, CAPACITY, LOADS];
 const OF_HEADER: [u32; 1] = [PAGES];
 const OF_ARENA: [u32; 5] = [GET, FETCH, LOAD, STEP, LOAD_FROM];
@@ -48,6 +48,13 @@ const PAST_THE_COUNT: &[(&str, Changes)] = &[
     ("the largest count", &[(SET_COUNT, &[u32::MAX])]),
 ];
 
+/// Wider than a slot's fields: the words hold them, and no state does.
+const TOO_WIDE: &[(&str, Changes)] = &[
+    ("an empty page with a length of 17 bits", &[(SET_SLOT, &[5, NO_KEY, 65_536, 0, 0])]),
+    ("an empty page with the largest length", &[(SET_SLOT, &[95, NO_KEY, u32::MAX, 1, 0])]),
+    ("a part of page 256", &[(SET_SLOT, &[4, NO_KEY, 0, 0, 257])]),
+];
+
 const LACKING: &[(&str, Changes)] = &[
     ("a run without its second page", &[(SET_SLOT, &[2, NO_KEY, 0, 0, 0])]),
     ("a run without its last page", &[(SET_SLOT, &[3, NO_KEY, 0, 0, 0])]),
@@ -64,7 +71,7 @@ const LACKING: &[(&str, Changes)] = &[
     ("a part of itself", &[(SET_SLOT, &[4, NO_KEY, 0, 0, 5])]),
     ("a part of a later page", &[(SET_SLOT, &[4, NO_KEY, 0, 0, 6])]),
     ("a part of a page past the slots", &[(SET_SLOT, &[4, NO_KEY, 0, 0, 97])]),
-    ("a part of the largest page", &[(SET_SLOT, &[4, NO_KEY, 0, 0, u32::MAX])]),
+    ("a part of the largest page", &[(SET_SLOT, &[4, NO_KEY, 0, 0, u32::MAX >> 2])]),
 ];
 
 /// Not refused: a length and a mark in a page that starts no run, which nothing reads.
@@ -73,7 +80,7 @@ const NOT_READ: &[(&str, Changes)] = &[
     ("a part that is ready", &[(SET_SLOT, &[2, NO_KEY, 0, 1, 2])]),
     ("an empty page with a length", &[(SET_SLOT, &[5, NO_KEY, 8_193, 0, 0])]),
     ("an empty page that is ready", &[(SET_SLOT, &[5, NO_KEY, 0, 1, 0])]),
-    ("an empty page past the count with both", &[(SET_SLOT, &[8, NO_KEY, u32::MAX, 1, 0])]),
+    ("an empty page past the count with both", &[(SET_SLOT, &[8, NO_KEY, 65_535, 1, 0])]),
     ("an empty last slot with both", &[(SET_SLOT, &[95, NO_KEY, 100, 1, 0])]),
 ];
 
@@ -212,7 +219,9 @@ impl Rows<'_> {
     /// Every call refuses such a state, whatever else is wrong with it.
     fn states(&mut self) {
         let all = [OVERLAPPING, PAST_THE_COUNT, LACKING, LOAD_WITHOUT_RUN, ALL_DONE];
-        for (name, changes) in all.into_iter().chain([PAST_THE_RING, NOT_OPENED]).flatten() {
+        for (name, changes) in
+            all.into_iter().chain([PAST_THE_RING, NOT_OPENED, TOO_WIDE]).flatten()
+        {
             self.row(name, |writer| {
                 change(writer, changes);
                 let kinds = [&OF_ARENA[..], &OF_HEADER, &OF_STATE].concat();
@@ -227,6 +236,24 @@ impl Rows<'_> {
             refuse(writer, &OF_ARENA, ABSENT_TILE, 12);
             refuse(writer, &OF_STATE, 0, 12);
         });
+    }
+
+    /// An open entry outside the grid of the header that a call is given: what is given none ends as
+    /// the Rust's.
+    fn open_entries(&mut self) {
+        for key in OUTSIDE {
+            self.row("an open entry outside the grid", |writer| {
+                writer.put(SET_PENDING, &[2, key]);
+                let kinds = [&OF_ARENA[..], &OF_HEADER].concat();
+                refuse(writer, &kinds, ABSENT_TILE, 12);
+                refuse(writer, &kinds, key, 12);
+                deliver(writer, 12, &[[ABSENT_TILE, 0, 0, 7], [key, 0, 0, 0]]);
+                ask(writer, &[CAPACITY, LOADS], 0);
+                writer.oracle.pending = [0, NO_KEY];
+                ask(writer, &[CLEAR], 0);
+                ask(writer, &[GET], ABSENT_TILE);
+            });
+        }
     }
 
     /// What is given the header refuses it; what isn't ends as the Rust's.
@@ -257,9 +284,9 @@ impl Rows<'_> {
         for lent in [bytes - 1, bytes - PAGE_BYTES as u32, 0] {
             self.row("an arena shorter than its pages", |writer| {
                 writer.put(SET_LENT, &[lent]);
-                refuse(writer, &OF_ARENA, READY_TILE, 12);
+                let kinds = [&OF_ARENA[..], &OF_HEADER, &OF_STATE].concat();
+                refuse(writer, &kinds, READY_TILE, 12);
                 refuse(writer, &OF_ARENA, OUTSIDE[0], 12);
-                ask(writer, &[PAGES, CAPACITY, LOADS, CLEAR], READY_TILE);
             });
         }
         self.row("an arena as long as its pages", |writer| {
@@ -490,6 +517,7 @@ pub fn rows(pack: &Pack) -> Vec<(String, Case)> {
         [READY_TILE, LOADING_TILE, MISSING_TILE, ABSENT_TILE, OTHER_TILE]
     );
     rows.states();
+    rows.open_entries();
     rows.headers();
     rows.arenas();
     rows.keys();

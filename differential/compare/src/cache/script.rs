@@ -1,4 +1,5 @@
-//! Scripts of calls on a cache, and the endings of their answers: docs/REPLAY.md has the format.
+//! Scripts of calls on a cache, and the endings of their answers: the records that
+//! `replay::cache` takes.
 use oracle_cache::pack::TileKey;
 
 pub type Record = [u32; 6];
@@ -83,8 +84,4 @@ pub fn word(key: TileKey) -> u32 {
 
 pub fn key(word: u32) -> TileKey {
     TileKey { row: (word >> 16) as u16, col: word as u16 }
-}
-
-pub fn bytes(script: &[Record]) -> Vec<u8> {
-    script.iter().flatten().flat_map(|word| word.to_le_bytes()).collect()
 }

@@ -1,14 +1,14 @@
 //! Nanoseconds a step, the port beside the unaltered Rust: idle, the header, a chunk, a tile's last
-//! chunk, a match, a road. Each step runs many times from one state: the port's by `terrain_repeat`,
+//! chunk, a match, a road. Each step runs many times from one state: the port's by `repeat_engine`,
 //! the Rust's on a copy of the engine. What repeating costs by itself, a record of no kind and the
 //! copy alone, is taken off. Passes of both take turns, and medians count, of the thread's own time. A
 //! step is `step_from`.
 use super::script::*;
 use super::{Case, joined};
-use crate::cache::script::{Record, bytes, record};
+use crate::cache::script::{Record, record};
 use crate::matching::roads::{Grid, Network, Road};
 use crate::road::networks::{highway, plain};
-use crate::{ffi_cache, random::Random, tally::Tally};
+use crate::{random::Random, replay, tally::Tally};
 use oracle::engine::{Fix, Lookahead};
 use oracle_angles::cache::PAGE_BYTES;
 use std::{hint::black_box, mem::ManuallyDrop, ptr};
@@ -126,14 +126,14 @@ impl Bench<'_> {
         let mut tally = Tally::new(self.name);
         full.count(&mut tally, self.name);
         let (packs, mut lent) = (joined(&full.packs), full.arena.clone());
-        let scripts = [&full, &empty].map(|case| bytes(&case.script));
+        let scripts = [&full, &empty].map(|case| &case.script);
         let mut arena = vec![0; self.pages * PAGE_BYTES];
         let mut engine = Lookahead::new(&mut arena, 10_000.0);
         let calls = setup().chain(self.calls.iter().copied());
         calls.for_each(|call| self.run(&mut engine, call));
         let mut port = |n: usize| {
             nanoseconds(|| {
-                black_box(ffi_cache::repeat_engine(&scripts[n], &packs, &mut lent, TIMES));
+                black_box(replay::repeat_engine(scripts[n], &packs, &mut lent, TIMES));
             })
         };
         let rust = |is_there| nanoseconds(|| self.copies(&engine, is_there));

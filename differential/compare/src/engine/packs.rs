@@ -38,7 +38,7 @@ pub fn bad_entries(pack: &[u8], one_in: u64, random: &mut Random) -> Vec<u8> {
 }
 
 /// A few bits of tiles changed, so that some are corrupt.
-fn spoilt(pack: &[u8], random: &mut Random) -> Vec<u8> {
+pub fn spoilt(pack: &[u8], random: &mut Random) -> Vec<u8> {
     let mut bytes = pack.to_vec();
     let data = 512 + 8 * entries(pack);
     for _ in 0..1 + random.below(4) {

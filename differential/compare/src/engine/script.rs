@@ -1,4 +1,4 @@
-//! Scripts of calls on an engine, and their answers: docs/REPLAY.md has the format.
+//! Scripts of calls on an engine, and their answers: the records that `replay::engine` takes.
 use crate::cache::script::Ending;
 
 /// Words of an answer, and those before the heights.

@@ -5,9 +5,9 @@
 use super::roads::{Fate, Grid, Network, Road};
 use super::script::*;
 use super::{Case, Writer};
-use crate::cache::script::{DONE, bytes, ends};
+use crate::cache::script::{DONE, ends};
 use crate::random::Random;
-use crate::{ffi_cache, ffi_format, tally::Tally};
+use crate::{ffi_format, replay, tally::Tally};
 use oracle::{cache::Cache, geo::Point, matcher::Matcher, pack::Header, pack::TileKey};
 use oracle_cache::cache::PAGE_BYTES;
 use std::{hint::black_box, time::Instant};
@@ -50,10 +50,10 @@ fn network(roads: u64, vertices: u64) -> Network {
 }
 
 fn of_port(case: &Case) -> f64 {
-    let (script, arena) = (bytes(&case.script), &mut case.arena.clone());
+    let (script, arena) = (&case.script, &mut case.arena.clone());
     let mut time = |times| {
         best(|| {
-            black_box(ffi_cache::repeat_matches(&script, &case.pack, arena, times));
+            black_box(replay::repeat_matches(script, &case.pack, arena, times));
         })
     };
     time(TIMES) - time(0)

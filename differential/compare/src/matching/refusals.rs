@@ -41,6 +41,7 @@ pub const CACHES: &[(&str, Changes)] = &[
     ),
     ("an open entry of a ready tile", &[(SET_PENDING, &[2, 0])]),
     ("an open chunk without a load", &[(SET_PENDING, &[3])]),
+    ("an open entry outside the grid", &[(SET_PENDING, &[2, 2 << 16])]),
     ("an arena shorter than its pages", &[(SET_LENT, &[PAGES * PAGE_BYTES as u32 - 1])]),
     ("no arena", &[(SET_LENT, &[0])]),
 ];

@@ -1,4 +1,4 @@
-//! Scripts of calls on a matcher and its cache: docs/REPLAY.md has the format.
+//! Scripts of calls on a matcher and its cache: the records that `replay::matching` takes.
 use super::super::cache::script::{self as cache, NO_KEY};
 use oracle_angles::matcher::{Matched, Matcher};
 use oracle_angles::pack::TileKey;

@@ -7,10 +7,10 @@ use super::script::{IS_ROAD, ROAD};
 use super::start::{self, Summed, Words};
 use super::town::Town;
 use super::{Case, Writer};
-use crate::cache::script::{DONE, bytes, ends};
+use crate::cache::script::{DONE, ends};
 use crate::matching::roads::{Grid, Network};
 use crate::random::Random;
-use crate::{ffi_cache, ffi_format, tally::Tally};
+use crate::{ffi_format, replay, tally::Tally};
 use oracle::pack::{Header, TileKey};
 use oracle::{cache::Cache, matcher::Matched, predict::predict, tile::TileId};
 use oracle_cache::cache::PAGE_BYTES;
@@ -31,10 +31,10 @@ fn best(mut run: impl FnMut()) -> f64 {
 }
 
 fn of_port(case: &Case) -> f64 {
-    let (script, arena) = (bytes(&case.script), &mut case.arena.clone());
+    let (script, arena) = (&case.script, &mut case.arena.clone());
     let mut time = |times| {
         best(|| {
-            black_box(ffi_cache::repeat_roads(&script, &case.pack, arena, times));
+            black_box(replay::repeat_roads(script, &case.pack, arena, times));
         })
     };
     time(TIMES) - time(0)

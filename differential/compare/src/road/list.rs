@@ -1,10 +1,8 @@
-//! A fixed list of scripts of roads for machines without Rust: the Rust's answers, and the table's
-//! where the Rust has no refusal. crates/replay_cache replays it behind the lists of scripts on the
-//! cache and on the matcher; the library is held against it as it is written.
+//! Scripts of roads for the list that is replayed without Rust: some rows of the table of refusals,
+//! and roads of all ends on small networks.
 use super::script::*;
 use super::start::{self, Summed, Words};
 use super::{Case, networks, refusals};
-use crate::cache::list::{Blocks, Filed};
 use crate::cache::script::REFUSED;
 use crate::matching::roads::Network;
 use crate::matching::script::{NEED, NOTHING};
@@ -12,10 +10,7 @@ use crate::random::Random;
 use crate::tally::Tally;
 use oracle_cache::cache::PAGE_BYTES;
 use std::collections::BTreeMap;
-use std::fs;
 
-/// Marks a script of roads.
-const OF_ROADS: u32 = 512;
 /// Roads of each end that the list has.
 const EACH: usize = 2;
 /// Pages whose budget is two, so that roads over three tiles end for memory.
@@ -27,11 +22,6 @@ const STATES: [&str; 4] = [
     "an arena shorter than its pages",
     "a directory that ends early",
 ];
-
-fn filed(case: &Case) -> Filed<'_> {
-    let answers = case.answers.iter().map(|answer| answer.words().collect()).collect();
-    Filed { pack: &case.pack, arena: &case.arena, script: &case.script, answers, mark: OF_ROADS }
-}
 
 /// Roads from some starts, with all tiles loaded.
 fn roads(network: &Network, starts: &[Words]) -> Case {
@@ -112,16 +102,12 @@ fn rows() -> Vec<Case> {
     rows.filter(|(name, case)| is_kept(name, case)).map(|(_, case)| case).collect()
 }
 
-pub fn write(file: &str) -> Vec<Tally> {
-    let mut blocks = Blocks::default();
-    let mut tally = Tally::new("refusals");
-    let (pack, rows) = (refusals::network().pack, rows());
-    rows.iter().for_each(|case| case.count(&mut tally, "list"));
-    blocks.put(&pack.bytes, &rows.iter().map(filed).collect::<Vec<_>>());
-    let mut other = Tally::new("roads");
-    for (network, case) in ends_of_roads(&mut Random(21)) {
+/// Counts and records them.
+pub fn count() -> Vec<Tally> {
+    let (mut tally, mut other) = (Tally::new("refusals"), Tally::new("roads"));
+    rows().iter().for_each(|case| case.count(&mut tally, "list"));
+    for (_, case) in ends_of_roads(&mut Random(21)) {
         case.count(&mut other, "list");
-        blocks.put(&network.pack.bytes, &[filed(&case)]);
     }
     for number in [9, 10, 12] {
         assert!(tally.ended(told(&[REFUSED, number, 0, 0])), "no refusal {number}");
@@ -129,7 +115,5 @@ pub fn write(file: &str) -> Vec<Tally> {
     for how in [NOTHING, NEED, REMATCH] {
         assert!(tally.ended(told(&[how, 0, 0, 0])), "no ending {how}");
     }
-    fs::write(file, &blocks.bytes).unwrap_or_else(|error| panic!("{file}: {error}"));
-    println!("{} answers in {} bytes", blocks.answers, blocks.bytes.len());
     vec![tally, other]
 }

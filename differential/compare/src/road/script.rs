@@ -1,4 +1,4 @@
-//! Scripts of calls on predictions, the matcher and its cache: docs/REPLAY.md has the format.
+//! Scripts of calls on predictions, the matcher and its cache: the records that `replay::road` takes.
 use crate::cache::script::Ending;
 use crate::matching::script as matching;
 

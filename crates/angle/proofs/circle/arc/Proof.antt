@@ -1,4 +1,4 @@
--- `circle::arc` meets its contract: each term is one step of the series, each at most its coefficient, and q's square is at most 1. Assumes nothing.
+-- `circle::arc` meets its contract: each term is one step of the series, each at most its coefficient, and q's square is at most 1.
 use Prim.Native.Nat.{_*_, _/_, _^_}
 use native.Mathlib.Nat.{mul-le-mul}
 use native.Mathlib.Omega.{arith}

@@ -1,4 +1,4 @@
--- `circle::bearing` meets its contract: a figure that is not finite is refused, and else the bearing is that of `degrees`. Assumes nothing.
+-- `circle::bearing` meets its contract: a figure that is not finite is refused, and else the bearing is that of `degrees`.
 use mathlib.Core.Path.{sym, _∙_}
 use borrow.Author.Tests.{not-true, not-false}
 use Rattle.angle.specs.Bearing as Bearing

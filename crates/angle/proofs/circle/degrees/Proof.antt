@@ -1,5 +1,4 @@
 -- `circle::degrees` meets its contract: the magnitudes are those of the patterns with their signs cleared, and n * 2 ^ 1042 of the smallest doubles is n / 2 ^ 32.
--- Assumes nothing.
 use Prim.Native.Nat.{ℕ, _*_, _%_, _^_}
 use mathlib.Core.Path.{_≡_, refl, sym, ap₂, _∙_}
 use mathlib.Core.Bool.{true, false, not, true≢false}

@@ -1,4 +1,4 @@
--- `circle::quarter` meets its contract: the patterns are in the order of the magnitudes, and an arc is at most 45 degrees. Assumes nothing.
+-- `circle::quarter` meets its contract: the patterns are in the order of the magnitudes, and an arc is at most 45 degrees.
 use native.Mathlib.Omega.{arith}
 use mathlib.Core.Path.{_∙_}
 use borrow.Author.Needs.{needs}

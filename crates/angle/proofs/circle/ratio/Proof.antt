@@ -1,4 +1,4 @@
--- `circle::ratio` meets its contract: the powers of 2 cancel but for the difference of the shifts, which shifts a quotient of fewer than 64 digits. Assumes nothing.
+-- `circle::ratio` meets its contract: the powers of 2 cancel but for the difference of the shifts, which shifts a quotient of fewer than 64 digits.
 use borrow.Author.Needs.{needs}
 use Rattle.angle.proofs.Ratio.{digits-positive, shift-at-most, shifted-ratio, far-ratio, pattern-ratio-most}
 use Rattle.angle.proofs.circle.ratio.Statement.{statement}

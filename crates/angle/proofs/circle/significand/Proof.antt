@@ -1,4 +1,4 @@
--- `circle::significand` meets its contract: the fields of a pattern are its digits and its shift. Assumes nothing.
+-- `circle::significand` meets its contract: the fields of a pattern are its digits and its shift.
 use Prim.Native.Nat.{_%_}
 use native.Mathlib.Nat.{mul-one}
 use native.Mathlib.Omega.{arith}

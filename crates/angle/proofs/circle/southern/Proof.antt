@@ -1,4 +1,4 @@
--- `circle::southern` meets its contract: its test is the definition's, and 0.0 is its zero. Assumes nothing.
+-- `circle::southern` meets its contract: its test is the definition's, and 0.0 is its zero.
 use native.Mathlib.Omega.{arith}
 use lib.Ieee.{ofBits}
 use borrow.Author.Needs.{needs}

@@ -1,4 +1,4 @@
--- `circle::term` meets its contract: s is at most 1, so the product is at most p, and p at most c. Assumes nothing.
+-- `circle::term` meets its contract: s is at most 1, so the product is at most p, and p at most c.
 use native.Mathlib.Nat.{mul-le-mul-right}
 use native.Mathlib.Omega.{arith}
 use borrow.Author.Needs.{needs}

@@ -1,4 +1,4 @@
--- `circle::western` meets its contract: its test is the definition's, and 0.0 is its zero. Assumes nothing.
+-- `circle::western` meets its contract: its test is the definition's, and 0.0 is its zero.
 use lib.Ieee.{ofBits}
 use borrow.Author.Needs.{needs}
 use Rattle.angle.proofs.circle.western.Statement.{statement}

@@ -1,4 +1,4 @@
--- `cosine::cos_near` meets its contract: it is the definition, its decimal constants the same doubles as the definition's patterns. Assumes nothing.
+-- `cosine::cos_near` meets its contract: it is the definition, its decimal constants the same doubles as the definition's patterns.
 use mathlib.Core.Path.{refl}
 use Rattle.angle.specs.Cosine.{cosNear}
 use Rattle.angle.proofs.cosine.cos_near.Statement.{statement}

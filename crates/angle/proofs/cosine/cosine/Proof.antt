@@ -1,4 +1,4 @@
--- `cosine::cosine` meets its contract: each call and each test is one step of the definition. Assumes nothing.
+-- `cosine::cosine` meets its contract: each call and each test is one step of the definition.
 use mathlib.Core.Path.{_≡_, _∙_}
 use borrow.Author.Tests.{eq-eqb, ne-eqb}
 use Rattle.num.specs.Order.{fabsf}

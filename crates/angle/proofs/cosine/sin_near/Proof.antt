@@ -1,4 +1,4 @@
--- `cosine::sin_near` meets its contract: it is the definition, its decimal constants the same doubles as the definition's patterns. Assumes nothing.
+-- `cosine::sin_near` meets its contract: it is the definition, its decimal constants the same doubles as the definition's patterns.
 use mathlib.Core.Path.{refl}
 use Rattle.angle.specs.Cosine.{sinNear}
 use Rattle.angle.proofs.cosine.sin_near.Statement.{statement}

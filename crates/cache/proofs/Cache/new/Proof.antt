@@ -1,4 +1,4 @@
--- `cache::Cache::new` meets its contract: each return by the number of pages that the arena has. Assumes nothing.
+-- `cache::Cache::new` meets its contract: each return by the number of pages that the arena has.
 use Prim.Native.Nat.{_/_, min}
 use mathlib.Core.Path.{_≡_}
 use native.Mathlib.Omega.{arith}

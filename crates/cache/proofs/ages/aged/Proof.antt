@@ -1,4 +1,4 @@
--- `cache::ages::aged` meets its contract: clock and ages alone are stored. Assumes nothing.
+-- `cache::ages::aged` meets its contract: clock and ages alone are stored.
 use mathlib.Core.Path.{refl}
 use Rattle.cache.specs.Ages.{aged}
 use Rattle.cache.proofs.ages.aged.Statement.{statement}

@@ -1,4 +1,4 @@
--- `cache::ages::inside` meets its contract: the two tests that nothing wraps in are the one that the run lies in the arena. Assumes nothing.
+-- `cache::ages::inside` meets its contract: the two tests that nothing wraps in are the one that the run lies in the arena.
 use Prim.Native.Nat.{ℕ, _+_, _*_, _-_, _≤_}
 use mathlib.Core.Path.{_≡_, refl, sym, _∙_}
 use mathlib.Core.Bool.{Bool, true, false}

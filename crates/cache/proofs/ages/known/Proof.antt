@@ -1,5 +1,4 @@
 -- `cache::ages::known` meets its contract: past the last of the 96 marks none is set, so that the test of the place changes nothing.
--- Assumes nothing.
 use mathlib.Core.Path.{_≡_, sym, _∙_}
 use mathlib.Core.Bool.{false}
 use mathlib.Core.Logic.{⊎-elim}

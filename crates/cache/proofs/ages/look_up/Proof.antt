@@ -1,4 +1,4 @@
--- `cache::ages::look_up` meets its contract: each return by the ring, by the search for a ready run, and by the run's check. Assumes nothing.
+-- `cache::ages::look_up` meets its contract: each return by the ring, by the search for a ready run, and by the run's check.
 use mathlib.Core.Path.{sym, _∙_}
 use borrow.Author.Needs.{needs}
 use borrow.Author.Tests.{not-true, not-false}

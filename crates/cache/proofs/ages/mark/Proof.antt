@@ -1,4 +1,4 @@
--- `cache::ages::mark` meets its contract: a store past the last of the 96 ages and marks stores nothing. Assumes nothing.
+-- `cache::ages::mark` meets its contract: a store past the last of the 96 ages and marks stores nothing.
 use mathlib.Core.Path.{_≡_, sym, _∙_}
 use native.Mathlib.Omega.{arith}
 use lib.ListN.{length, length-map}

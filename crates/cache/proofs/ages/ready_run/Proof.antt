@@ -1,5 +1,5 @@
 -- `cache::ages::ready_run` meets its contract. The loop's invariant: no page passed starts a ready run of the key. Past the last of the 96 pages
--- stands the empty slot, which is not ready and has no length. Assumes nothing.
+-- stands the empty slot, which is not ready and has no length.
 use Prim.Native.Nat.{ℕ, _≤_, _-_}
 use mathlib.Core.Path.{_≡_, refl, sym, _∙_}
 use mathlib.Core.Bool.{false}
@@ -61,13 +61,16 @@ element-copy-out-s c = search needs
 is-ready-requires : tie.Need-is-ready-requires Inv-loop μ-loop
 is-ready-requires c κs = tt
 
+cast-t13 : tie.Need-cast-t13 Inv-loop μ-loop
+cast-t13 c = search needs
+
 returns-2 : tie.Need-returns-2 Inv-loop μ-loop
 unfolding readyAt
 returns-2 c =
-    let turn = c .before .before .before .before in
+    let turn = c .before .before .before .before .before in
     let at-loop = turn .before .loop in (
       lowest-hit _ (at-loop .i) (turn .before .before .args .t1 .count) (turn .loop-test .taken) (at-loop .inv .1)
-          (sym (c .before .is-ready .ensures) ∙ c .if2 .taken),
+          (sym (c .before .before .is-ready .ensures) ∙ c .before .if2 .taken),
       refl,
     )
 
@@ -107,6 +110,7 @@ ready-run-spec =
     mul-s
     element-copy-out-s
     is-ready-requires
+    cast-t13
     returns-2
     add-i
     loop-less

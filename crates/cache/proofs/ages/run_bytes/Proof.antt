@@ -1,5 +1,4 @@
 -- `cache::ages::run_bytes` meets its contract: the two tests that nothing wraps in are the one that the run lies in the arena.
--- Assumes nothing.
 use Prim.Native.Nat.{_+_, _*_}
 use native.Mathlib.Nat.{add-sub-cancel-left}
 use native.Mathlib.Omega.{arith}

@@ -1,4 +1,4 @@
--- `cache::begin::begin` meets its contract: each return by the victim that was found. Assumes nothing.
+-- `cache::begin::begin` meets its contract: each return by the victim that was found.
 use mathlib.Core.Path.{sym, _∙_}
 use borrow.Author.Needs.{needs}
 use Rattle.cache.proofs.begin.begin.Statement.{statement}

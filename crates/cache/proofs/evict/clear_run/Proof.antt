@@ -1,5 +1,5 @@
 -- `cache::evict::clear_run` meets its contract. The loop's invariant: clearing the pages that are left, from where the loop stands, is
--- clearing all of them from the start. Past the last page nothing is left to clear. Assumes nothing.
+-- clearing all of them from the start. Past the last page nothing is left to clear.
 use mathlib.Core.Path.{_≡_, refl, sym, _∙_}
 use lib.ListN.{length-map}
 use borrow.Author.Needs.{needs}

@@ -1,5 +1,5 @@
 -- `cache::evict::evict` meets its contract. The loop's invariant: evicting the pages that are left, from where the loop stands, is
--- evicting all of them from the start. Past the last page nothing is left to evict. Assumes nothing.
+-- evicting all of them from the start. Past the last page nothing is left to evict.
 use mathlib.Core.Path.{_≡_, refl, sym, _∙_}
 use lib.ListN.{length-map}
 use borrow.Author.Needs.{needs}

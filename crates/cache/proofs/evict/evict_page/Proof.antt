@@ -1,4 +1,4 @@
--- `cache::evict::evict_page` meets its contract, call by call. Assumes nothing.
+-- `cache::evict::evict_page` meets its contract, call by call.
 use Rattle.cache.specs.Evict.{evictedPage}
 use Rattle.cache.proofs.evict.evict_page.Statement.{statement}
 use Rattle.cache.proofs.evict.evict_page.Tie as tie

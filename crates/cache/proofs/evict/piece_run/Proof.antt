@@ -1,5 +1,5 @@
 -- `cache::evict::piece_run` meets its contract. The loop's invariant: writing the pages that are left, from where the loop stands, is
--- writing all of them from the start. Past the last page nothing is left to write. Assumes nothing.
+-- writing all of them from the start. Past the last page nothing is left to write.
 use mathlib.Core.Path.{_≡_, refl, sym, _∙_}
 use native.Mathlib.Omega.{arith}
 use lib.ListN.{length, length-map, length-set}

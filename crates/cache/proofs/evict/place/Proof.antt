@@ -1,4 +1,4 @@
--- `cache::evict::place` meets its contract: past the last page the definition writes nothing either. Assumes nothing.
+-- `cache::evict::place` meets its contract: past the last page the definition writes nothing either.
 use mathlib.Core.Path.{_≡_, sym, _∙_}
 use native.Mathlib.Omega.{arith}
 use lib.ListN.{length, length-map}
@@ -23,6 +23,9 @@ element-set-from-d c = search needs
 span-requires : tie.Need-span-requires
 span-requires c κs = tt
 
+cast-piece-run : tie.Need-cast-piece-run
+cast-piece-run c = search needs
+
 add-piece-run : tie.Need-add-piece-run
 add-piece-run c = search needs
 
@@ -43,6 +46,7 @@ place-spec =
     mul-t11
     element-set-from-d
     span-requires
+    cast-piece-run
     add-piece-run
     sub-piece-run
     piece-run-requires

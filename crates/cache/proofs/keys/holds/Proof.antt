@@ -1,4 +1,4 @@
--- `cache::keys::holds` meets its contract: each return by what the option is. Assumes nothing.
+-- `cache::keys::holds` meets its contract: each return by what the option is.
 use borrow.Author.Needs.{needs}
 use Rattle.cache.proofs.keys.holds.Statement.{statement}
 use Rattle.cache.proofs.keys.holds.Tie as tie

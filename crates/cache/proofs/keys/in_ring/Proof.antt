@@ -1,4 +1,4 @@
--- `cache::keys::in_ring` meets its contract. The loop's invariant: no place passed holds the key. Assumes nothing.
+-- `cache::keys::in_ring` meets its contract. The loop's invariant: no place passed holds the key.
 use Prim.Native.Nat.{ℕ, _≤_, _-_}
 use mathlib.Core.Path.{_≡_, sym, _∙_}
 use native.Mathlib.Omega.{arith}

@@ -1,4 +1,4 @@
--- `cache::keys::is_ready` meets its contract: each return by the slot's `ready`. Assumes nothing.
+-- `cache::keys::is_ready` meets its contract: each return by the slot's `ready`.
 use Rattle.cache.specs.Keys.{isReady}
 use Rattle.cache.proofs.keys.is_ready.Statement.{statement}
 use Rattle.cache.proofs.keys.is_ready.Tie as tie

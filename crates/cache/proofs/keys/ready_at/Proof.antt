@@ -1,5 +1,5 @@
 -- `cache::keys::ready_at` meets its contract. The loop's invariant: no page passed starts a ready run of the key. Past the last of the
--- 96 pages stands the empty slot, which is not ready. Assumes nothing.
+-- 96 pages stands the empty slot, which is not ready.
 use Prim.Native.Nat.{ℕ, _≤_, _-_}
 use mathlib.Core.Path.{_≡_, sym, _∙_}
 use mathlib.Core.Bool.{false}

@@ -1,4 +1,4 @@
--- `cache::keys::same_key` meets its contract: each return by the test of the rows. Assumes nothing.
+-- `cache::keys::same_key` meets its contract: each return by the test of the rows.
 use borrow.Author.Tests.{eq-eqb, ne-eqb}
 use Rattle.cache.proofs.keys.same_key.Statement.{statement}
 use Rattle.cache.proofs.keys.same_key.Tie as tie

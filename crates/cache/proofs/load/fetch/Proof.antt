@@ -1,4 +1,4 @@
--- `cache::load::fetch` meets its contract: each return by the refusals tested before it. Assumes nothing.
+-- `cache::load::fetch` meets its contract: each return by the refusals tested before it.
 use mathlib.Core.Path.{sym, _∙_}
 use borrow.Author.Tests.{not-true, not-false}
 use Rattle.cache.specs.Calls.{fetch}

@@ -1,5 +1,4 @@
 -- `cache::load::load_from` meets its contract: each return by the refusals tested before it, and the step over the lent pack by `from-steps`.
--- Assumes nothing.
 use mathlib.Core.Path.{sym, _∙_}
 use borrow.Author.Needs.{needs}
 use borrow.Author.Tests.{not-true, not-false}

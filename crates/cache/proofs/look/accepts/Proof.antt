@@ -1,4 +1,4 @@
--- `cache::look::accepts` meets its contract: an answer of `parse` tells whether the bytes are accepted. Assumes nothing.
+-- `cache::look::accepts` meets its contract: an answer of `parse` tells whether the bytes are accepted.
 use mathlib.Core.Path.{sym, _∙_}
 use borrow.Author.Needs.{needs}
 use Rattle.tile.proofs.Within.{parse-accepts, parse-refuses}

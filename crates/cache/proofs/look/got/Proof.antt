@@ -1,4 +1,4 @@
--- `cache::look::got` meets its contract: each return by what the lookup landed on, and a ready run by its check. Assumes nothing.
+-- `cache::look::got` meets its contract: each return by what the lookup landed on, and a ready run by its check.
 use mathlib.Core.Path.{sym, _∙_}
 use borrow.Author.Needs.{needs}
 use Rattle.cache.specs.Lookups.{got}
@@ -20,6 +20,9 @@ enum-known-i c = search needs
 slot-at-requires : tie.Need-slot-at-requires
 slot-at-requires c κs = tt
 
+cast-len : tie.Need-cast-len
+cast-len c = search needs
+
 passes-requires : tie.Need-passes-requires
 passes-requires c κs = tt
 
@@ -30,7 +33,7 @@ returns : tie.Need-returns
 unfolding got
 returns c =
     let checked = c .before .before in
-    let run = checked .before in
+    let run = checked .before .before in
     let found = run .before .before .before in
     rw (
       sym (found .before .before .lands-on .ensures) ∙ found .i .given .1,
@@ -50,7 +53,7 @@ returns-3 c = rw (sym (c .before .before .lands-on .ensures) ∙ c .enum-told2 .
 returns-4 : tie.Need-returns-4
 unfolding got
 returns-4 c =
-    let run = c .before .before in
+    let run = c .before .before .before in
     let found = run .before .before .before in
     rw (
       sym (found .before .before .lands-on .ensures) ∙ found .i .given .1,
@@ -67,6 +70,7 @@ got-spec =
     enum-told-2
     enum-known-i
     slot-at-requires
+    cast-len
     passes-requires
     touch-requires
     returns

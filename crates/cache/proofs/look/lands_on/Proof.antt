@@ -1,4 +1,4 @@
--- `cache::look::lands_on` meets its contract: each return by the ring and by the ready run that was found. Assumes nothing.
+-- `cache::look::lands_on` meets its contract: each return by the ring and by the ready run that was found.
 use mathlib.Core.Path.{sym, _∙_}
 use borrow.Author.Needs.{needs}
 use Rattle.cache.specs.Lookups.{landsOn}

@@ -1,4 +1,4 @@
--- `cache::look::pages_of` meets its contract: each return by the ready run that was found. Assumes nothing.
+-- `cache::look::pages_of` meets its contract: each return by the ready run that was found.
 use mathlib.Core.Path.{sym, _∙_}
 use borrow.Author.Needs.{needs}
 use Rattle.cache.specs.Lookups.{pagesOf}
@@ -14,6 +14,9 @@ enum-known-i c = search needs
 slot-at-requires : tie.Need-slot-at-requires
 slot-at-requires c κs = tt
 
+cast-span : tie.Need-cast-span
+cast-span c = search needs
+
 span-requires : tie.Need-span-requires
 span-requires c κs = tt
 
@@ -23,8 +26,8 @@ enum-told c = search needs
 returns : tie.Need-returns
 unfolding pagesOf
 returns c =
-    let found = c .before .before .before in
-    rw (sym (found .before .before .ready-at .ensures) ∙ found .i .given .1, c .span .ensures, c .before .slot-at .ensures)
+    let found = c .before .before .before .before in
+    rw (sym (found .before .before .ready-at .ensures) ∙ found .i .given .1, c .span .ensures, c .before .before .slot-at .ensures)
 
 returns-2 : tie.Need-returns-2
 unfolding pagesOf
@@ -37,6 +40,7 @@ pages-of-spec =
     ready-at-requires
     enum-known-i
     slot-at-requires
+    cast-span
     span-requires
     enum-told
     returns

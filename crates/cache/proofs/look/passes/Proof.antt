@@ -1,5 +1,4 @@
 -- `cache::look::passes` meets its contract: the two tests that nothing wraps in are the one that the run lies in the arena.
--- Assumes nothing.
 use Prim.Native.Nat.{ℕ, _+_, _*_, _-_}
 use mathlib.Core.Path.{_≡_}
 use native.Mathlib.Omega.{arith}

@@ -1,4 +1,4 @@
--- `cache::look::touch` meets its contract: the state is written in place, and a store past the last of the 96 ages stores nothing. Assumes nothing.
+-- `cache::look::touch` meets its contract: the state is written in place, and a store past the last of the 96 ages stores nothing.
 use mathlib.Core.Path.{_≡_, sym, _∙_}
 use native.Mathlib.Omega.{arith}
 use lib.ListN.{length, length-map}

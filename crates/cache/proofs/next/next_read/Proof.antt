@@ -1,4 +1,4 @@
--- `cache::next::next_read` meets its contract: each return by the load under way and its key. Assumes nothing.
+-- `cache::next::next_read` meets its contract: each return by the load under way and its key.
 use mathlib.Core.Path.{sym, _∙_}
 use borrow.Author.Needs.{needs}
 use Rattle.cache.proofs.next.next_read.Statement.{statement}

@@ -1,4 +1,4 @@
--- `cache::next::next_step` meets its contract: each return by what the lookup landed on. Assumes nothing.
+-- `cache::next::next_step` meets its contract: each return by what the lookup landed on.
 use mathlib.Core.Path.{sym, _∙_}
 use borrow.Author.Needs.{needs}
 use borrow.Author.Tests.{eq-eqb, ne-eqb}

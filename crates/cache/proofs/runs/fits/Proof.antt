@@ -1,4 +1,4 @@
--- `cache::runs::fits` meets its contract: each return by what the page is and the tests that led there. Assumes nothing.
+-- `cache::runs::fits` meets its contract: each return by what the page is and the tests that led there.
 use Prim.Native.Nat.{_<_}
 use native.Mathlib.Omega.{arith}
 use borrow.Author.Tests.{lt-ltb, le-ltb, le-leb, lt-leb}
@@ -17,11 +17,17 @@ enum-told c = search needs
 enum-told-2 : tie.Need-enum-told-2
 enum-told-2 c = search needs
 
+cast-result : tie.Need-cast-result
+cast-result c = search needs
+
 enum-told-3 : tie.Need-enum-told-3
 enum-told-3 c = search needs
 
 enum-told-4 : tie.Need-enum-told-4
 enum-told-4 c = search needs
+
+cast-span : tie.Need-cast-span
+cast-span c = search needs
 
 span-requires : tie.Need-span-requires
 span-requires c κs = tt
@@ -29,8 +35,8 @@ span-requires c κs = tt
 add-result : tie.Need-add-result
 unfolding span
 add-result c =
-    let start = c .before .before .before .before .before .before .before in
-    let short : start .args .s .len < 18446744073709551616 = start .good .0 .1 .1 .1 .0 .1 in
+    let start = c .before .before .before .before .before .before .before .before in
+    let short : start .args .s .len < 65536 = start .good .0 .1 .1 .1 .0 .1 in
     omega (arith, c .span .ensures, short)
 
 enum-told-5 : tie.Need-enum-told-5
@@ -55,8 +61,8 @@ returns-3 c =
 returns-4 : tie.Need-returns-4
 unfolding fits
 returns-4 c =
-    let key = c .before .before .before in
-    rw (key .before .before .enum-told3 .given .1, key .enum-told4 .given .1, le-leb _ _ (c .before .if2 .taken), c .span .ensures)
+    let key = c .before .before .before .before in
+    rw (key .before .before .enum-told3 .given .1, key .enum-told4 .given .1, le-leb _ _ (c .before .before .if2 .taken), c .span .ensures)
 
 returns-5 : tie.Need-returns-5
 unfolding fits
@@ -77,8 +83,10 @@ fits-spec =
     enum-known-part
     enum-told
     enum-told-2
+    cast-result
     enum-told-3
     enum-told-4
+    cast-span
     span-requires
     add-result
     enum-told-5

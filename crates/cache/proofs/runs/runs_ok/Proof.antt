@@ -1,4 +1,4 @@
--- `cache::runs::runs_ok` meets its contract. The loop's invariant: what is known of the pages passed, with the last run (`Passed`). Assumes nothing.
+-- `cache::runs::runs_ok` meets its contract. The loop's invariant: what is known of the pages passed, with the last run (`Passed`).
 use Prim.Native.Nat.{_≤_, _-_}
 use mathlib.Core.Path.{_≡_, sym, _∙_}
 use native.Mathlib.Omega.{arith}

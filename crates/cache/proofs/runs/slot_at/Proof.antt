@@ -1,4 +1,4 @@
--- `cache::runs::slot_at` meets its contract: past the last of the 96 slots the definition has the empty one. Assumes nothing.
+-- `cache::runs::slot_at` meets its contract: past the last of the 96 slots the definition has the empty one.
 use mathlib.Core.Path.{_≡_, sym, _∙_}
 use native.Mathlib.Omega.{arith}
 use lib.ListN.{length, length-map, List·getD-eq-default}

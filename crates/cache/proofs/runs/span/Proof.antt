@@ -1,4 +1,4 @@
--- `cache::runs::span` meets its contract: for no bytes the definition's difference stops at 0. Assumes nothing.
+-- `cache::runs::span` meets its contract: for no bytes the definition's difference stops at 0.
 use mathlib.Core.Path.{refl}
 use borrow.Author.Needs.{needs}
 use Rattle.cache.specs.Runs.{span}

@@ -1,4 +1,4 @@
--- `cache::state::cleared` meets its contract: each slot is the empty one, each place of the ring too. Assumes nothing.
+-- `cache::state::cleared` meets its contract: each slot is the empty one, each place of the ring too.
 use Rattle.cache.specs.State.{cleared}
 use Rattle.cache.proofs.state.cleared.Statement.{statement}
 use Rattle.cache.proofs.state.cleared.Tie as tie

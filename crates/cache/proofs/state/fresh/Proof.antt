@@ -1,4 +1,4 @@
--- `cache::state::fresh` meets its contract: each slot is the empty one, each place of the ring too. Assumes nothing.
+-- `cache::state::fresh` meets its contract: each slot is the empty one, each place of the ring too.
 use Rattle.cache.specs.State.{fresh}
 use Rattle.cache.proofs.state.fresh.Statement.{statement}
 use Rattle.cache.proofs.state.fresh.Tie as tie

@@ -1,4 +1,4 @@
--- `cache::state::load_ok` meets its contract: each return by the load under way. Assumes nothing.
+-- `cache::state::load_ok` meets its contract: each return by the load under way.
 use borrow.Author.Needs.{needs}
 use Rattle.cache.proofs.state.load_ok.Statement.{statement}
 use Rattle.cache.proofs.state.load_ok.Tie as tie

@@ -1,4 +1,4 @@
--- `cache::state::pending_ok` meets its contract: each return by the open fetch. Assumes nothing.
+-- `cache::state::pending_ok` meets its contract: each return by the open fetch.
 use borrow.Author.Needs.{needs}
 use Rattle.cache.proofs.state.pending_ok.Statement.{statement}
 use Rattle.cache.proofs.state.pending_ok.Tie as tie

@@ -1,4 +1,4 @@
--- `cache::state::tile_loads` meets its contract: each return by the tests before it. Assumes nothing.
+-- `cache::state::tile_loads` meets its contract: each return by the tests before it.
 use mathlib.Core.Path.{sym, _∙_}
 use borrow.Author.Needs.{needs}
 use borrow.Author.Tests.{not-true, not-false, eq-eqb, ne-eqb}

@@ -1,5 +1,4 @@
 -- `cache::state::wants_chunk` meets its contract: each return by the load under way and the next step towards its key.
--- Assumes nothing.
 use mathlib.Core.Path.{_≡_, sym, ap, _∙_}
 use borrow.Author.Needs.{needs}
 use Rattle.cache.specs.declared.Cache.{Cache}

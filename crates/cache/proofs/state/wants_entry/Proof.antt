@@ -1,4 +1,4 @@
--- `cache::state::wants_entry` meets its contract: each return by the next step. Assumes nothing.
+-- `cache::state::wants_entry` meets its contract: each return by the next step.
 use mathlib.Core.Path.{sym, _∙_}
 use borrow.Author.Needs.{needs}
 use Rattle.cache.proofs.state.wants_entry.Statement.{statement}

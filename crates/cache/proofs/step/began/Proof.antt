@@ -1,4 +1,4 @@
--- `step::began` meets its contract: each return by the test of the length and by whether a run was found. Assumes nothing.
+-- `step::began` meets its contract: each return by the test of the length and by whether a run was found.
 use borrow.Author.Tests.{lt-ltb, le-ltb}
 use borrow.Author.Needs.{needs}
 use Rattle.cache.specs.Loads.{began}
@@ -14,6 +14,9 @@ done-requires c κs = tt
 returns : tie.Need-returns
 unfolding began
 returns c = rw (lt-ltb _ _ (c .before .before .if1 .taken), c .done .ensures, c .before .forgot .ensures)
+
+cast-begin : tie.Need-cast-begin
+cast-begin c = search needs
 
 begin-requires : tie.Need-begin-requires
 begin-requires c κs = tt
@@ -60,6 +63,7 @@ began-spec =
     forgot-requires
     done-requires
     returns
+    cast-begin
     begin-requires
     enum-told
     forgot-requires-2

@@ -1,4 +1,4 @@
--- `step::chunk_from` meets its contract: each return by whether the pack has the chunk's bytes. Assumes nothing.
+-- `step::chunk_from` meets its contract: each return by whether the pack has the chunk's bytes.
 use mathlib.Core.Path.{sym, _∙_}
 use native.Mathlib.Omega.{arith}
 use borrow.Author.Needs.{needs}

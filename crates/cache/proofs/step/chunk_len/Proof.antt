@@ -1,4 +1,4 @@
--- `step::chunk_len` meets its contract: each return by the tests that led there. Assumes nothing.
+-- `step::chunk_len` meets its contract: each return by the tests that led there.
 use Prim.Native.Nat.{_-_}
 use mathlib.Core.Path.{_≡_}
 use native.Mathlib.Omega.{arith}

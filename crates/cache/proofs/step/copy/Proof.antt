@@ -1,4 +1,4 @@
--- `step::copy` meets its contract. The loop's invariant: the first i bytes are in place. Assumes nothing.
+-- `step::copy` meets its contract. The loop's invariant: the first i bytes are in place.
 use Prim.Native.Nat.{ℕ, _+_, _-_, _≤_}
 use mathlib.Core.Path.{_≡_, refl, sym, ap, _∙_}
 use mathlib.Core.List.{List}

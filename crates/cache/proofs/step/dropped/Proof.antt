@@ -1,4 +1,4 @@
--- `step::dropped` meets its contract: each return by whether there is a load. Assumes nothing.
+-- `step::dropped` meets its contract: each return by whether there is a load.
 use borrow.Author.Needs.{needs}
 use Rattle.cache.specs.Loads.{moved, dropped}
 use Rattle.cache.proofs.step.dropped.Statement.{statement}

@@ -1,4 +1,4 @@
--- `step::ended` meets its contract: each return by whether the tile passes. Assumes nothing.
+-- `step::ended` meets its contract: each return by whether the tile passes.
 use mathlib.Core.Path.{sym, _∙_}
 use borrow.Author.Needs.{needs}
 use Rattle.cache.specs.Loads.{ended}

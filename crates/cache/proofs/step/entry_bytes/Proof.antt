@@ -1,4 +1,4 @@
--- `step::entry_bytes` meets its contract: each element is the byte that was read. Assumes nothing.
+-- `step::entry_bytes` meets its contract: each element is the byte that was read.
 use Rattle.cache.proofs.step.entry_bytes.Statement.{statement}
 use Rattle.cache.proofs.step.entry_bytes.Tie as tie
 

@@ -1,4 +1,4 @@
--- `step::entry_from` meets its contract: each return by whether the pack has the entry's bytes. Assumes nothing.
+-- `step::entry_from` meets its contract: each return by whether the pack has the entry's bytes.
 use mathlib.Core.Path.{sym, _∙_}
 use native.Mathlib.Omega.{arith}
 use borrow.Author.Needs.{needs}

@@ -1,5 +1,5 @@
 -- `step::entry_step` meets its contract: each return by what the entry locates, which is read alike from the bytes and from the array of
--- them. Assumes nothing.
+-- them.
 use mathlib.Core.Path.{sym, _∙_}
 use borrow.Author.Tests.{eq-eqb, ne-eqb}
 use borrow.Author.Needs.{needs}

@@ -1,4 +1,4 @@
--- `step::fetched` meets its contract: each return by the step that was matched, a ready run by whether it passes. Assumes nothing.
+-- `step::fetched` meets its contract: each return by the step that was matched, a ready run by whether it passes.
 use mathlib.Core.Path.{sym, _∙_}
 use borrow.Author.Needs.{needs}
 use Rattle.cache.proofs.step.fetched.Statement.{statement}
@@ -34,12 +34,15 @@ enum-known-n-2 c = search needs
 slot-at-requires : tie.Need-slot-at-requires
 slot-at-requires c κs = tt
 
+cast-passes : tie.Need-cast-passes
+cast-passes c = search needs
+
 passes-requires : tie.Need-passes-requires
 passes-requires c κs = tt
 
 returns : tie.Need-returns
 returns c =
-    let slot = c .before .before in
+    let slot = c .before .before .before in
     let ready = slot .before .before .before in
     rw (ready .n2 .given .1, ← slot .slot-at .ensures, sym (c .before .passes .ensures) ∙ c .if1 .taken)
 
@@ -57,7 +60,7 @@ returns-5 c = rw (c .before .before .before .n .given .1, c .before .chunk-offse
 
 returns-6 : tie.Need-returns-6
 returns-6 c =
-    let slot = c .before .before in
+    let slot = c .before .before .before in
     let ready = slot .before .before .before in
     rw (ready .n2 .given .1, ← slot .slot-at .ensures, sym (c .before .passes .ensures) ∙ c .if1 .left)
 
@@ -75,6 +78,7 @@ fetched-spec =
     cast-t14
     enum-known-n-2
     slot-at-requires
+    cast-passes
     passes-requires
     returns
     returns-2

@@ -1,4 +1,4 @@
--- `step::fits` meets its contract: each return by the tests that led there. Assumes nothing.
+-- `step::fits` meets its contract: each return by the tests that led there.
 use borrow.Author.Tests.{eq-eqb, ne-eqb, lt-ltb, le-ltb}
 use Rattle.cache.proofs.step.fits.Statement.{statement}
 use Rattle.cache.proofs.step.fits.Tie as tie

@@ -1,4 +1,4 @@
--- `step::forgot` meets its contract: the state is the definition's, with the key in the ring and the open fetch withdrawn. Assumes nothing.
+-- `step::forgot` meets its contract: the state is the definition's, with the key in the ring and the open fetch withdrawn.
 use Rattle.cache.specs.Loads.{forgot}
 use Rattle.cache.proofs.step.forgot.Statement.{statement}
 use Rattle.cache.proofs.step.forgot.Tie as tie

@@ -1,4 +1,4 @@
--- `step::further` meets its contract, which is that of `moved`. Assumes nothing.
+-- `step::further` meets its contract, which is that of `moved`.
 use Rattle.cache.specs.Loads.{further}
 use Rattle.cache.proofs.step.further.Statement.{statement}
 use Rattle.cache.proofs.step.further.Tie as tie

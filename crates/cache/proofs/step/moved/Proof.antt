@@ -1,4 +1,4 @@
--- `step::moved` meets its contract: the state is the definition's, its open fetch withdrawn. Assumes nothing.
+-- `step::moved` meets its contract: the state is the definition's, its open fetch withdrawn.
 use Rattle.cache.specs.Loads.{moved}
 use Rattle.cache.proofs.step.moved.Statement.{statement}
 use Rattle.cache.proofs.step.moved.Tie as tie

@@ -1,4 +1,4 @@
--- `step::put` meets its contract: the tests say whether the bytes lie in the arena. Assumes nothing.
+-- `step::put` meets its contract: the tests say whether the bytes lie in the arena.
 use Prim.Native.Nat.{ℕ, _+_, _*_, _<_}
 use mathlib.Core.Path.{_≡_}
 use mathlib.Core.List.{List}

@@ -1,4 +1,4 @@
--- `step::read_len` meets its contract: each return by the step that was matched. Assumes nothing.
+-- `step::read_len` meets its contract: each return by the step that was matched.
 use borrow.Author.Needs.{needs}
 use Rattle.cache.proofs.step.read_len.Statement.{statement}
 use Rattle.cache.proofs.step.read_len.Tie as tie

@@ -1,4 +1,4 @@
--- `step::readied` meets its contract: past the last of the 96 slots the definition stores nothing either. Assumes nothing.
+-- `step::readied` meets its contract: past the last of the 96 slots the definition stores nothing either.
 use mathlib.Core.Path.{_≡_, sym, _∙_}
 use mathlib.Core.Logic.{⊎-elim}
 use native.Mathlib.Omega.{arith}

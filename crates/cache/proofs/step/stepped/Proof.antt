@@ -1,4 +1,4 @@
--- `step::stepped` meets its contract: each return by the step that was matched. Assumes nothing.
+-- `step::stepped` meets its contract: each return by the step that was matched.
 use borrow.Author.Needs.{needs}
 use Rattle.cache.proofs.step.stepped.Statement.{statement}
 use Rattle.cache.proofs.step.stepped.Tie as tie

@@ -1,4 +1,4 @@
--- `step::stepped_from` meets its contract: each return by the step that was matched. Assumes nothing.
+-- `step::stepped_from` meets its contract: each return by the step that was matched.
 use borrow.Author.Needs.{needs}
 use Rattle.cache.proofs.step.stepped_from.Statement.{statement}
 use Rattle.cache.proofs.step.stepped_from.Tie as tie

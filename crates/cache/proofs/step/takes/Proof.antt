@@ -1,4 +1,4 @@
--- `step::takes` meets its contract: each return by whether the key is in the grid. Assumes nothing.
+-- `step::takes` meets its contract: each return by whether the key is in the grid.
 use mathlib.Core.Path.{sym, _∙_}
 use borrow.Author.Tests.{not-true, not-false}
 use Rattle.cache.proofs.step.takes.Statement.{statement}

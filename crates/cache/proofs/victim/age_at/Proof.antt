@@ -1,4 +1,4 @@
--- `cache::victim::age_at` meets its contract: each return by the tests that led there. Assumes nothing.
+-- `cache::victim::age_at` meets its contract: each return by the tests that led there.
 use mathlib.Core.Path.{sym, _∙_}
 use borrow.Author.Tests.{lt-ltb, le-ltb}
 use Rattle.cache.proofs.victim.age_at.Statement.{statement}

@@ -1,4 +1,4 @@
--- `cache::victim::ages_of` meets its contract. The loop's invariant: the array holds the ages of the pages passed. Assumes nothing.
+-- `cache::victim::ages_of` meets its contract. The loop's invariant: the array holds the ages of the pages passed.
 use Prim.Native.Nat.{ℕ, _≤_, _<_, _-_}
 use mathlib.Core.Path.{_≡_, sym, _∙_}
 use native.Mathlib.Omega.{arith}

@@ -1,4 +1,4 @@
--- `cache::victim::better` meets its contract: each return by its test. Assumes nothing.
+-- `cache::victim::better` meets its contract: each return by its test.
 use borrow.Author.Tests.{lt-ltb, le-ltb}
 use Rattle.cache.proofs.victim.better.Statement.{statement}
 use Rattle.cache.proofs.victim.better.Tie as tie

@@ -1,4 +1,4 @@
--- `cache::victim::lesser` meets its contract: each return by its test. Assumes nothing.
+-- `cache::victim::lesser` meets its contract: each return by its test.
 use borrow.Author.Tests.{lt-ltb, le-ltb}
 use Rattle.cache.proofs.victim.lesser.Statement.{statement}
 use Rattle.cache.proofs.victim.lesser.Tie as tie

@@ -1,4 +1,4 @@
--- `cache::victim::since` meets its contract: what wraps is the definition's remainder. Assumes nothing.
+-- `cache::victim::since` meets its contract: what wraps is the definition's remainder.
 use native.Mathlib.Omega.{arith}
 use borrow.Author.Needs.{needs}
 use Rattle.cache.specs.Victim.{since}

@@ -1,5 +1,5 @@
 -- `cache::victim::victim` meets its contract. The loop's invariant: the best so far is the best of the starts up to i, by the ages that
--- were taken once; those are the pages' (`victim-in`). Assumes nothing.
+-- were taken once; those are the pages' (`victim-in`).
 use Prim.Native.Nat.{_≤_, _-_}
 use mathlib.Core.Path.{_≡_, sym}
 use native.Mathlib.Omega.{arith}

@@ -1,4 +1,4 @@
--- `cache::victim::youngest` meets its contract. The loop's invariant: `low` is the least of the ages passed. Assumes nothing.
+-- `cache::victim::youngest` meets its contract. The loop's invariant: `low` is the least of the ages passed.
 use Prim.Native.Nat.{_≤_, _-_}
 use mathlib.Core.Path.{_≡_, sym}
 use native.Mathlib.Omega.{arith}

@@ -1,4 +1,4 @@
--- `show::heights` is safe and ends: the count goes up to the number of heights, and the bytes keep their number. Assumes nothing.
+-- `show::heights` is safe and ends: the count goes up to the number of heights, and the bytes keep their number.
 use Prim.Native.Nat.{_≤_, _-_}
 use mathlib.Core.Path.{_≡_}
 use lib.ListN.{length}

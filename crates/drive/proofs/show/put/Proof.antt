@@ -1,4 +1,4 @@
--- `show::put` is safe and ends: the line that is written lies within the buffer. Assumes nothing.
+-- `show::put` is safe and ends: the line that is written lies within the buffer.
 use mathlib.Core.Path.{sym, ap}
 use native.Mathlib.Omega.{arith}
 use lib.ListN.{length, length-append}

@@ -1,4 +1,4 @@
--- `show::road` is safe and ends: the heights and the text lie within their buffers. Assumes nothing.
+-- `show::road` is safe and ends: the heights and the text lie within their buffers.
 use mathlib.Core.Path.{sym, ap}
 use native.Mathlib.Omega.{arith}
 use lib.ListN.{length, length-append}

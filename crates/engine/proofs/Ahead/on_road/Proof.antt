@@ -1,4 +1,4 @@
--- `engine::Ahead::on_road` meets its contract: each return by what the match is. Assumes nothing.
+-- `engine::Ahead::on_road` meets its contract: each return by what the match is.
 use borrow.Author.Needs.{needs}
 use Rattle.engine.proofs.Ahead.on_road.Statement.{statement}
 use Rattle.engine.proofs.Ahead.on_road.Tie as tie

@@ -1,4 +1,4 @@
--- `engine::Engine::ahead` meets its contract: each return by the test of the state; refused, the empty road is that of its callee. Assumes nothing.
+-- `engine::Engine::ahead` meets its contract: each return by the test of the state; refused, the empty road is that of its callee.
 use mathlib.Core.Path.{sym, _∙_}
 use borrow.Author.Tests.{not-true, not-false}
 use Rattle.engine.specs.Calls.{ahead}

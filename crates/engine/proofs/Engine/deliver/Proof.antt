@@ -1,4 +1,4 @@
--- `engine::Engine::deliver` meets its contract: each return by whether the state passes. Assumes nothing.
+-- `engine::Engine::deliver` meets its contract: each return by whether the state passes.
 use mathlib.Core.Path.{sym, _∙_}
 use borrow.Author.Needs.{needs}
 use borrow.Author.Tests.{not-true, not-false}

@@ -1,4 +1,4 @@
--- `engine::Engine::fix` meets its contract: each return by the tests that led there; the place is read back from its bits. Assumes nothing.
+-- `engine::Engine::fix` meets its contract: each return by the tests that led there; the place is read back from its bits.
 use mathlib.Core.Path.{sym, _∙_}
 use mir.Syntax.{w32}
 use borrow.Author.Tests.{not-true, not-false}

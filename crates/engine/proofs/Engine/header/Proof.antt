@@ -1,4 +1,4 @@
--- `engine::Engine::header` meets its contract: each return by the tests of state and phase; the empty header is that of its callee. Assumes nothing.
+-- `engine::Engine::header` meets its contract: each return by the tests of state and phase; the empty header is that of its callee.
 use mathlib.Core.Path.{sym, _∙_}
 use borrow.Author.Tests.{not-true, not-false}
 use Rattle.engine.specs.Calls.{header}

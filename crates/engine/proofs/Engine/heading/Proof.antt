@@ -1,4 +1,4 @@
--- `engine::Engine::heading` meets its contract: each return by the test of the state and the heading that is held. Assumes nothing.
+-- `engine::Engine::heading` meets its contract: each return by the test of the state and the heading that is held.
 use mathlib.Core.Path.{sym, _∙_}
 use borrow.Author.Needs.{needs}
 use borrow.Author.Tests.{not-true, not-false}

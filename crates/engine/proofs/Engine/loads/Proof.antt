@@ -1,4 +1,4 @@
--- `engine::Engine::loads` meets its contract: each return by the test of the state. Assumes nothing.
+-- `engine::Engine::loads` meets its contract: each return by the test of the state.
 use mathlib.Core.Path.{sym, _∙_}
 use borrow.Author.Tests.{not-true, not-false}
 use Rattle.engine.specs.Calls.{loads}

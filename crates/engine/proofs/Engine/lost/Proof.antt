@@ -1,4 +1,4 @@
--- `engine::Engine::lost` meets its contract: each return by the test that led there. Assumes nothing.
+-- `engine::Engine::lost` meets its contract: each return by the test that led there.
 use mathlib.Core.Path.{sym, _∙_}
 use borrow.Author.Tests.{not-true, not-false}
 use Rattle.engine.specs.Calls.{lost}

@@ -1,4 +1,4 @@
--- `engine::Engine::new` meets its contract: each part by the answer of its callee. Assumes nothing.
+-- `engine::Engine::new` meets its contract: each part by the answer of its callee.
 use Rattle.engine.specs.Calls.{new}
 use Rattle.engine.proofs.Engine.new.Statement.{statement}
 use Rattle.engine.proofs.Engine.new.Tie as tie

@@ -1,4 +1,4 @@
--- `engine::Engine::step` meets its contract: each return by whether the state passes. Assumes nothing.
+-- `engine::Engine::step` meets its contract: each return by whether the state passes.
 use mathlib.Core.Path.{sym, _∙_}
 use borrow.Author.Tests.{not-true, not-false}
 use Rattle.engine.specs.Calls.{step}
@@ -16,7 +16,7 @@ unfolding step
 returns c = rw (c .refused .ensures, sym (c .before .before .engine-ok .ensures) ∙ not-true _ (c .before .if1 .taken))
 
 stepped-requires : tie.Need-stepped-requires
-stepped-requires c κs = tt
+stepped-requires c κs = sym (c .before .engine-ok .ensures) ∙ not-false _ (c .if1 .left)
 
 returns-2 : tie.Need-returns-2
 unfolding step

@@ -1,4 +1,4 @@
--- `engine::Engine::step_from` meets its contract: each return by whether the step fetches (`fetches`). Assumes nothing.
+-- `engine::Engine::step_from` meets its contract: each return by whether the step fetches (`fetches`).
 use Prim.Native.Nat.{ℕ}
 use mathlib.Core.Path.{_≡_}
 use mathlib.Core.List.{List}

@@ -1,4 +1,4 @@
--- `engine::Fix::from_e7` meets its contract: a tenth of 32 bits fits them. Assumes nothing.
+-- `engine::Fix::from_e7` meets its contract: a tenth of 32 bits fits them.
 use native.Mathlib.Omega.{arith}
 use lib.IntN.{ℤ, pos}
 use lib.Signed.{quotZ}

@@ -1,4 +1,4 @@
--- `engine::deliver::arrived` meets its contract: by the answers of its callees. Assumes nothing.
+-- `engine::deliver::arrived` meets its contract: by the answers of its callees.
 use Rattle.engine.specs.Deliver.{arrived}
 use Rattle.engine.proofs.deliver.arrived.Statement.{statement}
 use Rattle.engine.proofs.deliver.arrived.Tie as tie

@@ -1,4 +1,4 @@
--- `engine::deliver::delivered` meets its contract: each return by the open fetch, and whether the answer fits it. Assumes nothing.
+-- `engine::deliver::delivered` meets its contract: each return by the open fetch, and whether the answer fits it.
 use mathlib.Core.Path.{_∙_, sym}
 use borrow.Author.Needs.{needs}
 use denote.Ref.{now}

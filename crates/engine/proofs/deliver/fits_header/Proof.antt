@@ -1,4 +1,4 @@
--- `engine::deliver::fits_header` meets its contract: each return by whether the answer is a failure. Assumes nothing.
+-- `engine::deliver::fits_header` meets its contract: each return by whether the answer is a failure.
 use borrow.Author.Tests.{eq-eqb, ne-eqb}
 use Rattle.engine.proofs.deliver.fits_header.Statement.{statement}
 use Rattle.engine.proofs.deliver.fits_header.Tie as tie

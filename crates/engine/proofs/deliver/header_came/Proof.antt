@@ -1,4 +1,4 @@
--- `engine::deliver::header_came` meets its contract: each return by whether the read failed, and whether the header passes. Assumes nothing.
+-- `engine::deliver::header_came` meets its contract: each return by whether the read failed, and whether the header passes.
 use borrow.Author.Needs.{needs}
 use borrow.Author.Tests.{eq-eqb, ne-eqb}
 use Rattle.engine.specs.Deliver.{headerCame}

@@ -1,4 +1,4 @@
--- `engine::deliver::header_failed` meets its contract: each return by the failure and the count of failures. Assumes nothing.
+-- `engine::deliver::header_failed` meets its contract: each return by the failure and the count of failures.
 use mathlib.Core.Logic.{⊎-elim}
 use borrow.Author.Needs.{needs}
 use borrow.Author.Tests.{eq-eqb, le-ltb, lt-ltb, ne-eqb}

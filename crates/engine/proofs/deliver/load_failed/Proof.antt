@@ -1,4 +1,4 @@
--- `engine::deliver::load_failed` meets its contract: each return by the count of failures. Assumes nothing.
+-- `engine::deliver::load_failed` meets its contract: each return by the count of failures.
 use borrow.Author.Needs.{needs}
 use borrow.Author.Tests.{le-ltb, lt-ltb}
 use Rattle.engine.specs.Deliver.{loadFailed}

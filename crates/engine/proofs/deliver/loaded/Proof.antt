@@ -1,4 +1,4 @@
--- `engine::deliver::loaded` meets its contract: each return by how the step of the load ended. Assumes nothing.
+-- `engine::deliver::loaded` meets its contract: each return by how the step of the load ended.
 use borrow.Author.Needs.{needs}
 use Rattle.engine.proofs.deliver.loaded.Statement.{statement}
 use Rattle.engine.proofs.deliver.loaded.Tie as tie

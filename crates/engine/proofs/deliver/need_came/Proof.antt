@@ -1,4 +1,4 @@
--- `engine::deliver::need_came` meets its contract: each return by whether a tile is needed (`needed`). Assumes nothing.
+-- `engine::deliver::need_came` meets its contract: each return by whether a tile is needed (`needed`).
 use Prim.Native.Nat.{ℕ}
 use mathlib.Core.List.{List}
 use mathlib.Core.Path.{_≡_}

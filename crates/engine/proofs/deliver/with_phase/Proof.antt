@@ -1,4 +1,4 @@
--- `engine::deliver::with_phase` meets its contract: by the answer of its callee. Assumes nothing.
+-- `engine::deliver::with_phase` meets its contract: by the answer of its callee.
 use Rattle.engine.proofs.deliver.with_phase.Statement.{statement}
 use Rattle.engine.proofs.deliver.with_phase.Tie as tie
 

@@ -1,4 +1,4 @@
--- `engine::fetch::chunk_request` meets its contract: each return by whether a load is under way. Assumes nothing.
+-- `engine::fetch::chunk_request` meets its contract: each return by whether a load is under way.
 use borrow.Author.Needs.{needs}
 use Rattle.engine.proofs.fetch.chunk_request.Statement.{statement}
 use Rattle.engine.proofs.fetch.chunk_request.Tie as tie

@@ -1,86 +1,51 @@
--- `engine::fetch::need_step` meets its contract: each return by the read that the step makes. Assumes nothing.
+-- `engine::fetch::need_step` meets its contract: each return by whether the cache asks for a read.
 use mathlib.Core.Path.{_∙_, sym}
-use borrow.Author.Needs.{needs}
-use Rattle.engine.specs.Steps.{needStep}
+use denote.Ref.{now}
+use Rattle.engine.proofs.NeedLaws.{need-reads, need-settles}
 use Rattle.engine.proofs.fetch.need_step.Statement.{statement}
 use Rattle.engine.proofs.fetch.need_step.Tie as tie
-
-next-step-requires : tie.Need-next-step-requires
-next-step-requires c κs = tt
-
-fetched-requires : tie.Need-fetched-requires
-fetched-requires c κs = tt
-
-enum-known-offset : tie.Need-enum-known-offset
-enum-known-offset c = search needs
-
-pending-of-requires : tie.Need-pending-of-requires
-pending-of-requires c κs = tt
-
-opened-requires : tie.Need-opened-requires
-opened-requires c κs = tt
-
-enum-known-number : tie.Need-enum-known-number
-enum-known-number c = search needs
-
-refused-requires : tie.Need-refused-requires
-refused-requires c κs = tt
-
-enum-told : tie.Need-enum-told
-enum-told c = search needs
 
 settled-requires : tie.Need-settled-requires
 settled-requires c κs = tt
 
-arrived-requires : tie.Need-arrived-requires
-arrived-requires c κs = tt
+awaits-read-requires : tie.Need-awaits-read-requires
+awaits-read-requires c κs = tt
+
+pending-for-requires : tie.Need-pending-for-requires
+pending-for-requires c κs = tt
+
+opened-requires : tie.Need-opened-requires
+opened-requires c κs = tt
 
 returns : tie.Need-returns
-unfolding needStep
 returns c =
-    let offset = c .before .before .before in
-    let fetched = offset .before .before in
-    let next-step = fetched .before in
-    rw (
-      c .opened .ensures,
-      c .before .pending-of .ensures,
-      ← next-step .next-step .ensures,
-      sym (fetched .fetched .ensures) ∙ offset .offset .given .1,
-    )
+    let test = c .before .before in
+    let settled = test .before .before in
+    let start = settled .before .before .before .before .before in
+    let reads = need-reads (start .args .e) (now (start .args .arena)) (start .args .key) _ (settled .settled .ensures)
+    (sym (test .before .awaits-read .ensures) ∙ test .if1 .taken) in
+    rw (c .opened .ensures, c .before .pending-for .ensures) reads
+
+loaded-requires : tie.Need-loaded-requires
+loaded-requires c κs = tt
 
 returns-2 : tie.Need-returns-2
-unfolding needStep
 returns-2 c =
-    let fetched = c .before .before .before .before in
-    let next-step = fetched .before in
-    rw (c .refused .ensures, ← next-step .next-step .ensures, sym (fetched .fetched .ensures) ∙ c .before .before .number .given .1)
-
-returns-3 : tie.Need-returns-3
-unfolding needStep
-returns-3 c =
-    let fetched = c .before .before .before .before in
-    let next-step = fetched .before in
-    rw (
-      c .arrived .ensures,
-      c .before .settled .ensures,
-      ← next-step .next-step .ensures,
-      sym (fetched .fetched .ensures) ∙ c .before .before .enum-told .given .1,
-    )
+    let test = c .before in
+    let settled = test .before .before in
+    let start = settled .before .before .before .before .before in
+    rw (c .loaded .ensures)
+    (need-settles (start .args .e) (now (start .args .arena)) (start .args .key) _ (settled .settled .ensures)
+    (sym (test .before .awaits-read .ensures) ∙ test .if1 .left))
 
 pub need-step-spec : {M : Type 1} → statement M
 need-step-spec =
     tie.close
     (tie.spec
-    next-step-requires
-    fetched-requires
-    enum-known-offset
-    pending-of-requires
-    opened-requires
-    enum-known-number
-    refused-requires
-    enum-told
     settled-requires
-    arrived-requires
+    awaits-read-requires
+    pending-for-requires
+    opened-requires
     returns
-    returns-2
-    returns-3)
+    loaded-requires
+    returns-2)

@@ -1,4 +1,4 @@
--- `engine::fetch::ready_step` meets its contract: each return by whether a tile is needed. Assumes nothing.
+-- `engine::fetch::ready_step` meets its contract: each return by whether a tile is needed.
 use borrow.Author.Needs.{needs}
 use Rattle.engine.proofs.fetch.ready_step.Statement.{statement}
 use Rattle.engine.proofs.fetch.ready_step.Tie as tie
@@ -13,7 +13,7 @@ enum-told : tie.Need-enum-told
 enum-told c = search needs
 
 worked-requires : tie.Need-worked-requires
-worked-requires c κs = tt
+worked-requires c κs = let start = c .before .before .before .before .before in (start .pre .0, start .pre .1)
 
 returns : tie.Need-returns
 returns c = rw (c .need-step .ensures, c .before .before .need .given .1)

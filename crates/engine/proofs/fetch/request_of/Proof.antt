@@ -1,4 +1,4 @@
--- `engine::fetch::request_of` meets its contract: each return by the open fetch. Assumes nothing.
+-- `engine::fetch::request_of` meets its contract: each return by the open fetch.
 use borrow.Author.Needs.{needs}
 use Rattle.engine.proofs.fetch.request_of.Statement.{statement}
 use Rattle.engine.proofs.fetch.request_of.Tie as tie

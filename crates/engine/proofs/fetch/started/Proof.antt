@@ -1,4 +1,4 @@
--- `engine::fetch::started` meets its contract: each return by the pack's phase. Assumes nothing.
+-- `engine::fetch::started` meets its contract: each return by the pack's phase.
 use borrow.Author.Needs.{needs}
 use Rattle.engine.specs.Steps.{started}
 use Rattle.engine.proofs.fetch.started.Statement.{statement}
@@ -17,7 +17,7 @@ enum-told-3 : tie.Need-enum-told-3
 enum-told-3 c = search needs
 
 ready-step-requires : tie.Need-ready-step-requires
-ready-step-requires c κs = tt
+ready-step-requires c κs = (c .before .before .before .before .pre, c .enum-told3 .given .1)
 
 returns : tie.Need-returns
 unfolding started

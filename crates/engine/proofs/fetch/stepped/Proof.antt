@@ -1,4 +1,4 @@
--- `engine::fetch::stepped` meets its contract: each return by the open fetch. Assumes nothing.
+-- `engine::fetch::stepped` meets its contract: each return by the open fetch.
 use borrow.Author.Needs.{needs}
 use denote.Ref.{now}
 use Rattle.engine.specs.Steps.{stepped}
@@ -10,7 +10,7 @@ enum-told : tie.Need-enum-told
 enum-told c = search needs
 
 started-requires : tie.Need-started-requires
-started-requires c κs = tt
+started-requires c κs = c .before .before .before .before .before .pre
 
 request-of-requires : tie.Need-request-of-requires
 request-of-requires c κs = tt

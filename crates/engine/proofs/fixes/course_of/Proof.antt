@@ -1,5 +1,5 @@
 -- `engine::fixes::course_of` meets its contract: each arm by the place found and the answers of its callees, the fix's numbers read back from
--- their bits. Assumes nothing.
+-- their bits.
 use mathlib.Core.Path.{sym, _∙_}
 use mir.Syntax.{w32}
 use borrow.Author.Needs.{needs}

@@ -1,5 +1,4 @@
 -- `engine::fixes::fresh` meets its contract: each return by the tests of the age, which is 0 where the heading's time is the later one.
--- Assumes nothing.
 use Prim.Native.Nat.{_-_}
 use native.Mathlib.Omega.{arith}
 use borrow.Author.Tests.{lt-ltb, le-ltb}

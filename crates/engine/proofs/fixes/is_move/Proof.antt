@@ -1,4 +1,4 @@
--- `engine::fixes::is_move` meets its contract: by the answers of its callees, with the literal read as a whole number. Assumes nothing.
+-- `engine::fixes::is_move` meets its contract: by the answers of its callees, with the literal read as a whole number.
 use Rattle.matcher.proofs.ScoreLiterals.{literal-15}
 use Rattle.engine.proofs.fixes.is_move.Statement.{statement}
 use Rattle.engine.proofs.fixes.is_move.Tie as tie

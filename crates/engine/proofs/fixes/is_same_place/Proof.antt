@@ -1,4 +1,4 @@
--- `engine::fixes::is_same_place` meets its contract: the code compares bits, which are the same just where the numbers are. Assumes nothing.
+-- `engine::fixes::is_same_place` meets its contract: the code compares bits, which are the same just where the numbers are.
 use borrow.Author.Needs.{needs}
 use borrow.Author.Tests.{eq-eqb, ne-eqb}
 use Rattle.engine.proofs.SameNumber.{same-bits}

@@ -1,4 +1,4 @@
--- `engine::fixes::place_at` meets its contract: past the sixteenth stands the point of zeros. Assumes nothing.
+-- `engine::fixes::place_at` meets its contract: past the sixteenth stands the point of zeros.
 use Prim.Native.Nat.{_≤_}
 use mathlib.Core.Path.{_≡_, sym, _∙_}
 use native.Mathlib.Omega.{arith}

@@ -1,4 +1,4 @@
--- `engine::fixes::push` meets its contract: each return by the test of the room, and the second by the answer of `shift`. Assumes nothing.
+-- `engine::fixes::push` meets its contract: each return by the test of the room, and the second by the answer of `shift`.
 use borrow.Author.Needs.{needs}
 use borrow.Author.Tests.{lt-ltb, le-ltb}
 use Rattle.engine.specs.Fixes.{push}

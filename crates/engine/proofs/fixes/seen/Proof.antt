@@ -1,4 +1,4 @@
--- `engine::fixes::seen` meets its contract: each field by the answer of its callee, the fix's numbers read back from their bits. Assumes nothing.
+-- `engine::fixes::seen` meets its contract: each field by the answer of its callee, the fix's numbers read back from their bits.
 use mir.Syntax.{w32}
 use Rattle.pack.proofs.Signed.{got}
 use Rattle.engine.specs.Fixes.{seen}

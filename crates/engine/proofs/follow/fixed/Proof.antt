@@ -1,4 +1,4 @@
--- `engine::follow::fixed` meets its contract: each return by whether the fix is at the same place. Assumes nothing.
+-- `engine::follow::fixed` meets its contract: each return by whether the fix is at the same place.
 use mathlib.Core.Path.{sym, _∙_}
 use Rattle.engine.specs.Follow.{fixed}
 use Rattle.engine.proofs.follow.fixed.Statement.{statement}

@@ -1,4 +1,4 @@
--- `engine::follow::fresh` meets its contract: each field by the answer of its callee, with the literal read as a whole number. Assumes nothing.
+-- `engine::follow::fresh` meets its contract: each field by the answer of its callee, with the literal read as a whole number.
 use Rattle.engine.specs.Follow.{fresh}
 use Rattle.engine.proofs.Literals.{literal-10000}
 use Rattle.engine.proofs.follow.fresh.Statement.{statement}

@@ -1,4 +1,4 @@
--- `engine::follow::lost` meets its contract: each return by whether there was a match, and the answers of its callees. Assumes nothing.
+-- `engine::follow::lost` meets its contract: each return by whether there was a match, and the answers of its callees.
 use mathlib.Core.Path.{sym, _∙_}
 use Rattle.engine.specs.Follow.{lost}
 use Rattle.engine.proofs.follow.lost.Statement.{statement}

@@ -1,4 +1,4 @@
--- `engine::follow::reset` meets its contract: each field by the answer of its callee. Assumes nothing.
+-- `engine::follow::reset` meets its contract: each field by the answer of its callee.
 use Rattle.engine.specs.Follow.{reset}
 use Rattle.engine.proofs.follow.reset.Statement.{statement}
 use Rattle.engine.proofs.follow.reset.Tie as tie

@@ -1,4 +1,4 @@
--- `engine::publish::forgotten` meets its contract: by the answers of its callees. Assumes nothing.
+-- `engine::publish::forgotten` meets its contract: by the answers of its callees.
 use Rattle.engine.proofs.publish.forgotten.Statement.{statement}
 use Rattle.engine.proofs.publish.forgotten.Tie as tie
 

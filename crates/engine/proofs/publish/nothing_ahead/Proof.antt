@@ -1,4 +1,4 @@
--- `engine::publish::nothing_ahead` meets its contract: the literal read as a whole number. Assumes nothing.
+-- `engine::publish::nothing_ahead` meets its contract: the literal read as a whole number.
 use Rattle.geo.proofs.Literals.{literal-0}
 use Rattle.engine.specs.Publish.{nothingAhead}
 use Rattle.engine.proofs.publish.nothing_ahead.Statement.{statement}

@@ -1,4 +1,4 @@
--- `engine::publish::with_match` meets its contract: the count by its callee, and the match's height read back from its bits. Assumes nothing.
+-- `engine::publish::with_match` meets its contract: the count by its callee, and the match's height read back from its bits.
 use mir.Syntax.{w32}
 use Rattle.pack.proofs.Signed.{got}
 use Rattle.engine.specs.Publish.{withMatch}

@@ -1,4 +1,4 @@
--- `engine::publish::without_match` meets its contract: the count by its callee, and the literal read as a whole number. Assumes nothing.
+-- `engine::publish::without_match` meets its contract: the count by its callee, and the literal read as a whole number.
 use Rattle.geo.proofs.Literals.{literal-0}
 use Rattle.engine.specs.Publish.{withoutMatch}
 use Rattle.engine.proofs.publish.without_match.Statement.{statement}

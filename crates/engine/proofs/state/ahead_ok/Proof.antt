@@ -1,4 +1,4 @@
--- `engine::state::ahead_ok` meets its contract: each return by the tests that led there. Assumes nothing.
+-- `engine::state::ahead_ok` meets its contract: each return by the tests that led there.
 use borrow.Author.Tests.{le-leb, lt-leb}
 use Rattle.engine.proofs.state.ahead_ok.Statement.{statement}
 use Rattle.engine.proofs.state.ahead_ok.Tie as tie

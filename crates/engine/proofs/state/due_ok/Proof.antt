@@ -1,4 +1,4 @@
--- `engine::state::due_ok` meets its contract: each return by the causes tested before it. Assumes nothing.
+-- `engine::state::due_ok` meets its contract: each return by the causes tested before it.
 use mathlib.Core.Path.{sym, _∙_}
 use borrow.Author.Needs.{needs}
 use borrow.Author.Tests.{not-true, not-false, le-leb, lt-leb}

@@ -1,4 +1,4 @@
--- `engine::state::engine_ok` meets its contract: each return by the causes tested before it. Assumes nothing.
+-- `engine::state::engine_ok` meets its contract: each return by the causes tested before it.
 use mathlib.Core.Path.{sym, _∙_}
 use mathlib.Core.Bool.{and-true}
 use borrow.Author.Tests.{not-true, not-false}

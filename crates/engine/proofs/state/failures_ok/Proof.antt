@@ -1,4 +1,4 @@
--- `engine::state::failures_ok` meets its contract: each return by the tests that led there. Assumes nothing.
+-- `engine::state::failures_ok` meets its contract: each return by the tests that led there.
 use borrow.Author.Tests.{lt-ltb, le-ltb, eq-eqb, ne-eqb}
 use Rattle.engine.proofs.state.failures_ok.Statement.{statement}
 use Rattle.engine.proofs.state.failures_ok.Tie as tie

@@ -1,4 +1,4 @@
--- `engine::state::fix_ok` meets its contract: each return by the fix, whose place is read back from its bits. Assumes nothing.
+-- `engine::state::fix_ok` meets its contract: each return by the fix, whose place is read back from its bits.
 use mir.Syntax.{w32}
 use borrow.Author.Needs.{needs}
 use Rattle.pack.proofs.Signed.{got}

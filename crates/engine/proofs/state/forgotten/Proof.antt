@@ -1,4 +1,4 @@
--- `engine::state::forgotten` meets its contract: each part by the answer of its callee. Assumes nothing.
+-- `engine::state::forgotten` meets its contract: each part by the answer of its callee.
 use Rattle.engine.specs.State.{forgotten}
 use Rattle.engine.proofs.state.forgotten.Statement.{statement}
 use Rattle.engine.proofs.state.forgotten.Tie as tie

@@ -1,4 +1,4 @@
--- `engine::state::held_ok` meets its contract: each return by the phase. Assumes nothing.
+-- `engine::state::held_ok` meets its contract: each return by the phase.
 use mathlib.Core.Path.{sym, _∙_}
 use Rattle.engine.proofs.StateNeeds.{held-unread, held-failed, held-ready}
 use Rattle.engine.proofs.state.held_ok.Statement.{statement}

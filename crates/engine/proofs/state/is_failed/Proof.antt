@@ -1,4 +1,4 @@
--- `engine::state::is_failed` meets its contract: each return by the phase. Assumes nothing.
+-- `engine::state::is_failed` meets its contract: each return by the phase.
 use borrow.Author.Needs.{needs}
 use Rattle.engine.proofs.StateNeeds.{not-failed}
 use Rattle.engine.proofs.state.is_failed.Statement.{statement}

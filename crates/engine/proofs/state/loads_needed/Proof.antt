@@ -1,4 +1,4 @@
--- `engine::state::loads_needed` meets its contract: each return by the load under way. Assumes nothing.
+-- `engine::state::loads_needed` meets its contract: each return by the load under way.
 use borrow.Author.Needs.{needs}
 use Rattle.engine.proofs.state.loads_needed.Statement.{statement}
 use Rattle.engine.proofs.state.loads_needed.Tie as tie

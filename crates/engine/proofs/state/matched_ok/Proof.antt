@@ -1,4 +1,4 @@
--- `engine::state::matched_ok` meets its contract: each return by the match. Assumes nothing.
+-- `engine::state::matched_ok` meets its contract: each return by the match.
 use borrow.Author.Needs.{needs}
 use Rattle.engine.proofs.state.matched_ok.Statement.{statement}
 use Rattle.engine.proofs.state.matched_ok.Tie as tie

@@ -1,4 +1,4 @@
--- `engine::state::need_ok` meets its contract: each return by what is needed. Assumes nothing.
+-- `engine::state::need_ok` meets its contract: each return by what is needed.
 use borrow.Author.Needs.{needs}
 use Rattle.engine.proofs.state.need_ok.Statement.{statement}
 use Rattle.engine.proofs.state.need_ok.Tie as tie

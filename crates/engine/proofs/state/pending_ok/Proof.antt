@@ -1,4 +1,4 @@
--- `engine::state::pending_ok` meets its contract: each return by the open fetch and the phase. Assumes nothing.
+-- `engine::state::pending_ok` meets its contract: each return by the open fetch and the phase.
 use mathlib.Core.Path.{sym, _∙_}
 use borrow.Author.Needs.{needs}
 use Rattle.engine.proofs.state.pending_ok.Statement.{statement}

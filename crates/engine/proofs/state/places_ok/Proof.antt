@@ -1,4 +1,4 @@
--- `engine::state::places_ok` meets its contract. The loop's invariant: every place passed is a point. Assumes nothing.
+-- `engine::state::places_ok` meets its contract. The loop's invariant: every place passed is a point.
 use Prim.Native.Nat.{ℕ, _≤_, _-_}
 use mathlib.Core.Path.{_≡_, sym, _∙_}
 use mathlib.Core.Bool.{Bool, not}

@@ -1,4 +1,4 @@
--- `engine::state::shared_ok` meets its contract: each return by the tests that led there. Assumes nothing.
+-- `engine::state::shared_ok` meets its contract: each return by the tests that led there.
 use mathlib.Core.Path.{sym, _∙_}
 use borrow.Author.Tests.{not-true, not-false}
 use Rattle.engine.specs.State.{sharedOk}

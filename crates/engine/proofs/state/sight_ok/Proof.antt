@@ -1,4 +1,4 @@
--- `engine::state::sight_ok` meets its contract: each return by the causes tested before it. Assumes nothing.
+-- `engine::state::sight_ok` meets its contract: each return by the causes tested before it.
 use mathlib.Core.Path.{sym, _∙_}
 use borrow.Author.Tests.{not-true, not-false}
 use Rattle.engine.proofs.state.sight_ok.Statement.{statement}

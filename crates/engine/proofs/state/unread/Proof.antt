@@ -1,4 +1,4 @@
--- `engine::state::unread` meets its contract: by the answer of its callee. Assumes nothing.
+-- `engine::state::unread` meets its contract: by the answer of its callee.
 use Rattle.engine.proofs.state.unread.Statement.{statement}
 use Rattle.engine.proofs.state.unread.Tie as tie
 

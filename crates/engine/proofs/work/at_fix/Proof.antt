@@ -23,7 +23,10 @@ enum-told : tie.Need-enum-told
 enum-told c = search needs
 
 match-step-requires : tie.Need-match-step-requires
-match-step-requires c κs = tt
+match-step-requires c κs =
+    let arm = c .before .before in
+    let struct-told = arm .before .before .before .before in
+    struct-told .before .before .before .before .before .pre .0
 
 returns : tie.Need-returns
 unfolding atFix
@@ -39,7 +42,10 @@ returns c =
     rw (c .match-step .ensures, sym key ∙ arm .enum-told .given .1, c .before .if1 .taken)
 
 road-due-requires : tie.Need-road-due-requires
-road-due-requires c κs = tt
+road-due-requires c κs =
+    let arm = c .before .before .before in
+    let struct-told = arm .before .before .before .before in
+    struct-told .before .before .before .before .before .pre .1
 
 returns-2 : tie.Need-returns-2
 unfolding atFix

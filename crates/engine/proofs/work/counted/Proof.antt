@@ -1,4 +1,4 @@
--- `engine::work::counted` meets its contract: by the answer of its callee. Assumes nothing.
+-- `engine::work::counted` meets its contract: by the answer of its callee.
 use Rattle.engine.proofs.work.counted.Statement.{statement}
 use Rattle.engine.proofs.work.counted.Tie as tie
 

@@ -1,4 +1,4 @@
--- `engine::work::emptied` meets its contract: each return by whether there is a match. Assumes nothing.
+-- `engine::work::emptied` meets its contract: each return by whether there is a match.
 use mathlib.Core.Path.{_∙_, sym}
 use Rattle.engine.proofs.work.emptied.Statement.{statement}
 use Rattle.engine.proofs.work.emptied.Tie as tie

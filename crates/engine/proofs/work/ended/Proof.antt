@@ -1,4 +1,4 @@
--- `engine::work::ended` meets its contract, field by field: a proof of its own, so that an edit of the answer fails here. Assumes nothing.
+-- `engine::work::ended` meets its contract, field by field: a proof of its own, so that an edit of the answer fails here.
 use borrow.Author.Needs.{needs}
 use Rattle.engine.proofs.work.ended.Statement.{statement}
 use Rattle.engine.proofs.work.ended.Tie as tie

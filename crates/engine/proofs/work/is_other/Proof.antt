@@ -1,4 +1,4 @@
--- `engine::work::is_other` meets its contract: each return by whether a match is published. Assumes nothing.
+-- `engine::work::is_other` meets its contract: each return by whether a match is published.
 use borrow.Author.Needs.{needs}
 use Rattle.engine.proofs.work.is_other.Statement.{statement}
 use Rattle.engine.proofs.work.is_other.Tie as tie

@@ -1,5 +1,5 @@
 -- `engine::work::match_asks` meets its contract: each return by whether another tile may be asked for; the number asked for stays small, since
--- the limit is. Assumes nothing.
+-- the limit is.
 use mathlib.Core.Path.{_∙_, sym}
 use native.Mathlib.Omega.{arith}
 use borrow.Author.Tests.{ltb-true}

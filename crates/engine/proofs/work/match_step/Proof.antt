@@ -1,4 +1,4 @@
--- `engine::work::match_step` meets its contract: by the answers of its callees, with the place read back from its bits. Assumes nothing.
+-- `engine::work::match_step` meets its contract: by the answers of its callees, with the place read back from its bits.
 use mir.Syntax.{w32}
 use Rattle.pack.proofs.Signed.{got}
 use Rattle.engine.specs.Work.{matchStep}
@@ -22,6 +22,7 @@ returns c =
       c .before .updated .ensures,
       got w32 {z = fix .lat} (struct-told .struct-told .given .0 .1),
       got w32 {z = fix .lon} (struct-told .struct-told .given .1 .0 .1),
+      start .pre,
     )
 
 pub match-step-spec : {M : Type 1} → statement M

@@ -1,5 +1,5 @@
 -- `engine::work::matched` meets its contract: each return by whether there is a match, on another edge or not, and whether it is time for a
--- road. Assumes nothing.
+-- road.
 use mathlib.Core.Logic.{⊎-elim}
 use mathlib.Core.Path.{_∙_, sym}
 use borrow.Author.Needs.{needs}

@@ -1,4 +1,4 @@
--- `engine::work::may_ask` meets its contract: by the limit of its callee. Assumes nothing.
+-- `engine::work::may_ask` meets its contract: by the limit of its callee.
 use borrow.Author.Needs.{needs}
 use Rattle.engine.proofs.work.may_ask.Statement.{statement}
 use Rattle.engine.proofs.work.may_ask.Tie as tie

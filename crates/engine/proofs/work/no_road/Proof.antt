@@ -1,4 +1,4 @@
--- `engine::work::no_road` meets its contract: the literal read as a whole number. Assumes nothing.
+-- `engine::work::no_road` meets its contract: the literal read as a whole number.
 use Rattle.geo.proofs.Literals.{literal-0}
 use Rattle.engine.proofs.work.no_road.Statement.{statement}
 use Rattle.engine.proofs.work.no_road.Tie as tie

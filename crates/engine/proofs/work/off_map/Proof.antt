@@ -1,4 +1,4 @@
--- `engine::work::off_map` meets its contract: by whether there is a match, and the answers of its callees. Assumes nothing.
+-- `engine::work::off_map` meets its contract: by whether there is a match, and the answers of its callees.
 use mathlib.Core.Logic.{⊎-elim}
 use mathlib.Core.Path.{_∙_, sym}
 use Rattle.engine.specs.Work.{offMap}

@@ -1,4 +1,4 @@
--- `engine::work::published` meets its contract: by the answers of its callees. Assumes nothing.
+-- `engine::work::published` meets its contract: by the answers of its callees.
 use Rattle.engine.specs.Work.{published}
 use Rattle.engine.proofs.work.published.Statement.{statement}
 use Rattle.engine.proofs.work.published.Tie as tie

@@ -1,4 +1,4 @@
--- `engine::work::rematch` meets its contract: by the answer of its callee. Assumes nothing.
+-- `engine::work::rematch` meets its contract: by the answer of its callee.
 use Rattle.engine.proofs.work.rematch.Statement.{statement}
 use Rattle.engine.proofs.work.rematch.Tie as tie
 

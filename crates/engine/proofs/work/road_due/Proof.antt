@@ -1,4 +1,4 @@
--- `engine::work::road_due` meets its contract: each return by whether there is a match. Assumes nothing.
+-- `engine::work::road_due` meets its contract: each return by whether there is a match.
 use borrow.Author.Needs.{needs}
 use Rattle.engine.proofs.work.road_due.Statement.{statement}
 use Rattle.engine.proofs.work.road_due.Tie as tie
@@ -7,7 +7,9 @@ enum-known-current : tie.Need-enum-known-current
 enum-known-current c = search needs
 
 road-step-requires : tie.Need-road-step-requires
-road-step-requires c κs = tt
+road-step-requires c κs =
+    let current = c .before in
+    rw (current .current .given .1) at (current .before .before .before .before .pre)
 
 enum-told : tie.Need-enum-told
 enum-told c = search needs

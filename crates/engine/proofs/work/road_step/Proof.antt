@@ -1,4 +1,4 @@
--- `engine::work::road_step` meets its contract: each return by how the road ended. Assumes nothing.
+-- `engine::work::road_step` meets its contract: each return by how the road ended.
 use borrow.Author.Needs.{needs}
 use borrow.Author.Tests.{eq-eqb, ne-eqb}
 use Rattle.engine.specs.Work.{roadStep}
@@ -55,7 +55,7 @@ unfolding roadStep
 returns c =
     let answer-call = c .before .before .before .before in
     let predicted = answer-call .before .before .before .before .before .before in
-    let road = predicted .predicted .ensures in
+    let road = rw (predicted .before .before .before .before .before .before .before .pre) at (predicted .predicted .ensures) in
     let answer = rw (road .0) at (answer-call .answer3 .given .1) in
     rw (c .ended4 .ensures, c .before .rematch2 .ensures, road .0, answer, eq-eqb _ _ (c .before .before .if1 .taken))
 
@@ -67,7 +67,7 @@ unfolding roadStep
 returns-2 c =
     let answer-call = c .before .before .before in
     let predicted = answer-call .before .before .before .before .before .before in
-    let road = predicted .predicted .ensures in
+    let road = rw (predicted .before .before .before .before .before .before .before .pre) at (predicted .predicted .ensures) in
     let answer = rw (road .0) at (answer-call .answer .given .1) in
     rw (c .ended .ensures, c .before .published .ensures, road .0, road .1 .0, road .1 .1, answer)
 
@@ -76,7 +76,7 @@ unfolding roadStep
 returns-3 c =
     let answer-call = c .before .before .before .before in
     let predicted = answer-call .before .before .before .before .before .before in
-    let road = predicted .predicted .ensures in
+    let road = rw (predicted .before .before .before .before .before .before .before .pre) at (predicted .predicted .ensures) in
     let answer = rw (road .0) at (answer-call .answer2 .given .1) in
     rw (c .ended2 .ensures, c .before .road-asks .ensures, road .0, answer)
 
@@ -84,7 +84,7 @@ returns-4 : tie.Need-returns-4
 unfolding roadStep
 returns-4 c =
     let predicted = c .before .before .before .before .before .before .before .before in
-    let road = predicted .predicted .ensures in
+    let road = rw (predicted .before .before .before .before .before .before .before .pre) at (predicted .predicted .ensures) in
     let answer = rw (road .0) at (c .before .before .enum-told .given .1) in
     rw (c .ended3 .ensures, c .before .rematch .ensures, road .0, answer)
 
@@ -93,7 +93,7 @@ unfolding roadStep
 returns-5 c =
     let answer-call = c .before .before .before in
     let predicted = answer-call .before .before .before .before .before .before in
-    let road = predicted .predicted .ensures in
+    let road = rw (predicted .before .before .before .before .before .before .before .pre) at (predicted .predicted .ensures) in
     let answer = rw (road .0) at (answer-call .answer3 .given .1) in
     rw (c .refused .ensures, answer, ne-eqb _ _ (c .before .if1 .left))
 

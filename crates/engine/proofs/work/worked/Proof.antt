@@ -1,6 +1,7 @@
--- `engine::work::worked` meets its contract: each return by whether there is a fix. Assumes nothing.
+-- `engine::work::worked` meets its contract: each return by whether there is a fix.
 use borrow.Author.Needs.{needs}
 use Rattle.engine.specs.Work.{worked}
+use Rattle.engine.proofs.TestedLaws.{fix-in, current-in}
 use Rattle.engine.proofs.work.worked.Statement.{statement}
 use Rattle.engine.proofs.work.worked.Tie as tie
 
@@ -11,7 +12,11 @@ enum-known-fix : tie.Need-enum-known-fix
 enum-known-fix c = search needs
 
 at-fix-requires : tie.Need-at-fix-requires
-at-fix-requires c κs = tt
+at-fix-requires c κs =
+    let counted = c .before .before .before .before in
+    let start = counted .before .before .before in
+    rw (counted .counted .ensures)
+    (fix-in (start .args .e) _ (start .pre .0) _ (rw (counted .counted .ensures) at (c .before .fix .given .1)), current-in (start .args .e) _ (start .pre .0) (start .pre .1))
 
 enum-told : tie.Need-enum-told
 enum-told c = search needs

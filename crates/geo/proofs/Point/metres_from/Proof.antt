@@ -1,4 +1,4 @@
--- `geo::Point::metres_from` meets its contract. Each return by the tests that led there, whose arguments are read back from their bits. Assumes nothing.
+-- `geo::Point::metres_from` meets its contract. Each return by the tests that led there, whose arguments are read back from their bits.
 use mathlib.Core.Path.{sym, _∙_}
 use mir.Syntax.{w32}
 use borrow.Author.Needs.{needs}

@@ -1,4 +1,4 @@
--- `geo::Point::of` meets its contract. Each return by the tests that led there. Assumes nothing.
+-- `geo::Point::of` meets its contract. Each return by the tests that led there.
 use mathlib.Core.Path.{sym, _∙_}
 use borrow.Author.Needs.{needs}
 use borrow.Author.Tests.{not-true, not-false}

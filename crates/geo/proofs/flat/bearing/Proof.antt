@@ -1,4 +1,4 @@
--- `geo::flat::bearing` meets its contract: by the answer of `angle::bearing`. Assumes nothing.
+-- `geo::flat::bearing` meets its contract: by the answer of `angle::bearing`.
 use borrow.Author.Needs.{needs}
 use Rattle.geo.specs.Flat.{bearingOf}
 use Rattle.geo.proofs.Literals.{literal-0}

@@ -1,4 +1,4 @@
--- `geo::flat::beyond` meets its contract. The sum fits 64 bits, and 32 where it passes the test. Assumes nothing.
+-- `geo::flat::beyond` meets its contract. The sum fits 64 bits, and 32 where it passes the test.
 use Prim.Native.Nat.{ℕ}
 use mathlib.Core.Bool.{false}
 use mathlib.Core.Path.{_≡_}

@@ -1,4 +1,4 @@
--- `geo::flat::fraction` meets its contract: by its test, with the literals read as whole numbers. Assumes nothing.
+-- `geo::flat::fraction` meets its contract: by its test, with the literals read as whole numbers.
 use borrow.Author.Needs.{needs}
 use Rattle.geo.proofs.Literals.{literal-0, literal-1}
 use Rattle.geo.proofs.flat.fraction.Statement.{statement}

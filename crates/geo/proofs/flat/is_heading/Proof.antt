@@ -1,4 +1,4 @@
--- `geo::flat::is_heading` meets its contract: by its test, with the literals read as whole numbers. Assumes nothing.
+-- `geo::flat::is_heading` meets its contract: by its test, with the literals read as whole numbers.
 use Rattle.geo.proofs.Literals.{literal-360}
 use Rattle.geo.proofs.flat.is_heading.Statement.{statement}
 use Rattle.geo.proofs.flat.is_heading.Tie as tie

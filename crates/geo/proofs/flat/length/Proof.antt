@@ -1,4 +1,4 @@
--- `geo::flat::length` meets its contract: the root of the sum of squares. Assumes nothing.
+-- `geo::flat::length` meets its contract: the root of the sum of squares.
 use borrow.Author.Needs.{needs}
 use Rattle.geo.specs.Flat.{lengthOf}
 use Rattle.geo.proofs.flat.length.Statement.{statement}

@@ -1,4 +1,4 @@
--- `geo::flat::lowered` meets its contract: by its test, with the literals read as whole numbers. Assumes nothing.
+-- `geo::flat::lowered` meets its contract: by its test, with the literals read as whole numbers.
 use Rattle.geo.proofs.Literals.{literal-180, literal-360}
 use Rattle.geo.proofs.flat.lowered.Statement.{statement}
 use Rattle.geo.proofs.flat.lowered.Tie as tie

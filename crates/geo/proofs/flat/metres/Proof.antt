@@ -1,4 +1,4 @@
--- `geo::flat::metres` meets its contract. A difference of two i32 fits 64 bits, so what the callees get is the definition's. Assumes nothing.
+-- `geo::flat::metres` meets its contract. A difference of two i32 fits 64 bits, so what the callees get is the definition's.
 use mathlib.Core.Path.{_≡_}
 use native.Mathlib.Omega.{arith}
 use lib.IntN.{ℤ, _-ℤ_}

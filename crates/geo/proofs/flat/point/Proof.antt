@@ -1,4 +1,4 @@
--- `geo::flat::point` meets its contract. Two calls, their arguments and results read back from their bits. Assumes nothing.
+-- `geo::flat::point` meets its contract. Two calls, their arguments and results read back from their bits.
 use mir.Syntax.{w32}
 use borrow.Author.Needs.{needs}
 use Rattle.pack.proofs.Signed.{got}

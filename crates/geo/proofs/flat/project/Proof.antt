@@ -1,4 +1,4 @@
--- `geo::flat::project` meets its contract: the fraction and the length are the callees'. Assumes nothing.
+-- `geo::flat::project` meets its contract: the fraction and the length are the callees'.
 use borrow.Author.Needs.{needs}
 use Rattle.geo.specs.Flat.{projectOf}
 use Rattle.geo.proofs.flat.project.Statement.{statement}

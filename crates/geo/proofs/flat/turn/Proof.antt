@@ -1,4 +1,4 @@
--- `geo::flat::turn` meets its contract: two turns of each loop, in the definition's order. Assumes nothing.
+-- `geo::flat::turn` meets its contract: two turns of each loop, in the definition's order.
 use borrow.Author.Needs.{needs}
 use Rattle.geo.specs.Flat.{turnOf}
 use Rattle.geo.proofs.flat.turn.Statement.{statement}

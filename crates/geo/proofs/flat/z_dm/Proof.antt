@@ -1,4 +1,4 @@
--- `geo::flat::z_dm` meets its contract: a u16, its double and the difference fit 32 bits. Assumes nothing.
+-- `geo::flat::z_dm` meets its contract: a u16, its double and the difference fit 32 bits.
 use Prim.Native.Nat.{ℕ, _*_, _<_}
 use mathlib.Core.Path.{_≡_, _∙_}
 use native.Mathlib.Omega.{arith}

@@ -1,4 +1,4 @@
--- `matcher::Matcher::current` meets its contract: each return by the test of the state and the match. Assumes nothing.
+-- `matcher::Matcher::current` meets its contract: each return by the test of the state and the match.
 use mathlib.Core.Path.{sym, _∙_}
 use borrow.Author.Needs.{needs}
 use borrow.Author.Tests.{not-true, not-false}

@@ -1,4 +1,4 @@
--- `matcher::Matcher::reset` meets its contract: the literal read as a whole number. Assumes nothing.
+-- `matcher::Matcher::reset` meets its contract: the literal read as a whole number.
 use Rattle.geo.proofs.Literals.{literal-0}
 use Rattle.matcher.proofs.Matcher.reset.Statement.{statement}
 use Rattle.matcher.proofs.Matcher.reset.Tie as tie

@@ -1,4 +1,4 @@
--- `matcher::choose::beaten` meets its contract: each return by the challenger and the tests before it. Assumes nothing.
+-- `matcher::choose::beaten` meets its contract: each return by the challenger and the tests before it.
 use mathlib.Core.Path.{sym, _∙_}
 use borrow.Author.Needs.{needs}
 use borrow.Author.Tests.{eq-eqb, ne-eqb, lt-ltb, le-ltb, not-true, not-false}

@@ -1,5 +1,5 @@
 -- `matcher::choose::candidate_in` meets its contract: a place of the eight reads the same whatever stands past the last one, and past it
--- stands no candidate. Assumes nothing.
+-- stands no candidate.
 use mathlib.Core.Path.{_≡_, sym, _∙_}
 use native.Mathlib.Omega.{arith}
 use lib.ListN.{length, length-map, List·getD-eq-default}

@@ -1,4 +1,4 @@
--- `matcher::choose::chosen_by` meets its contract: each return by the match and whether its edge is among the candidates. Assumes nothing.
+-- `matcher::choose::chosen_by` meets its contract: each return by the match and whether its edge is among the candidates.
 use mathlib.Core.Path.{sym, _∙_}
 use borrow.Author.Needs.{needs}
 use Rattle.matcher.proofs.choose.chosen_by.Statement.{statement}

@@ -1,4 +1,4 @@
--- `matcher::choose::contested` meets its contract: each return by the test of the count. Assumes nothing.
+-- `matcher::choose::contested` meets its contract: each return by the test of the count.
 use borrow.Author.Tests.{lt-ltb, le-ltb}
 use Rattle.matcher.specs.Choose.{contested}
 use Rattle.matcher.proofs.choose.contested.Statement.{statement}

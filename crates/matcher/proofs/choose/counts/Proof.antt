@@ -1,4 +1,4 @@
--- `matcher::choose::counts` meets its contract: each return by which are looked at and the tests before it. Assumes nothing.
+-- `matcher::choose::counts` meets its contract: each return by which are looked at and the tests before it.
 use borrow.Author.Needs.{needs}
 use borrow.Author.Tests.{not-true, not-false}
 use Rattle.matcher.proofs.choose.counts.Statement.{statement}

@@ -1,4 +1,4 @@
--- `matcher::choose::held` meets its contract: each return by the tests before it, which come in another order than the definition's. Assumes nothing.
+-- `matcher::choose::held` meets its contract: each return by the tests before it, which come in another order than the definition's.
 use mathlib.Core.Path.{sym, _∙_}
 use mathlib.Core.Bool.{and-false}
 use Rattle.geo.proofs.Literals.{literal-1}

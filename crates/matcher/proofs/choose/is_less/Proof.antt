@@ -1,4 +1,4 @@
--- `matcher::choose::is_less` meets its contract: each return by how the costs compare. Assumes nothing.
+-- `matcher::choose::is_less` meets its contract: each return by how the costs compare.
 use mathlib.Core.Path.{sym, _∙_}
 use borrow.Author.Needs.{needs}
 use Rattle.matcher.proofs.choose.is_less.Statement.{statement}

@@ -1,5 +1,4 @@
 -- `matcher::choose::kept_at` meets its contract. The loop's invariant: no candidate passed is on the edge. Past the eighth none counts.
--- Assumes nothing.
 use Prim.Native.Nat.{ℕ, _≤_, _-_}
 use mathlib.Core.Path.{_≡_, sym, _∙_}
 use mathlib.Core.Bool.{_&&_}

@@ -1,4 +1,4 @@
--- `matcher::choose::least_step` meets its contract: each return by the tests before it. Assumes nothing.
+-- `matcher::choose::least_step` meets its contract: each return by the tests before it.
 use mathlib.Core.Path.{sym, _∙_}
 use borrow.Author.Tests.{lt-ltb, le-ltb}
 use Rattle.matcher.proofs.choose.least_step.Statement.{statement}

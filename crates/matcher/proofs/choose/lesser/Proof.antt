@@ -1,4 +1,4 @@
--- `matcher::choose::lesser` meets its contract: each return by the cheapest so far and how the costs compare. Assumes nothing.
+-- `matcher::choose::lesser` meets its contract: each return by the cheapest so far and how the costs compare.
 use mathlib.Core.Path.{sym, _∙_}
 use borrow.Author.Needs.{needs}
 use Rattle.matcher.proofs.choose.lesser.Statement.{statement}

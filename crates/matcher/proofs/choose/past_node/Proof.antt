@@ -1,5 +1,5 @@
 -- `matcher::choose::past_node` meets its contract: each return by the test of the node and the candidate found, with the literal read as a
--- whole number. Assumes nothing.
+-- whole number.
 use mathlib.Core.Path.{sym, _∙_}
 use borrow.Author.Needs.{needs}
 use borrow.Author.Tests.{not-true, not-false}

@@ -1,4 +1,4 @@
--- `matcher::gather::finished` meets its contract: by the answers of the callees. Assumes nothing.
+-- `matcher::gather::finished` meets its contract: by the answers of the callees.
 use Rattle.matcher.specs.Gather.{finished}
 use Rattle.matcher.proofs.gather.finished.Statement.{statement}
 use Rattle.matcher.proofs.gather.finished.Tie as tie

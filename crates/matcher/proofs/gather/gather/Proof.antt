@@ -1,5 +1,5 @@
 -- `matcher::gather::gather` meets its contract. The loop's invariant: what was gathered is the definition's over as many tiles. A place without
--- a key adds nothing. Assumes nothing.
+-- a key adds nothing.
 use Prim.Native.Nat.{ℕ, _-_, _≤_}
 use mathlib.Core.Path.{_≡_, refl, sym, _∙_}
 use mathlib.Core.List.{List}

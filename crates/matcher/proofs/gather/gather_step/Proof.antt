@@ -1,4 +1,4 @@
--- `matcher::gather::gather_step` meets its contract: each return by how the lookups ended and what the next key is. Assumes nothing.
+-- `matcher::gather::gather_step` meets its contract: each return by how the lookups ended and what the next key is.
 use mathlib.Core.Path.{sym, ap, _∙_}
 use borrow.Author.Needs.{needs}
 use Rattle.cache.specs.declared.Got.{Got}

@@ -1,4 +1,4 @@
--- `matcher::gather::gathered_with` meets its contract: each return by the lookup's answer. Assumes nothing.
+-- `matcher::gather::gathered_with` meets its contract: each return by the lookup's answer.
 use borrow.Author.Needs.{needs}
 use Rattle.matcher.proofs.gather.gathered_with.Statement.{statement}
 use Rattle.matcher.proofs.gather.gathered_with.Tie as tie

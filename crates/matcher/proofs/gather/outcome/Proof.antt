@@ -1,4 +1,4 @@
--- `matcher::gather::outcome` meets its contract: each return by what the match is. Assumes nothing.
+-- `matcher::gather::outcome` meets its contract: each return by what the match is.
 use borrow.Author.Needs.{needs}
 use Rattle.matcher.proofs.gather.outcome.Statement.{statement}
 use Rattle.matcher.proofs.gather.outcome.Tie as tie

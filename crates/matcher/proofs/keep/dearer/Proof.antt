@@ -1,4 +1,4 @@
--- `matcher::keep::dearer` meets its contract: each return by how the costs compare. Assumes nothing.
+-- `matcher::keep::dearer` meets its contract: each return by how the costs compare.
 use mathlib.Core.Path.{sym, _∙_}
 use borrow.Author.Needs.{needs}
 use Rattle.matcher.proofs.keep.dearer.Statement.{statement}

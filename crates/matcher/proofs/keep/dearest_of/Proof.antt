@@ -1,5 +1,5 @@
 -- `matcher::keep::dearest_of` meets its contract. The loop's invariant: the dearest so far is the definition's after as many turns.
--- Each place read is one of the eight. Assumes nothing.
+-- Each place read is one of the eight.
 use Prim.Native.Nat.{ℕ, _-_, _≤_}
 use mathlib.Core.Path.{_≡_, sym, _∙_}
 use native.Mathlib.Omega.{arith}

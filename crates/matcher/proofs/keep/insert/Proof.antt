@@ -1,5 +1,5 @@
 -- `matcher::keep::insert` meets its contract: each return by the tests before it. A store past the last of the eight places stores
--- nothing. Assumes nothing.
+-- nothing.
 use mathlib.Core.Path.{_≡_, sym, _∙_}
 use native.Mathlib.Omega.{arith}
 use lib.ListN.{length, length-map}

@@ -1,4 +1,4 @@
--- `matcher::keep::no_candidate` meets its contract: the literal read as a whole number. Assumes nothing.
+-- `matcher::keep::no_candidate` meets its contract: the literal read as a whole number.
 use Rattle.geo.proofs.Literals.{literal-0}
 use Rattle.matcher.proofs.keep.no_candidate.Statement.{statement}
 use Rattle.matcher.proofs.keep.no_candidate.Tie as tie

@@ -1,4 +1,4 @@
--- `matcher::keep::none_kept` meets its contract: eight times what `no_candidate` gives. Assumes nothing.
+-- `matcher::keep::none_kept` meets its contract: eight times what `no_candidate` gives.
 use Rattle.matcher.proofs.keep.none_kept.Statement.{statement}
 use Rattle.matcher.proofs.keep.none_kept.Tie as tie
 

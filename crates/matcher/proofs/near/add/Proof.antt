@@ -1,5 +1,4 @@
 -- `matcher::near::add` meets its contract: each return by where row and column lie, read back from their bits, and whether the key is new.
--- Assumes nothing.
 use mathlib.Core.Path.{sym, _∙_}
 use mir.Facts.{toZ-ofZ}
 use borrow.Author.Needs.{needs}

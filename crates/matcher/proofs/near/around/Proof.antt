@@ -1,4 +1,4 @@
--- `matcher::near::around` meets its contract. A u16 and one more or less fit 64 bits, so what `add` gets is the definition's. Assumes nothing.
+-- `matcher::near::around` meets its contract. A u16 and one more or less fit 64 bits, so what `add` gets is the definition's.
 use Prim.Native.Nat.{ℕ}
 use mathlib.Core.Path.{_≡_, refl, _∙_}
 use mathlib.Core.Bool.{Bool, true, false, cond}

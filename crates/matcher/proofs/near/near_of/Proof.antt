@@ -1,4 +1,4 @@
--- `matcher::near::near_of` meets its contract: each return by the point's key, of which the arguments are read back from their bits. Assumes nothing.
+-- `matcher::near::near_of` meets its contract: each return by the point's key, of which the arguments are read back from their bits.
 use mathlib.Core.Path.{sym, _∙_}
 use mir.Syntax.{w32}
 use borrow.Author.Needs.{needs}

@@ -1,4 +1,4 @@
--- `matcher::near::push` meets its contract: each return by the test of the room. Assumes nothing.
+-- `matcher::near::push` meets its contract: each return by the test of the room.
 use borrow.Author.Needs.{needs}
 use borrow.Author.Tests.{le-leb, lt-leb}
 use Rattle.matcher.specs.Near.{push}

@@ -1,4 +1,4 @@
--- `matcher::near::side` meets its contract. The differences of i32 and u32 fit 64 bits, so what is tested is the definition's. Assumes nothing.
+-- `matcher::near::side` meets its contract. The differences of i32 and u32 fit 64 bits, so what is tested is the definition's.
 use Prim.Native.Nat.{ℕ}
 use mathlib.Core.Path.{_≡_}
 use native.Mathlib.Omega.{arith}

@@ -1,4 +1,4 @@
--- `matcher::scan::along_step` meets its contract: by the answers of `metres` and `length`. Assumes nothing.
+-- `matcher::scan::along_step` meets its contract: by the answers of `metres` and `length`.
 use Rattle.matcher.specs.Scan.{alongStep}
 use Rattle.matcher.proofs.scan.along_step.Statement.{statement}
 use Rattle.matcher.proofs.scan.along_step.Tie as tie

@@ -1,5 +1,4 @@
 -- `matcher::scan::along_to` meets its contract. The loop's invariant: the way so far is the definition's after as many turns.
--- Assumes nothing.
 use Prim.Native.Nat.{ℕ, _+_, _-_, _≤_}
 use mathlib.Core.Path.{_≡_, sym}
 use native.Mathlib.Omega.{arith}

@@ -1,4 +1,4 @@
--- `matcher::scan::is_closer` meets its contract: each return by its tests, with the literal read as a whole number. Assumes nothing.
+-- `matcher::scan::is_closer` meets its contract: each return by its tests, with the literal read as a whole number.
 use borrow.Author.Needs.{needs}
 use Rattle.matcher.proofs.ScoreLiterals.{literal-40}
 use Rattle.matcher.proofs.scan.is_closer.Statement.{statement}

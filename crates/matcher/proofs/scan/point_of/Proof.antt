@@ -1,4 +1,4 @@
--- `matcher::scan::point_of` meets its contract: by the answers of the tile's reader and of `geo::flat::point`. Assumes nothing.
+-- `matcher::scan::point_of` meets its contract: by the answers of the tile's reader and of `geo::flat::point`.
 use Rattle.matcher.specs.Scan.{pointOf}
 use Rattle.matcher.proofs.scan.point_of.Statement.{statement}
 use Rattle.matcher.proofs.scan.point_of.Tie as tie

@@ -1,4 +1,4 @@
--- `matcher::scan::rejected` meets its contract: each return by the pairs of tests before it, one of which failed in each. Assumes nothing.
+-- `matcher::scan::rejected` meets its contract: each return by the pairs of tests before it, one of which failed in each.
 use mathlib.Core.Path.{_≡_}
 use mathlib.Core.Bool.{Bool, true, false, _&&_}
 use mathlib.Core.Logic.{⊎-elim}

@@ -1,5 +1,5 @@
 -- `matcher::scan::scan` meets its contract. The loop's invariant: the scan so far is the definition's after as many turns; the turn that
--- leaves is the one at the edge's last segment. Assumes nothing.
+-- leaves is the one at the edge's last segment.
 use Prim.Native.Nat.{ℕ, _+_, _-_, _≤_}
 use mathlib.Core.Path.{_≡_, ap, _∙_}
 use mathlib.Core.List.{List}

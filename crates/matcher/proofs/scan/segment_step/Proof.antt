@@ -1,4 +1,4 @@
--- `matcher::scan::segment_step` meets its contract: each return by the tests before it. Assumes nothing.
+-- `matcher::scan::segment_step` meets its contract: each return by the tests before it.
 use mathlib.Core.Path.{sym, _∙_}
 use Rattle.geo.proofs.Literals.{literal-0}
 use Rattle.matcher.specs.Scan.{segmentStep}

@@ -1,4 +1,4 @@
--- `matcher::score::aim` meets its contract: each return by what the heading is. Assumes nothing.
+-- `matcher::score::aim` meets its contract: each return by what the heading is.
 use borrow.Author.Needs.{needs}
 use Rattle.matcher.proofs.score.aim.Statement.{statement}
 use Rattle.matcher.proofs.score.aim.Tie as tie

@@ -1,4 +1,4 @@
--- `matcher::score::aim_at` meets its contract: by the answers of the callees. Assumes nothing.
+-- `matcher::score::aim_at` meets its contract: by the answers of the callees.
 use Rattle.matcher.proofs.ScoreLiterals.{literal-15}
 use Rattle.matcher.specs.Score.{aimAt}
 use Rattle.matcher.proofs.score.aim_at.Statement.{statement}

@@ -1,4 +1,4 @@
--- `matcher::score::aimed` meets its contract: each return by the answers of the callees, in the definition's order. Assumes nothing.
+-- `matcher::score::aimed` meets its contract: each return by the answers of the callees, in the definition's order.
 use mathlib.Core.Path.{_≡_}
 use mathlib.Core.Bool.{true, _||_}
 use mathlib.Core.Logic.{⊎-elim}

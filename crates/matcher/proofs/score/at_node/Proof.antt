@@ -1,4 +1,4 @@
--- `matcher::score::at_node` meets its contract: each return by its tests, with the literals read as whole numbers. Assumes nothing.
+-- `matcher::score::at_node` meets its contract: each return by its tests, with the literals read as whole numbers.
 use mathlib.Core.Logic.{⊎-elim}
 use borrow.Author.Tests.{eq-eqb, ne-eqb}
 use Rattle.geo.proofs.Literals.{literal-0, literal-1}

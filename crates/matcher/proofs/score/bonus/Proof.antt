@@ -1,4 +1,4 @@
--- `matcher::score::bonus` meets its contract: each return by what the current match is. Assumes nothing.
+-- `matcher::score::bonus` meets its contract: each return by what the current match is.
 use borrow.Author.Needs.{needs}
 use Rattle.matcher.proofs.score.bonus.Statement.{statement}
 use Rattle.matcher.proofs.score.bonus.Tie as tie

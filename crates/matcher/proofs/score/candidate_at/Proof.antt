@@ -1,4 +1,4 @@
--- `matcher::score::candidate_at` meets its contract: by the answers of the callees. Assumes nothing.
+-- `matcher::score::candidate_at` meets its contract: by the answers of the callees.
 use mir.Syntax.{w32}
 use Rattle.pack.proofs.Signed.{got}
 use Rattle.matcher.specs.Score.{candidateAt}

@@ -1,4 +1,4 @@
--- `matcher::score::heading_cost` meets its contract: the literal read as a whole number. Assumes nothing.
+-- `matcher::score::heading_cost` meets its contract: the literal read as a whole number.
 use Rattle.matcher.proofs.ScoreLiterals.{literal-35}
 use Rattle.matcher.proofs.score.heading_cost.Statement.{statement}
 use Rattle.matcher.proofs.score.heading_cost.Tie as tie

@@ -1,5 +1,4 @@
 -- `matcher::score::height` meets its contract. A difference and a sum of two i32 fit 64 bits, and the tests hold the sum to ±1,000,000.
--- Assumes nothing.
 use mathlib.Core.Path.{_≡_}
 use mathlib.Core.Bool.{false}
 use native.Mathlib.Omega.{arith}

@@ -1,4 +1,4 @@
--- `matcher::score::height_at` meets its contract: by the answers of the callees, read back from their bits. Assumes nothing.
+-- `matcher::score::height_at` meets its contract: by the answers of the callees, read back from their bits.
 use mir.Syntax.{w32}
 use borrow.Author.Needs.{needs}
 use Rattle.pack.proofs.Signed.{got}

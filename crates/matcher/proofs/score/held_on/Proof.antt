@@ -1,4 +1,4 @@
--- `matcher::score::held_on` meets its contract: each return by the current match and the test of its edge. Assumes nothing.
+-- `matcher::score::held_on` meets its contract: each return by the current match and the test of its edge.
 use mathlib.Core.Path.{sym, _∙_}
 use borrow.Author.Needs.{needs}
 use Rattle.matcher.proofs.score.held_on.Statement.{statement}

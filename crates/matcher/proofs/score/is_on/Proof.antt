@@ -1,4 +1,4 @@
--- `matcher::score::is_on` meets its contract: each return by the test of the tile. Assumes nothing.
+-- `matcher::score::is_on` meets its contract: each return by the test of the tile.
 use mathlib.Core.Path.{sym, _∙_}
 use Rattle.matcher.proofs.score.is_on.Statement.{statement}
 use Rattle.matcher.proofs.score.is_on.Tie as tie

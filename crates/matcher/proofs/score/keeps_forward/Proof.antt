@@ -1,4 +1,4 @@
--- `matcher::score::keeps_forward` meets its contract: each return by the direction held. Assumes nothing.
+-- `matcher::score::keeps_forward` meets its contract: each return by the direction held.
 use borrow.Author.Needs.{needs}
 use Rattle.matcher.proofs.ScoreLiterals.{literal-135}
 use Rattle.matcher.proofs.score.keeps_forward.Statement.{statement}

@@ -1,4 +1,4 @@
--- `matcher::score::limited` meets its contract: each return by the direction held. Assumes nothing.
+-- `matcher::score::limited` meets its contract: each return by the direction held.
 use borrow.Author.Needs.{needs}
 use Rattle.matcher.proofs.ScoreLiterals.{literal-60}
 use Rattle.matcher.proofs.score.limited.Statement.{statement}

@@ -1,4 +1,4 @@
--- `matcher::score::matched_at` meets its contract: the height read back from its bits, the literal as a whole number. Assumes nothing.
+-- `matcher::score::matched_at` meets its contract: the height read back from its bits, the literal as a whole number.
 use mir.Facts.{toZ-ofZ}
 use Rattle.geo.proofs.Literals.{literal-0}
 use Rattle.matcher.proofs.score.matched_at.Statement.{statement}

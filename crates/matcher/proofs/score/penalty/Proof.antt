@@ -1,4 +1,4 @@
--- `matcher::score::penalty` meets its contract: each return by its tests, with the literals read as whole numbers. Assumes nothing.
+-- `matcher::score::penalty` meets its contract: each return by its tests, with the literals read as whole numbers.
 use mathlib.Core.Logic.{⊎-elim}
 use Rattle.geo.proofs.Literals.{literal-0}
 use Rattle.matcher.proofs.ScoreLiterals.{literal-4, literal-90}

@@ -1,4 +1,4 @@
--- `matcher::score::same_id` meets its contract: each return by the tests before it. Assumes nothing.
+-- `matcher::score::same_id` meets its contract: each return by the tests before it.
 use mathlib.Core.Path.{sym, _∙_}
 use borrow.Author.Tests.{eq-eqb, ne-eqb, not-true, not-false}
 use Rattle.matcher.proofs.score.same_id.Statement.{statement}

@@ -1,4 +1,4 @@
--- `matcher::score::shares_node` meets its contract: each return by the tests before it. Assumes nothing.
+-- `matcher::score::shares_node` meets its contract: each return by the tests before it.
 use borrow.Author.Tests.{eq-eqb, ne-eqb}
 use Rattle.matcher.proofs.score.shares_node.Statement.{statement}
 use Rattle.matcher.proofs.score.shares_node.Tie as tie

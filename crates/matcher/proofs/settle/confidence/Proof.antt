@@ -1,4 +1,4 @@
--- `matcher::settle::confidence` meets its contract: by the answers of the callees, with the literals read as whole numbers. Assumes nothing.
+-- `matcher::settle::confidence` meets its contract: by the answers of the callees, with the literals read as whole numbers.
 use Rattle.geo.proofs.Literals.{literal-0, literal-1}
 use Rattle.matcher.proofs.ScoreLiterals.{literal-40}
 use Rattle.matcher.specs.Settle.{confidence}

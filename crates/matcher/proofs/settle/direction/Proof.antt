@@ -1,5 +1,4 @@
 -- `matcher::settle::direction` meets its contract: each return by the candidate's direction, the match so far and the test of its edge.
--- Assumes nothing.
 use mathlib.Core.Path.{sym, _∙_}
 use borrow.Author.Needs.{needs}
 use Rattle.matcher.proofs.settle.direction.Statement.{statement}

@@ -1,4 +1,4 @@
--- `matcher::settle::goes_on` meets its contract: each return by the two directions. Assumes nothing.
+-- `matcher::settle::goes_on` meets its contract: each return by the two directions.
 use mathlib.Core.Path.{_≡_, refl}
 use mathlib.Core.Bool.{Bool, true, false, Bool·beq}
 use borrow.Author.Needs.{needs}

@@ -1,4 +1,4 @@
--- `matcher::settle::is_rival` meets its contract: each return by the tests before it. Assumes nothing.
+-- `matcher::settle::is_rival` meets its contract: each return by the tests before it.
 use mathlib.Core.Path.{sym, ap, _∙_}
 use mathlib.Core.Bool.{Bool, _&&_, not}
 use Rattle.matcher.specs.Settle.{notLeft}

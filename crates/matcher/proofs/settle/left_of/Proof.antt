@@ -1,4 +1,4 @@
--- `matcher::settle::left_of` meets its contract: each return by the match so far and the tests before it. Assumes nothing.
+-- `matcher::settle::left_of` meets its contract: each return by the match so far and the tests before it.
 use mathlib.Core.Path.{sym, _∙_}
 use borrow.Author.Tests.{not-true, not-false}
 use borrow.Author.Needs.{needs}

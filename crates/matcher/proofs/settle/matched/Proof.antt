@@ -1,4 +1,4 @@
--- `matcher::settle::matched` meets its contract: each return by whether there is a cheapest candidate. Assumes nothing.
+-- `matcher::settle::matched` meets its contract: each return by whether there is a cheapest candidate.
 use mathlib.Core.Path.{sym, _∙_}
 use borrow.Author.Needs.{needs}
 use Rattle.matcher.specs.Settle.{matched}

@@ -1,5 +1,4 @@
 -- `matcher::settle::missed` meets its contract: one miss more on either side of the first test, and each return by the second.
--- Assumes nothing.
 use mathlib.Core.Path.{_≡_}
 use mathlib.Core.Logic.{⊎-elim}
 use borrow.Author.Tests.{lt-ltb, le-ltb}

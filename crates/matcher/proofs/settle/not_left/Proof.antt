@@ -1,4 +1,4 @@
--- `matcher::settle::not_left` meets its contract: each return by what the edge just left is. Assumes nothing.
+-- `matcher::settle::not_left` meets its contract: each return by what the edge just left is.
 use borrow.Author.Needs.{needs}
 use Rattle.matcher.proofs.settle.not_left.Statement.{statement}
 use Rattle.matcher.proofs.settle.not_left.Tie as tie

@@ -1,4 +1,4 @@
--- `matcher::settle::ridden` meets its contract: each return by the direction. Assumes nothing.
+-- `matcher::settle::ridden` meets its contract: each return by the direction.
 use borrow.Author.Needs.{needs}
 use Rattle.geo.proofs.Literals.{literal-0}
 use Rattle.matcher.proofs.settle.ridden.Statement.{statement}

@@ -1,4 +1,4 @@
--- `matcher::settle::run_from` meets its contract: each return by whether the run goes on. Assumes nothing.
+-- `matcher::settle::run_from` meets its contract: each return by whether the run goes on.
 use mathlib.Core.Path.{sym, _∙_}
 use Rattle.matcher.proofs.settle.run_from.Statement.{statement}
 use Rattle.matcher.proofs.settle.run_from.Tie as tie

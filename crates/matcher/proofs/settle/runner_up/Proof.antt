@@ -1,5 +1,5 @@
 -- `matcher::settle::runner_up` meets its contract. The loop's invariant: the least cost so far is the definition's after as many turns.
--- Each place read is one of the eight. Assumes nothing.
+-- Each place read is one of the eight.
 use Prim.Native.Nat.{_-_, _≤_}
 use mathlib.Core.Path.{_≡_, sym, _∙_}
 use native.Mathlib.Omega.{arith}

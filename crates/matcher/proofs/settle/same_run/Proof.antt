@@ -1,4 +1,4 @@
--- `matcher::settle::same_run` meets its contract: each return by the match so far and the test of its edge. Assumes nothing.
+-- `matcher::settle::same_run` meets its contract: each return by the match so far and the test of its edge.
 use mathlib.Core.Path.{sym, _∙_}
 use borrow.Author.Needs.{needs}
 use Rattle.matcher.proofs.settle.same_run.Statement.{statement}

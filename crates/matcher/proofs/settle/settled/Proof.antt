@@ -1,4 +1,4 @@
--- `matcher::settle::settled` meets its contract: by the answers of the callees. Assumes nothing.
+-- `matcher::settle::settled` meets its contract: by the answers of the callees.
 use Rattle.matcher.specs.Settle.{settled}
 use Rattle.matcher.proofs.settle.settled.Statement.{statement}
 use Rattle.matcher.proofs.settle.settled.Tie as tie

@@ -1,4 +1,4 @@
--- `matcher::settle::steadiness` meets its contract: each return by whether there is a heading. Assumes nothing.
+-- `matcher::settle::steadiness` meets its contract: each return by whether there is a heading.
 use borrow.Author.Needs.{needs}
 use Rattle.geo.proofs.Literals.{literal-1}
 use Rattle.matcher.proofs.settle.steadiness.Statement.{statement}

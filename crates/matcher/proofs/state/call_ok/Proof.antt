@@ -1,4 +1,4 @@
--- `matcher::state::call_ok` meets its contract: each return by the causes tested before it. Assumes nothing.
+-- `matcher::state::call_ok` meets its contract: each return by the causes tested before it.
 use mathlib.Core.Path.{sym, _∙_}
 use borrow.Author.Tests.{not-true, not-false}
 use Rattle.matcher.specs.State.{callOk}

@@ -1,4 +1,4 @@
--- `matcher::state::challenger_ok` meets its contract: each return by the challenger and the test of its count. Assumes nothing.
+-- `matcher::state::challenger_ok` meets its contract: each return by the challenger and the test of its count.
 use borrow.Author.Needs.{needs}
 use borrow.Author.Tests.{le-leb, lt-leb}
 use Rattle.matcher.proofs.state.challenger_ok.Statement.{statement}

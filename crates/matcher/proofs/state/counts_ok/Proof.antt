@@ -1,4 +1,4 @@
--- `matcher::state::counts_ok` meets its contract: each return by the causes tested before it. Assumes nothing.
+-- `matcher::state::counts_ok` meets its contract: each return by the causes tested before it.
 use mathlib.Core.Path.{sym, _∙_}
 use borrow.Author.Tests.{not-true, not-false}
 use Rattle.matcher.proofs.state.counts_ok.Statement.{statement}

@@ -1,4 +1,4 @@
--- `matcher::state::edge_ok` meets its contract: each return by the match. Assumes nothing.
+-- `matcher::state::edge_ok` meets its contract: each return by the match.
 use borrow.Author.Needs.{needs}
 use Rattle.matcher.proofs.state.edge_ok.Statement.{statement}
 use Rattle.matcher.proofs.state.edge_ok.Tie as tie

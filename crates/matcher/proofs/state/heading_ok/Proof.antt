@@ -1,4 +1,4 @@
--- `matcher::state::heading_ok` meets its contract: each return by the heading. Assumes nothing.
+-- `matcher::state::heading_ok` meets its contract: each return by the heading.
 use borrow.Author.Needs.{needs}
 use Rattle.matcher.proofs.state.heading_ok.Statement.{statement}
 use Rattle.matcher.proofs.state.heading_ok.Tie as tie

@@ -1,4 +1,4 @@
--- `matcher::state::key_ok` meets its contract: each return by the match. Assumes nothing.
+-- `matcher::state::key_ok` meets its contract: each return by the match.
 use borrow.Author.Needs.{needs}
 use Rattle.matcher.proofs.state.key_ok.Statement.{statement}
 use Rattle.matcher.proofs.state.key_ok.Tie as tie

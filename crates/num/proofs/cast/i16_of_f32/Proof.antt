@@ -1,4 +1,4 @@
--- `cast::i16_of_f32` meets its contract: the wide cast, held to the range, is the narrow one. Assumes nothing.
+-- `cast::i16_of_f32` meets its contract: the wide cast, held to the range, is the narrow one.
 use native.Mathlib.Omega.{arith}
 use lib.Ieee.Casts.{toSigned-in}
 use mir.Facts.{toZ-ofZ}

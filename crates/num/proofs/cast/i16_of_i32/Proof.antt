@@ -1,4 +1,4 @@
--- `cast::i16_of_i32` meets its contract: from 32768 up the low bits stand for -1 less their complement. Assumes nothing.
+-- `cast::i16_of_i32` meets its contract: from 32768 up the low bits stand for -1 less their complement.
 use Prim.Native.Nat.{ℕ, _-_, _≤_}
 use mathlib.Core.Path.{_≡_, _∙_}
 use native.Mathlib.Omega.{arith}

@@ -1,4 +1,4 @@
--- `cast::i64_of_f32` meets its contract: within the ends the callee answers, and past them the end or 0. Assumes nothing.
+-- `cast::i64_of_f32` meets its contract: within the ends the callee answers, and past them the end or 0.
 use mathlib.Core.Path.{sym, subst}
 use lib.Dec.{T}
 use lib.Ieee.{ofBits, neg}

@@ -1,4 +1,4 @@
--- `cast::low_bits` meets its contract: of 32 bits the low 16 are the low 16 of z. Assumes nothing.
+-- `cast::low_bits` meets its contract: of 32 bits the low 16 are the low 16 of z.
 use Prim.Native.Nat.{_%_}
 use mathlib.Core.Path.{_≡_, refl}
 use native.Mathlib.Omega.{arith}

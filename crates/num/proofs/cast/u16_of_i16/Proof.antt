@@ -1,4 +1,4 @@
--- `cast::u16_of_i16` meets its contract: 16 bits fit in 32, and the low 16 bits of z in 16. Assumes nothing.
+-- `cast::u16_of_i16` meets its contract: 16 bits fit in 32, and the low 16 bits of z in 16.
 use native.Mathlib.Omega.{arith}
 use lib.IntN.{ℤ}
 use mir.Facts.{toZ-ofZ}

@@ -1,4 +1,4 @@
--- `cast::u32_of_i32` meets its contract, by the sign: of a negative z the complement -1 - z is taken from the greatest word. Assumes nothing.
+-- `cast::u32_of_i32` meets its contract, by the sign: of a negative z the complement -1 - z is taken from the greatest word.
 use Prim.Native.Nat.{_-_}
 use mathlib.Core.Bool.{true, false}
 use mathlib.Core.Path.{_≡_, _∙_}

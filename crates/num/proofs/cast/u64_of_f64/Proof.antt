@@ -1,4 +1,4 @@
--- `cast::u64_of_f64` meets its contract: within the ends the callee answers, and past them the end. Assumes nothing.
+-- `cast::u64_of_f64` meets its contract: within the ends the callee answers, and past them the end.
 use mathlib.Core.Path.{sym, subst}
 use lib.Dec.{T}
 use lib.Ieee.{ofBits, neg}

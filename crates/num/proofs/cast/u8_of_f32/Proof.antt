@@ -1,4 +1,4 @@
--- `cast::u8_of_f32` meets its contract: the wide cast, held to the range, is the narrow one. Assumes nothing.
+-- `cast::u8_of_f32` meets its contract: the wide cast, held to the range, is the narrow one.
 use mathlib.Core.Path.{ap}
 use native.Mathlib.Omega.{arith}
 use lib.IntN.{natAbs}

@@ -1,4 +1,4 @@
--- `num::convert::f32_of_f64` meets its contract: x is no NaN, so its pattern without the sign's bit is at most the infinity's, and the sign goes through. Assumes nothing.
+-- `num::convert::f32_of_f64` meets its contract: x is no NaN, so its pattern without the sign's bit is at most the infinity's, and the sign goes through.
 use Prim.Native.Nat.{ℕ, _-_}
 use mathlib.Core.Path.{sym, ap, _∙_, subst}
 use native.Mathlib.Omega.{arith}

@@ -1,4 +1,4 @@
--- `num::convert::f32_of_i32` meets its contract: 32 bits fit in 64. Assumes nothing.
+-- `num::convert::f32_of_i32` meets its contract: 32 bits fit in 64.
 use lib.IntN.{ℤ}
 use native.Mathlib.Omega.{arith}
 use mir.Syntax.{w32, w64}

@@ -1,5 +1,5 @@
 -- `num::convert::kept` meets its contract: the digit below those that are kept, and what lies under it, by the laws of `Closest`.
--- `more << (cut - 1)` loses nothing, so it is m without that. Assumes nothing.
+-- `more << (cut - 1)` loses nothing, so it is m without that.
 use Prim.Native.Nat.{ℕ, _+_, _-_, _*_, _/_, _%_, _^_, _<_}
 use mathlib.Core.Path.{_≡_, ap, _∙_}
 use native.Mathlib.Nat.{mod-eq-of-lt}

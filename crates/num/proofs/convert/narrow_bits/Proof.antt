@@ -1,4 +1,4 @@
--- `num::convert::narrow_bits` meets its contract: by the pattern's two fields. Assumes nothing.
+-- `num::convert::narrow_bits` meets its contract: by the pattern's two fields.
 use Prim.Native.Nat.{ℕ, suc, _-_, _/_}
 use mathlib.Core.Path.{_≡_, sym, _∙_}
 use native.Mathlib.Omega.{arith}

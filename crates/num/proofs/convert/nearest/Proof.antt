@@ -1,4 +1,4 @@
--- `num::convert::nearest` meets its contract: zero by itself, and any other n by its pattern. Assumes nothing.
+-- `num::convert::nearest` meets its contract: zero by itself, and any other n by its pattern.
 use Prim.Native.Nat.{ℕ}
 use mathlib.Core.Path.{sym, ap, _∙_}
 use borrow.Author.Needs.{needs}

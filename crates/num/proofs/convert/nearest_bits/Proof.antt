@@ -1,5 +1,4 @@
 -- `num::convert::nearest_bits` meets its contract: n without its leading zeros loses no digit, and by how many digits n * 2 ^ i has one of the four ranges of `Nearest`.
--- Assumes nothing.
 use Prim.Native.Nat.{ℕ, _+_, _-_, _*_, _%_, _^_, _≤_, _<_}
 use mathlib.Core.Path.{_≡_, ap, _∙_}
 use native.Mathlib.Nat.{mod-eq-of-lt}

@@ -1,4 +1,4 @@
--- `order::clamp` meets its contract, whose tests are the code's. Assumes nothing.
+-- `order::clamp` meets its contract, whose tests are the code's.
 use Rattle.num.proofs.order.clamp.Statement.{statement}
 use Rattle.num.proofs.order.clamp.Tie as tie
 

@@ -1,4 +1,4 @@
--- `order::fabsf` meets its contract: the sign is turned where it is set. Assumes nothing.
+-- `order::fabsf` meets its contract: the sign is turned where it is set.
 use mathlib.Core.Path.{sym, _∙_}
 use Rattle.num.proofs.OrderLaws.{fabsf-negated, fabsf-kept}
 use Rattle.num.proofs.order.fabsf.Statement.{statement}

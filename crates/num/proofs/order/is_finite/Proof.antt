@@ -1,4 +1,4 @@
--- `order::is_finite` meets its contract: the test of the pattern is `finite-bits`'s. Assumes nothing.
+-- `order::is_finite` meets its contract: the test of the pattern is `finite-bits`'s.
 use mathlib.Core.Path.{sym}
 use lib.Ieee.{binary32}
 use borrow.Author.Needs.{needs}

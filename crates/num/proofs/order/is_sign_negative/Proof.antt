@@ -1,4 +1,4 @@
--- `order::is_sign_negative` meets its contract: the test of the pattern is `sign-bit`'s. Assumes nothing.
+-- `order::is_sign_negative` meets its contract: the test of the pattern is `sign-bit`'s.
 use mathlib.Core.Path.{sym}
 use lib.Ieee.{binary32}
 use borrow.Author.Needs.{needs}

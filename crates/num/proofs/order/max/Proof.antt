@@ -1,4 +1,4 @@
--- `order::max` meets its contract: the code's `a != a` is the definition's test for not-a-number. Assumes nothing.
+-- `order::max` meets its contract: the code's `a != a` is the definition's test for not-a-number.
 use Rattle.num.proofs.OrderLaws.{differs}
 use Rattle.num.proofs.order.max.Statement.{statement}
 use Rattle.num.proofs.order.max.Tie as tie

@@ -1,4 +1,4 @@
--- `order::min` meets its contract: the code's `a != a` is the definition's test for not-a-number. Assumes nothing.
+-- `order::min` meets its contract: the code's `a != a` is the definition's test for not-a-number.
 use Rattle.num.proofs.OrderLaws.{differs}
 use Rattle.num.proofs.order.min.Statement.{statement}
 use Rattle.num.proofs.order.min.Tie as tie

@@ -1,4 +1,4 @@
--- `order::total_cmp` meets its contract, whose tests are the code's; a value that does not equal itself is not-a-number. Assumes nothing.
+-- `order::total_cmp` meets its contract, whose tests are the code's; a value that does not equal itself is not-a-number.
 use Rattle.num.proofs.OrderLaws.{unequal}
 use Rattle.num.proofs.order.total_cmp.Statement.{statement}
 use Rattle.num.proofs.order.total_cmp.Tie as tie

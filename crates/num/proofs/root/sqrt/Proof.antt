@@ -1,4 +1,4 @@
--- `root::sqrt` meets its contract: by the value's own pattern. Assumes nothing.
+-- `root::sqrt` meets its contract: by the value's own pattern.
 use mathlib.Core.Path.{refl, sym, ap, _∙_}
 use native.Mathlib.Omega.{arith}
 use lib.Dec.{T}

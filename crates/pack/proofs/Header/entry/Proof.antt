@@ -1,5 +1,4 @@
 -- `pack::Header::entry` meets its contract. Each return by the tests that led there.
--- Assumes nothing.
 use mathlib.Core.Path.{sym, _∙_}
 use borrow.Author.Tests.{not-true, not-false}
 use Rattle.pack.specs.Grid.{entry}

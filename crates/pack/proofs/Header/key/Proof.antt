@@ -1,5 +1,4 @@
 -- `pack::Header::key` meets its contract. Each return by the tests that led there.
--- Assumes nothing.
 use mathlib.Core.Path.{sym, _∙_}
 use mir.Facts.{toZ-ofZ}
 use borrow.Author.Tests.{not-true, not-false}

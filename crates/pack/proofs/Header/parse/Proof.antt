@@ -1,5 +1,4 @@
 -- `pack::Header::parse` meets its contract. Each return by the tests that led there, in the definition's order.
--- Assumes nothing.
 use mathlib.Core.Path.{sym, _∙_}
 use borrow.Author.Tests.{not-true, not-false, eq-eqb, ne-eqb}
 use Rattle.pack.specs.Sector.{parse}

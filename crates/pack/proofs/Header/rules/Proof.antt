@@ -1,5 +1,5 @@
 -- `pack::Header::rules` meets its contract. A refusal is one clause that fails, at its place in the list (`rule-broken`); acceptance lists
--- them all. Assumes nothing.
+-- them all.
 use mathlib.Core.Bool.{and-true}
 use mathlib.Core.Path.{sym, _∙_}
 use native.Mathlib.Omega.{arith}

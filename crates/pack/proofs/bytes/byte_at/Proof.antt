@@ -1,5 +1,4 @@
 -- `pack::bytes::byte_at` meets its contract. A byte past the end is 0, which is what the list has there.
--- Assumes nothing.
 use mathlib.Core.Path.{sym}
 use lib.ListN.{List·getD-eq-default}
 use borrow.Author.Needs.{needs}

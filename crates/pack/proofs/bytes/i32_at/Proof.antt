@@ -1,5 +1,4 @@
 -- `pack::bytes::i32_at` meets its contract. Two calls, and the result read back from its bits.
--- Assumes nothing.
 use mir.Syntax.{w32}
 use Rattle.pack.specs.Bytes.{i32At}
 use Rattle.pack.proofs.Signed.{got}

@@ -1,5 +1,4 @@
 -- `pack::bytes::signed_32` meets its contract. The lower half of the bits is the number itself; the upper half goes by `high`, the law of two's complement.
--- Assumes nothing.
 use mathlib.Core.Path.{ap, _∙_}
 use native.Mathlib.Omega.{arith}
 use lib.IntN.{negsuc}

@@ -1,50 +1,28 @@
--- `pack::bytes::u32_at` meets its contract. Past the end both halves are 0; before it the two calls are the definition's.
--- Assumes nothing.
+-- `pack::bytes::u32_at` meets its contract: past the end all four bytes are 0.
 use mathlib.Core.Path.{sym}
-use borrow.Author.Needs.{needs}
-use Rattle.pack.specs.Bytes.{u32At}
 use Rattle.pack.proofs.Laws.{u32-past}
+use borrow.Author.Needs.{needs}
 use Rattle.pack.proofs.bytes.u32_at.Statement.{statement}
 use Rattle.pack.proofs.bytes.u32_at.Tie as tie
 
 returns : tie.Need-returns
 returns c = sym (u32-past (c .before .before .args .bytes .now) (c .before .before .args .at) (c .if1 .taken))
 
-u16-at-requires : tie.Need-u16-at-requires
-u16-at-requires c κs = tt
+sub-if2 : tie.Need-sub-if2
+sub-if2 c = search needs
 
-cast-low : tie.Need-cast-low
-cast-low c = search needs
-
-add-u16-at : tie.Need-add-u16-at
-add-u16-at c = search needs
-
-u16-at-requires-2 : tie.Need-u16-at-requires-2
-u16-at-requires-2 c κs = tt
-
-cast-high : tie.Need-cast-high
-cast-high c = search needs
-
-mul-result : tie.Need-mul-result
-mul-result c = search needs
-
-add-result : tie.Need-add-result
-add-result c = search needs
+four-past-requires : tie.Need-four-past-requires
+four-past-requires c κs = search needs
 
 returns-2 : tie.Need-returns-2
-unfolding u32At
-returns-2 c = rw (c .before .u16-at .ensures, c .u16-at2 .ensures)
+returns-2 c = search needs
+
+four-requires : tie.Need-four-requires
+four-requires c κs = search needs
+
+returns-3 : tie.Need-returns-3
+returns-3 c = search needs
 
 pub u32-at-spec : {M : Type 1} → statement M
 u32-at-spec =
-    tie.close
-    (tie.spec
-    returns
-    u16-at-requires
-    cast-low
-    add-u16-at
-    u16-at-requires-2
-    cast-high
-    mul-result
-    add-result
-    returns-2)
+    tie.close (tie.spec returns sub-if2 four-past-requires returns-2 four-requires returns-3)

@@ -1,5 +1,4 @@
 -- `pack::bytes::u64_at` meets its contract. Past the end both halves are 0; before it the two calls are the definition's.
--- Assumes nothing.
 use mathlib.Core.Path.{sym}
 use borrow.Author.Needs.{needs}
 use Rattle.pack.specs.Bytes.{u64At}

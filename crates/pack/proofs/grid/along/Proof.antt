@@ -1,5 +1,4 @@
 -- `pack::grid::along` meets its contract. The sum fits 64 bits, and 32 where it passes the test.
--- Assumes nothing.
 use Prim.Native.Nat.{ℕ, _*_}
 use mathlib.Core.Bool.{false}
 use mathlib.Core.Path.{_≡_}

@@ -1,5 +1,4 @@
 -- `pack::grid::checked_of` meets its contract. Each number is tested against 0 and a count, so one set of laws over the number serves row and column.
--- Assumes nothing.
 use Prim.Native.Nat.{ℕ, _<_}
 use mathlib.Core.Bool.{true, false, true≢false}
 use mathlib.Core.Path.{_≡_, refl}

@@ -1,5 +1,4 @@
 -- `pack::grid::corner_of` meets its contract. Two calls, their arguments and results read back from their bits.
--- Assumes nothing.
 use mir.Syntax.{w32}
 use Rattle.pack.specs.Grid.{cornerOf}
 use Rattle.pack.proofs.Signed.{got}

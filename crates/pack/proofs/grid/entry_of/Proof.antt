@@ -1,5 +1,4 @@
 -- `pack::grid::entry_of` meets its contract. Nothing wraps, since a product of two u16 is below 2 ^ 32.
--- Assumes nothing.
 use mathlib.Core.Path.{refl}
 use native.Mathlib.Omega.{arith}
 use borrow.Author.Needs.{needs}

@@ -1,6 +1,5 @@
 -- `pack::grid::floor_of` meets its contract. Below 0 the code divides -1 - z and takes -1 less the quotient,
 -- which is the floor since z is `negsuc (-1 - z)`; from 0 on it divides z.
--- Assumes nothing.
 use Prim.Native.Nat.{ℕ, _-_, _/_, _<_, _≤_, _^_}
 use mathlib.Core.Bool.{true, false}
 use mathlib.Core.Path.{_≡_, sym, ap, subst, _∙_}

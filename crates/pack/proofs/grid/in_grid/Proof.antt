@@ -1,5 +1,4 @@
 -- `pack::grid::in_grid` meets its contract. Two tests.
--- Assumes nothing.
 use borrow.Author.Tests.{lt-ltb, le-ltb}
 use Rattle.pack.proofs.grid.in_grid.Statement.{statement}
 use Rattle.pack.proofs.grid.in_grid.Tie as tie

@@ -1,5 +1,4 @@
 -- `pack::grid::is_point` meets its contract. Four tests; what the code asks by `<` the definition asks by `≤` the other way round.
--- Assumes nothing.
 use lib.IntN.{pos, negsuc}
 use mir.Facts.{toZ-ofZ}
 use Rattle.pack.proofs.Signed.{below, not-below, above, not-above}

@@ -1,5 +1,4 @@
 -- `pack::grid::key_of` meets its contract. A difference of two i32 fits 64 bits, so what the callees get is the definition's.
--- Assumes nothing.
 use mathlib.Core.Path.{_≡_}
 use native.Mathlib.Omega.{arith}
 use lib.IntN.{ℤ, _-ℤ_}

@@ -1,5 +1,4 @@
 -- `pack::grid::locate_of` meets its contract. Each return by the tests that led there.
--- Assumes nothing.
 use borrow.Author.Needs.{needs}
 use borrow.Author.Tests.{eq-eqb, ne-eqb, le-leb, lt-leb}
 use Rattle.pack.specs.Grid.{locateOf}

@@ -1,4 +1,4 @@
--- `predict::choose::no_choice` meets its contract: the literal read as a whole number. Assumes nothing.
+-- `predict::choose::no_choice` meets its contract: the literal read as a whole number.
 use Rattle.geo.proofs.Literals.{literal-0}
 use Rattle.predict.proofs.choose.no_choice.Statement.{statement}
 use Rattle.predict.proofs.choose.no_choice.Tie as tie

@@ -1,4 +1,4 @@
--- `predict::choose::no_choices` meets its contract: twelve times what `no_choice` gives. Assumes nothing.
+-- `predict::choose::no_choices` meets its contract: twelve times what `no_choice` gives.
 use Rattle.predict.proofs.choose.no_choices.Statement.{statement}
 use Rattle.predict.proofs.choose.no_choices.Tie as tie
 

@@ -1,5 +1,5 @@
 -- `predict::choose::pick` meets its contract. The loop's invariant: the best and the second so far are the definition's after as many turns.
--- Each place read is one of the twelve. Assumes nothing.
+-- Each place read is one of the twelve.
 use Prim.Native.Nat.{_-_, _≤_}
 use mathlib.Core.Path.{_≡_, sym, _∙_}
 use native.Mathlib.Omega.{arith}

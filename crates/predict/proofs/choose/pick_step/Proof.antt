@@ -1,4 +1,4 @@
--- `predict::choose::pick_step` meets its contract: each return by the tests before it. Assumes nothing.
+-- `predict::choose::pick_step` meets its contract: each return by the tests before it.
 use borrow.Author.Tests.{lt-ltb, le-ltb, not-true, not-false}
 use Rattle.predict.specs.Choose.{pickStep}
 use Rattle.predict.proofs.choose.pick_step.Statement.{statement}

@@ -1,4 +1,4 @@
--- `predict::choose::push` meets its contract: each return by the test of the room. Assumes nothing.
+-- `predict::choose::push` meets its contract: each return by the test of the room.
 use borrow.Author.Tests.{le-leb, lt-leb}
 use borrow.Author.Needs.{needs}
 use Rattle.predict.specs.Choose.{push}

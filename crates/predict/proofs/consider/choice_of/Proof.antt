@@ -1,4 +1,4 @@
--- `predict::consider::choice_of` meets its contract: by its parts, in the definition's order. Assumes nothing.
+-- `predict::consider::choice_of` meets its contract: by its parts, in the definition's order.
 use Rattle.predict.specs.Consider.{choiceOf}
 use Rattle.predict.proofs.consider.choice_of.Statement.{statement}
 use Rattle.predict.proofs.consider.choice_of.Tie as tie

@@ -1,5 +1,4 @@
 -- `predict::consider::consider` meets its contract. The loop's invariant: the ways on so far are the definition's after as many entries.
--- Assumes nothing.
 use Prim.Native.Nat.{ℕ, _+_, _-_, _≤_}
 use mathlib.Core.Path.{_≡_}
 use native.Mathlib.Omega.{arith}

@@ -1,4 +1,4 @@
--- `predict::consider::consider_step` meets its contract: each return by whether the edge is a way on. Assumes nothing.
+-- `predict::consider::consider_step` meets its contract: each return by whether the edge is a way on.
 use mathlib.Core.Path.{sym, _∙_}
 use Rattle.predict.specs.Consider.{considerStep}
 use Rattle.predict.proofs.consider.consider_step.Statement.{statement}

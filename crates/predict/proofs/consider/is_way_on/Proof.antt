@@ -1,4 +1,4 @@
--- `predict::consider::is_way_on` meets its contract: each return by the pairs of tests before it. Assumes nothing.
+-- `predict::consider::is_way_on` meets its contract: each return by the pairs of tests before it.
 use mathlib.Core.Path.{sym, _∙_}
 use mathlib.Core.Logic.{⊎-elim}
 use borrow.Author.Tests.{eq-eqb, ne-eqb}

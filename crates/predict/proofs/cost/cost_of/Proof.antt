@@ -1,4 +1,4 @@
--- `predict::cost::cost_of` meets its contract: by its parts, in the definition's order. Assumes nothing.
+-- `predict::cost::cost_of` meets its contract: by its parts, in the definition's order.
 use borrow.Author.Needs.{needs}
 use Rattle.predict.specs.Cost.{costOf}
 use Rattle.predict.proofs.cost.cost_of.Statement.{statement}

@@ -1,4 +1,4 @@
--- `predict::cost::off_road` meets its contract: each return by its test. Assumes nothing.
+-- `predict::cost::off_road` meets its contract: each return by its test.
 use borrow.Author.Tests.{eq-eqb, ne-eqb}
 use Rattle.predict.proofs.cost.off_road.Statement.{statement}
 use Rattle.predict.proofs.cost.off_road.Tie as tie

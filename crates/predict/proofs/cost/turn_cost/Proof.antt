@@ -1,4 +1,4 @@
--- `predict::cost::turn_cost` meets its contract: each return by the pair of tests, with the literals read as whole numbers. Assumes nothing.
+-- `predict::cost::turn_cost` meets its contract: each return by the pair of tests, with the literals read as whole numbers.
 use mathlib.Core.Path.{sym, _∙_}
 use mathlib.Core.Logic.{⊎-elim}
 use Rattle.predict.specs.Cost.{turnCost}

@@ -1,4 +1,4 @@
--- `predict::cost::with_class` meets its contract. A difference of two bytes fits 32 bits, so what is tested is the definition's. Assumes nothing.
+-- `predict::cost::with_class` meets its contract. A difference of two bytes fits 32 bits, so what is tested is the definition's.
 use Prim.Native.Nat.{ℕ}
 use mathlib.Core.Path.{_≡_}
 use native.Mathlib.Omega.{arith}

@@ -1,4 +1,4 @@
--- `predict::cost::with_link` meets its contract: each return by the pair of tests. Assumes nothing.
+-- `predict::cost::with_link` meets its contract: each return by the pair of tests.
 use mathlib.Core.Path.{sym, _∙_}
 use mathlib.Core.Logic.{⊎-elim}
 use Rattle.predict.proofs.cost.with_link.Statement.{statement}

@@ -1,4 +1,4 @@
--- `predict::cost::with_track` meets its contract: each return by the pair of tests, with the literal read as a whole number. Assumes nothing.
+-- `predict::cost::with_track` meets its contract: each return by the pair of tests, with the literal read as a whole number.
 use mathlib.Core.Path.{sym, _∙_}
 use mathlib.Core.Logic.{⊎-elim}
 use borrow.Author.Tests.{not-true, not-false}

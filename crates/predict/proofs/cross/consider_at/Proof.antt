@@ -1,4 +1,4 @@
--- `predict::cross::consider_at` meets its contract: each return by whether the tile has the node. Assumes nothing.
+-- `predict::cross::consider_at` meets its contract: each return by whether the tile has the node.
 use mathlib.Core.Path.{sym, _∙_}
 use borrow.Author.Needs.{needs}
 use Rattle.predict.proofs.cross.consider_at.Statement.{statement}

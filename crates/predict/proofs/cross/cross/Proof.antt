@@ -1,5 +1,5 @@
 -- `predict::cross::cross` meets its contract. The loop's invariant: the ways on so far are the definition's after as many tiles; once no tile
--- is left, the definition's further steps change nothing. Assumes nothing.
+-- is left, the definition's further steps change nothing.
 use Prim.Native.Nat.{ℕ, zero, suc, _-_, _≤_}
 use mathlib.Core.Path.{_≡_, sym, ap, _∙_}
 use mathlib.Core.List.{List}

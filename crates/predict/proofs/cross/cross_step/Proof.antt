@@ -1,4 +1,4 @@
--- `predict::cross::cross_step` meets its contract: each return by the number and by how the lookups stand. Assumes nothing.
+-- `predict::cross::cross_step` meets its contract: each return by the number and by how the lookups stand.
 use borrow.Author.Needs.{needs}
 use borrow.Author.Tests.{lt-ltb, le-ltb}
 use Rattle.predict.specs.Cross.{twinStep, crossStep}

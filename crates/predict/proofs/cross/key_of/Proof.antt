@@ -1,5 +1,4 @@
 -- `predict::cross::key_of` meets its contract: a step past 65535 leads outside every grid, added or not, so the grid's answer is the same.
--- Assumes nothing.
 use Prim.Native.Nat.{ℕ, _^_, _<_}
 use mathlib.Core.Path.{_≡_, refl, sym, _∙_}
 use mathlib.Core.Bool.{Bool, true, false, _&&_, cond}

@@ -1,4 +1,4 @@
--- `predict::cross::stepped` meets its contract: a step of 65535 at most keeps the sum in 64 bits. Assumes nothing.
+-- `predict::cross::stepped` meets its contract: a step of 65535 at most keeps the sum in 64 bits.
 use Prim.Native.Nat.{ℕ}
 use mathlib.Core.Path.{_≡_}
 use mathlib.Core.Bool.{false}

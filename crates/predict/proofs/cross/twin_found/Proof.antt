@@ -1,4 +1,4 @@
--- `predict::cross::twin_found` meets its contract: each return by the lookup's answer. Assumes nothing.
+-- `predict::cross::twin_found` meets its contract: each return by the lookup's answer.
 use borrow.Author.Needs.{needs}
 use Rattle.predict.proofs.cross.twin_found.Statement.{statement}
 use Rattle.predict.proofs.cross.twin_found.Tie as tie

@@ -1,5 +1,4 @@
 -- `predict::cross::twin_step` meets its contract: each return by where the tile lies; what its lookup gives is what the reader gives.
--- Assumes nothing.
 use Prim.Native.Nat.{ℕ}
 use mathlib.Core.Path.{_≡_, refl, sym, _∙_}
 use mathlib.Core.List.{List}

@@ -1,4 +1,4 @@
--- `predict::decide::decide` meets its contract: each return by what the pick tells. Assumes nothing.
+-- `predict::decide::decide` meets its contract: each return by what the pick tells.
 use mathlib.Core.Path.{sym, _∙_}
 use borrow.Author.Tests.{not-true, not-false}
 use Rattle.predict.specs.Decide.{decide}

@@ -1,4 +1,4 @@
--- `predict::decide::lowered` meets its contract: the literals read as whole numbers. Assumes nothing.
+-- `predict::decide::lowered` meets its contract: the literals read as whole numbers.
 use Rattle.geo.proofs.Literals.{literal-1}
 use Rattle.predict.proofs.CostLiterals.{literal-4}
 use Rattle.predict.proofs.decide.lowered.Statement.{statement}

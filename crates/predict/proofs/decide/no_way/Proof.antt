@@ -1,4 +1,4 @@
--- `predict::decide::no_way` meets its contract: each return by the test. Assumes nothing.
+-- `predict::decide::no_way` meets its contract: each return by the test.
 use Rattle.predict.proofs.decide.no_way.Statement.{statement}
 use Rattle.predict.proofs.decide.no_way.Tie as tie
 

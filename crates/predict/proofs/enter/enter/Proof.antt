@@ -1,4 +1,4 @@
--- `predict::enter::enter` meets its contract: each return by whether the walk goes on. Assumes nothing.
+-- `predict::enter::enter` meets its contract: each return by whether the walk goes on.
 use borrow.Author.Needs.{needs}
 use Rattle.predict.specs.Walk.{enter}
 use Rattle.predict.proofs.Arms.{ended}

@@ -1,4 +1,4 @@
--- `predict::enter::on_edge` meets its contract: each return by whether the tile has room. Assumes nothing.
+-- `predict::enter::on_edge` meets its contract: each return by whether the tile has room.
 use borrow.Author.Tests.{not-true, not-false}
 use Rattle.predict.specs.Walk.{throughEdge}
 use Rattle.predict.proofs.enter.on_edge.Statement.{statement}

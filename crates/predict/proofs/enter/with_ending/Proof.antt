@@ -1,4 +1,4 @@
--- `predict::enter::with_ending` meets its contract: the fields as they were, but for the ending. Assumes nothing.
+-- `predict::enter::with_ending` meets its contract: the fields as they were, but for the ending.
 use mathlib.Core.Path.{refl}
 use Rattle.predict.specs.Walk.{withEnding}
 use Rattle.predict.proofs.enter.with_ending.Statement.{statement}

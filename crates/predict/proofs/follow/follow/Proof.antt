@@ -1,6 +1,6 @@
 -- `predict::follow::follow` meets its contract. The edge loop's invariant: the walk is the definition's over as many edges; that of the loop over
 -- an edge's points: the track is the definition's over as many points, and not over. The ways out: the edges have run out, the walk ended on
--- an edge, or it came to its horizon. Assumes nothing.
+-- an edge, or it came to its horizon.
 use Prim.Native.Nat.{ℕ, _+_, _-_, _≤_}
 use mathlib.Core.Path.{_≡_, refl, sym, ap, _∙_}
 use mathlib.Core.Bool.{true, false}

@@ -1,4 +1,4 @@
--- `predict::follow::goes_on` meets its contract: each return by the ending. Assumes nothing.
+-- `predict::follow::goes_on` meets its contract: each return by the ending.
 use borrow.Author.Needs.{needs}
 use Rattle.predict.proofs.Arms.{ended}
 use Rattle.predict.proofs.follow.goes_on.Statement.{statement}

@@ -1,4 +1,4 @@
--- `predict::follow::leg_of` meets its contract: by the answer of the callee. Assumes nothing.
+-- `predict::follow::leg_of` meets its contract: by the answer of the callee.
 use Rattle.predict.proofs.follow.leg_of.Statement.{statement}
 use Rattle.predict.proofs.follow.leg_of.Tie as tie
 

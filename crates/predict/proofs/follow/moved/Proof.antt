@@ -1,4 +1,4 @@
--- `predict::follow::moved` meets its contract: the fields as they were, but for the track. Assumes nothing.
+-- `predict::follow::moved` meets its contract: the fields as they were, but for the track.
 use mathlib.Core.Path.{refl}
 use Rattle.predict.specs.Walk.{moved}
 use Rattle.predict.proofs.follow.moved.Statement.{statement}

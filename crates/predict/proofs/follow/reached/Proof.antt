@@ -1,4 +1,4 @@
--- `predict::follow::reached` meets its contract: by the answers of the callees. Assumes nothing.
+-- `predict::follow::reached` meets its contract: by the answers of the callees.
 use Rattle.predict.specs.Walk.{reached}
 use Rattle.predict.proofs.follow.reached.Statement.{statement}
 use Rattle.predict.proofs.follow.reached.Tie as tie

@@ -1,5 +1,5 @@
 -- `predict::incoming::back_of` meets its contract: each arm by the answers of its callees. The point found has one after it, so its number and one
--- more fits. Assumes nothing.
+-- more fits.
 use Prim.Native.Nat.{_-_}
 use mathlib.Core.Path.{sym, _∙_}
 use native.Mathlib.Omega.{arith}

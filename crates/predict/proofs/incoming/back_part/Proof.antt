@@ -1,5 +1,4 @@
 -- `predict::incoming::back_part` meets its contract: each return by the test of the two distances, with the literals read as whole numbers.
--- Assumes nothing.
 use Rattle.geo.proofs.Literals.{literal-0, literal-1}
 use Rattle.predict.proofs.CostLiterals.{literal-25}
 use Rattle.predict.proofs.incoming.back_part.Statement.{statement}

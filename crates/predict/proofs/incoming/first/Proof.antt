@@ -1,4 +1,4 @@
--- `predict::incoming::first` meets its contract, with the literal read as a whole number. Assumes nothing.
+-- `predict::incoming::first` meets its contract, with the literal read as a whole number.
 use Rattle.geo.proofs.Literals.{literal-0}
 use Rattle.predict.proofs.incoming.first.Statement.{statement}
 use Rattle.predict.proofs.incoming.first.Tie as tie

@@ -1,4 +1,4 @@
--- `predict::incoming::incoming` meets its contract: each return by the answers of its callees and the test of the length. Assumes nothing.
+-- `predict::incoming::incoming` meets its contract: each return by the answers of its callees and the test of the length.
 use Rattle.geo.proofs.Literals.{literal-0}
 use Rattle.predict.specs.Incoming.{incoming}
 use Rattle.predict.proofs.incoming.incoming.Statement.{statement}

@@ -1,5 +1,5 @@
 -- `predict::incoming::is_back` meets its contract: each return by the test of the number, with the literal read as a whole number. A place that is
--- there reads the same whatever stands past the last one. Assumes nothing.
+-- there reads the same whatever stands past the last one.
 use mathlib.Core.Path.{_≡_, sym, _∙_}
 use native.Mathlib.Omega.{arith}
 use lib.ListN.{length, length-map}

@@ -1,5 +1,5 @@
 -- `predict::incoming::passed_at` meets its contract: a place that is there reads the same whatever stands past the last one, and past the
--- sixteenth stands the point of zeros. Assumes nothing.
+-- sixteenth stands the point of zeros.
 use Prim.Native.Nat.{_≤_}
 use mathlib.Core.Path.{_≡_, sym, _∙_}
 use native.Mathlib.Omega.{arith}

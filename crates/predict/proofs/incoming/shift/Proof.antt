@@ -1,5 +1,5 @@
 -- `predict::incoming::shift` meets its contract. The loop's invariant: the first i places hold what stood one place on, and the others what they
--- held. Assumes nothing.
+-- held.
 use Prim.Native.Nat.{_-_, _≤_}
 use mathlib.Core.Path.{_≡_, refl, sym, _∙_}
 use native.Mathlib.Omega.{arith}

@@ -1,5 +1,5 @@
 -- `predict::meets::has_met` meets its contract. The loop's invariant: no place passed holds the key. Past the last of the 96 places stands
--- one that holds none. Assumes nothing.
+-- one that holds none.
 use Prim.Native.Nat.{ℕ, _≤_, _-_}
 use mathlib.Core.Path.{_≡_, sym, _∙_}
 use mathlib.Core.Bool.{false}

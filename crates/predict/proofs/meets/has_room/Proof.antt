@@ -1,5 +1,5 @@
 -- `predict::meets::has_room` meets its contract: each return by its test; the difference that the last one takes is none where the pages
--- are past the budget. Assumes nothing.
+-- are past the budget.
 use Prim.Native.Nat.{ℕ, _+_, _-_, _≤_}
 use mathlib.Core.Path.{_≡_, refl}
 use mathlib.Core.Bool.{Bool, true, false}

@@ -1,5 +1,5 @@
 -- `predict::meets::meet` meets its contract: each return by its test. A tile that has room lies below place 96, and its pages within the
--- budget, so that no sum wraps. Assumes nothing.
+-- budget, so that no sum wraps.
 use Prim.Native.Nat.{ℕ, _+_, _≤_, _<_}
 use mathlib.Core.Path.{_≡_, sym, _∙_}
 use mathlib.Core.Bool.{true}

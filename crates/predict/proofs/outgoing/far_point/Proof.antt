@@ -1,5 +1,4 @@
 -- `predict::outgoing::far_point` meets its contract. The loop's invariant: the definition from here on is the definition from the start.
--- Assumes nothing.
 use Prim.Native.Nat.{ℕ, zero, suc, _+_, _-_, _≤_}
 use mathlib.Core.Path.{_≡_, refl, sym, _∙_}
 use mathlib.Core.Bool.{true, false}

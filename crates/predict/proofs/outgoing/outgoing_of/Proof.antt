@@ -1,4 +1,4 @@
--- `predict::outgoing::outgoing_of` meets its contract: by the answers of its callees, in the definition's order. Assumes nothing.
+-- `predict::outgoing::outgoing_of` meets its contract: by the answers of its callees, in the definition's order.
 use Rattle.predict.specs.Outgoing.{outgoingOf}
 use Rattle.predict.proofs.outgoing.outgoing_of.Statement.{statement}
 use Rattle.predict.proofs.outgoing.outgoing_of.Tie as tie

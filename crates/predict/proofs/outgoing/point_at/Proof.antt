@@ -1,5 +1,4 @@
 -- `predict::outgoing::point_at` meets its contract: each return by its tests and the answers of the tile's reader and of `geo::flat::point`.
--- Assumes nothing.
 use Prim.Native.Nat.{_+_, _-_}
 use mathlib.Core.Path.{_≡_}
 use native.Mathlib.Omega.{arith}

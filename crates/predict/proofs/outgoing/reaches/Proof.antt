@@ -1,4 +1,4 @@
--- `predict::outgoing::reaches` meets its contract: by the answers of `metres` and `length`, with the literal read as a whole number. Assumes nothing.
+-- `predict::outgoing::reaches` meets its contract: by the answers of `metres` and `length`, with the literal read as a whole number.
 use Rattle.predict.specs.Outgoing.{reaches}
 use Rattle.predict.proofs.CostLiterals.{literal-25}
 use Rattle.predict.proofs.outgoing.reaches.Statement.{statement}

@@ -1,5 +1,5 @@
 -- `predict::ridden::go_back` meets its contract. The loop's invariant: what was done is the definition's loop up to here; once the road is over
--- it stays so. Assumes nothing.
+-- it stays so.
 use Prim.Native.Nat.{_+_, _-_, _≤_}
 use mathlib.Core.Path.{_≡_, refl, sym, ap, _∙_}
 use native.Mathlib.Omega.{arith}

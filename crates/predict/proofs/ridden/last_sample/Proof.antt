@@ -1,4 +1,4 @@
--- `predict::ridden::last_sample` meets its contract: each return by its tests, after the number of the last sample is settled. Assumes nothing.
+-- `predict::ridden::last_sample` meets its contract: each return by its tests, after the number of the last sample is settled.
 use Prim.Native.Nat.{_-_}
 use mathlib.Core.Path.{_≡_}
 use mathlib.Core.Logic.{⊎-elim}

@@ -1,5 +1,5 @@
 -- `predict::ridden::ridden` meets its contract: by the answers of its callees, in the definition's order, with the literals read as whole
--- numbers. Assumes nothing.
+-- numbers.
 use mathlib.Core.Path.{_≡_, refl}
 use lib.Ieee.{binary32, ofBits, ofInt}
 use borrow.Author.Needs.{needs}

@@ -1,5 +1,5 @@
 -- `predict::road::closed` meets its contract: each return by what is answered. The idea: an answer that is no refusal leaves the state that
--- the lookups left (`lookups-left`), by the number of its variant. Assumes nothing.
+-- the lookups left (`lookups-left`), by the number of its variant.
 use Prim.Native.Nat.{ℕ}
 use mathlib.Core.Path.{_≡_, refl}
 use mathlib.Core.Logic.{_⊎_, ⊎-elim}

@@ -1,5 +1,5 @@
 -- `predict::road::from_start` meets its contract: each return by the lookup's answer. The idea: a lookup that found nothing carries on what it
--- was given. The start's height is read back from its bits. Assumes nothing.
+-- was given. The start's height is read back from its bits.
 use mir.Syntax.{w32}
 use denote.Ref.{now}
 use borrow.Author.Needs.{needs}

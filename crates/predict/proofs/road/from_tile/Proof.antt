@@ -1,4 +1,4 @@
--- `predict::road::from_tile` meets its contract: each return by the tests of the tile. Assumes nothing.
+-- `predict::road::from_tile` meets its contract: each return by the tests of the tile.
 use mathlib.Core.Path.{sym, _∙_}
 use borrow.Author.Needs.{needs}
 use borrow.Author.Tests.{not-true, not-false}

@@ -1,4 +1,4 @@
--- `predict::road::no_mark` meets its contract: the literal read as a whole number. Assumes nothing.
+-- `predict::road::no_mark` meets its contract: the literal read as a whole number.
 use Rattle.geo.proofs.Literals.{literal-0}
 use Rattle.predict.proofs.road.no_mark.Statement.{statement}
 use Rattle.predict.proofs.road.no_mark.Tie as tie

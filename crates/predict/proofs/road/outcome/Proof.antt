@@ -1,4 +1,4 @@
--- `predict::road::outcome` meets its contract: each return by how the walk ended. Assumes nothing.
+-- `predict::road::outcome` meets its contract: each return by how the walk ended.
 use borrow.Author.Needs.{needs}
 use Rattle.predict.proofs.road.outcome.Statement.{statement}
 use Rattle.predict.proofs.road.outcome.Tie as tie

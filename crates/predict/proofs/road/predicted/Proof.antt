@@ -1,29 +1,23 @@
--- `predict::road::predicted` meets its contract: each return by whether the direction is known. Assumes nothing.
-use denote.Ref.{now}
+-- `predict::road::predicted` meets its contract: each return by whether the start's key lies in the grid.
+use mathlib.Core.Path.{sym, _∙_}
 use borrow.Author.Needs.{needs}
-use Rattle.cache.specs.Direct.{looked}
-use Rattle.predict.specs.Predict.{forecastOver, predictedIn}
-use Rattle.predict.proofs.InCache.{code-predicts}
+use borrow.Author.Tests.{not-true, not-false}
 use Rattle.predict.proofs.road.predicted.Statement.{statement}
 use Rattle.predict.proofs.road.predicted.Tie as tie
 
-enum-told : tie.Need-enum-told
-enum-told c = search needs
+in-grid-requires : tie.Need-in-grid-requires
+in-grid-requires c κs = tt
 
-no-direction-requires : tie.Need-no-direction-requires
-no-direction-requires c κs = tt
-
-enum-known-forward : tie.Need-enum-known-forward
-enum-known-forward c = search needs
-
-from-start-requires : tie.Need-from-start-requires
-from-start-requires c κs = tt
+refused-requires : tie.Need-refused-requires
+refused-requires c κs = tt
 
 returns : tie.Need-returns
-unfolding predictedIn forecastOver looked
 returns c =
-    let told = c .before .enum-told .given .1 in
-    (rw (c .no-direction .ensures, told), (rw told, rw told))
+    let outside = sym (c .before .before .in-grid .ensures) ∙ not-true _ (c .before .if1 .taken) in
+    (rw (outside, c .refused .ensures), (rw outside, rw outside))
+
+directed-requires : tie.Need-directed-requires
+directed-requires c κs = tt
 
 same-length : tie.Need-same-length
 same-length c = search needs
@@ -34,20 +28,9 @@ same-length-2 c = search needs
 returns-2 : tie.Need-returns-2
 returns-2 c =
     let road = c .before .before in
-    let told = road .before .before .before .before in
-    let args = told .before .before .before .args in
-    rw (code-predicts (args .c) (now (args .arena)) (args .header) (args .start) (args .horizon-m) _ _ _ (told .forward .given .1))
-    at (road .from-start .ensures)
+    let grid = road .before .before .before in
+    let inside = sym (grid .before .in-grid .ensures) ∙ not-false _ (grid .if1 .left) in
+    rw inside (road .directed .ensures)
 
 pub predicted-spec : {M : Type 1} → statement M
-predicted-spec =
-    tie.close
-    (tie.spec
-    enum-told
-    no-direction-requires
-    enum-known-forward
-    from-start-requires
-    returns
-    same-length
-    same-length-2
-    returns-2)
+predicted-spec = tie.close (tie.spec in-grid-requires refused-requires returns directed-requires same-length same-length-2 returns-2)

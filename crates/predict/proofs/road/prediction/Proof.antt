@@ -1,4 +1,4 @@
--- `predict::road::prediction` meets its contract: by the answers of its callees, with the literals read as whole numbers. Assumes nothing.
+-- `predict::road::prediction` meets its contract: by the answers of its callees, with the literals read as whole numbers.
 use Rattle.geo.proofs.Literals.{literal-0}
 use Rattle.predict.specs.Predict.{prediction}
 use Rattle.predict.proofs.Literals.{literal-100}

@@ -1,5 +1,5 @@
 -- `predict::road::road_of` meets its contract: by the answers of its callees, in the definition's order, with the literal read as a whole
--- number. Assumes nothing.
+-- number.
 use borrow.Author.Needs.{needs}
 use Rattle.geo.proofs.Literals.{literal-0}
 use Rattle.predict.specs.Walk.{follow}

@@ -1,4 +1,4 @@
--- `predict::samples::height_at` meets its contract. A difference of two i32 fits 64 bits, and the literals are read as whole numbers. Assumes nothing.
+-- `predict::samples::height_at` meets its contract. A difference of two i32 fits 64 bits, and the literals are read as whole numbers.
 use mir.Syntax.{w16, w32}
 use mir.Facts.{toZ-ofZ}
 use Rattle.predict.specs.Samples.{heightAt}

@@ -1,6 +1,6 @@
 -- `predict::samples::push` meets its contract: a walk of its MIR, by hand. The mark's borrow is opened and the mark copied out; `pushed` takes the copy and
 -- the lent heights, which are not needed after it; the mark that it hands back is stored, and the borrow closed at it.
--- All that the proof knows of `pushed` is that it meets its contract. Assumes nothing.
+-- All that the proof knows of `pushed` is that it meets its contract.
 use mathlib.Core.Path.{_≡_, refl}
 use Prim.Native.Nat.{ℕ, _<_, _^_}
 use mathlib.Core.Bool.{true}

@@ -1,6 +1,6 @@
 -- `predict::samples::push_on` meets its contract: a walk of its MIR, by hand. The local that holds the mark is lent to `push` for a lifetime that is made for
 -- the call, and comes back at the mark that `push` left behind the borrow; the heights go on to `push`, and are not needed after it.
--- All that the proof knows of `push` is that it meets its contract. Assumes nothing.
+-- All that the proof knows of `push` is that it meets its contract.
 use mathlib.Core.Path.{_≡_, refl}
 use Prim.Native.Nat.{ℕ, _<_, _^_}
 use mathlib.Core.Bool.{true}

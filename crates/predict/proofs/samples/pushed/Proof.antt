@@ -1,4 +1,4 @@
--- `predict::samples::pushed` meets its contract. The loop's invariant: what is written from here on ends as what is written from the start. Assumes nothing.
+-- `predict::samples::pushed` meets its contract. The loop's invariant: what is written from here on ends as what is written from the start.
 use Prim.Native.Nat.{_-_}
 use mathlib.Core.Path.{_≡_, refl, sym, ap, _∙_}
 use native.Mathlib.Omega.{arith}

@@ -1,4 +1,4 @@
--- `predict::samples::sample_at` meets its contract: the literal read as a whole number. Assumes nothing.
+-- `predict::samples::sample_at` meets its contract: the literal read as a whole number.
 use Rattle.predict.proofs.SampleLiterals.{literal-20}
 use Rattle.predict.proofs.samples.sample_at.Statement.{statement}
 use Rattle.predict.proofs.samples.sample_at.Tie as tie

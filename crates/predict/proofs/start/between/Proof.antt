@@ -1,4 +1,4 @@
--- `predict::start::between` meets its contract: each field by the answer of `part_way`. Assumes nothing.
+-- `predict::start::between` meets its contract: each field by the answer of `part_way`.
 use mir.Syntax.{w32}
 use Rattle.pack.proofs.Signed.{got}
 use Rattle.predict.proofs.start.between.Statement.{statement}

@@ -1,4 +1,4 @@
--- `predict::start::first_of` meets its contract: each return by the direction and the test of the segment's number. Assumes nothing.
+-- `predict::start::first_of` meets its contract: each return by the direction and the test of the segment's number.
 use Prim.Native.Nat.{_+_, _-_}
 use mathlib.Core.Path.{_≡_}
 use native.Mathlib.Omega.{arith}

@@ -1,4 +1,4 @@
--- `predict::start::held` meets its contract: each return by its tests, and what passed both fits 32 bits. Assumes nothing.
+-- `predict::start::held` meets its contract: each return by its tests, and what passed both fits 32 bits.
 use mathlib.Core.Path.{_≡_}
 use mathlib.Core.Bool.{false}
 use native.Mathlib.Omega.{arith}

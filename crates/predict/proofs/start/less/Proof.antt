@@ -1,4 +1,4 @@
--- `predict::start::less` meets its contract: the difference of two i32 fits 64 bits, so `held` takes it as it is. Assumes nothing.
+-- `predict::start::less` meets its contract: the difference of two i32 fits 64 bits, so `held` takes it as it is.
 use mathlib.Core.Path.{_∙_}
 use mir.Syntax.{w32}
 use Rattle.predict.proofs.Signed.{got, widens, gap-fits, gap-is}

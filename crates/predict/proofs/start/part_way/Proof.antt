@@ -1,5 +1,4 @@
 -- `predict::start::part_way` meets its contract: a difference and a sum of two i32 fit 64 bits, and the callees answer by their definitions.
--- Assumes nothing.
 use mathlib.Core.Path.{_≡_}
 use native.Mathlib.Omega.{arith}
 use lib.IntN.{ℤ, _+ℤ_}

@@ -1,4 +1,4 @@
--- `predict::start::place` meets its contract: by the answers of its callees, in the definition's order. Assumes nothing.
+-- `predict::start::place` meets its contract: by the answers of its callees, in the definition's order.
 use borrow.Author.Needs.{needs}
 use Rattle.predict.specs.Start.{place}
 use Rattle.predict.proofs.start.place.Statement.{statement}

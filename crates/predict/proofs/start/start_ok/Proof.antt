@@ -1,4 +1,4 @@
--- `predict::start::start_ok` meets its contract: each return by the tests before it, with the literals read as whole numbers. Assumes nothing.
+-- `predict::start::start_ok` meets its contract: each return by the tests before it, with the literals read as whole numbers.
 use lib.IntN.{negsuc}
 use lib.Ieee.{binary32, ofBits, le}
 use mir.Facts.{toZ-ofZ}

@@ -1,4 +1,4 @@
--- `predict::turn::bound_of` meets its contract: each return by whether there is a heading of entry. Assumes nothing.
+-- `predict::turn::bound_of` meets its contract: each return by whether there is a heading of entry.
 use borrow.Author.Needs.{needs}
 use Rattle.predict.proofs.turn.bound_of.Statement.{statement}
 use Rattle.predict.proofs.turn.bound_of.Tie as tie

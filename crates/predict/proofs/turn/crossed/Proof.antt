@@ -1,4 +1,4 @@
--- `predict::turn::crossed` meets its contract: by the answers of the callees, one after the other. Assumes nothing.
+-- `predict::turn::crossed` meets its contract: by the answers of the callees, one after the other.
 use Prim.Native.Nat.{ℕ, _%_}
 use mathlib.Core.Path.{_≡_, _∙_}
 use mathlib.Core.List.{List}

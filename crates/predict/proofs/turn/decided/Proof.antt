@@ -1,5 +1,4 @@
 -- `predict::turn::decided` meets its contract: each return by whether there is a way on; what its lookup gives is what the reader gives.
--- Assumes nothing.
 use denote.Ref.{now}
 use borrow.Author.Needs.{needs}
 use Rattle.cache.specs.Reader.{inCache}

@@ -1,4 +1,4 @@
--- `predict::turn::next_by` meets its contract: each return by the lookup's answer. Assumes nothing.
+-- `predict::turn::next_by` meets its contract: each return by the lookup's answer.
 use mathlib.Core.Path.{_≡_}
 use mathlib.Core.Logic.{⊎-elim}
 use borrow.Author.Needs.{needs}

@@ -1,4 +1,4 @@
--- `predict::turn::onward` meets its contract: each return by how the lookups of the junction ended. Assumes nothing.
+-- `predict::turn::onward` meets its contract: each return by how the lookups of the junction ended.
 use denote.Ref.{now}
 use borrow.Author.Needs.{needs}
 use Rattle.cache.specs.Reader.{inCache}

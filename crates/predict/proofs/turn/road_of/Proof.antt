@@ -1,4 +1,4 @@
--- `predict::turn::road_of` meets its contract: each return by whether the edge is of a roundabout. Assumes nothing.
+-- `predict::turn::road_of` meets its contract: each return by whether the edge is of a roundabout.
 use mathlib.Core.Path.{sym, _∙_}
 use Rattle.predict.proofs.turn.road_of.Statement.{statement}
 use Rattle.predict.proofs.turn.road_of.Tie as tie

@@ -1,4 +1,4 @@
--- `predict::turn::taken` meets its contract: by the answer of the callee. Assumes nothing.
+-- `predict::turn::taken` meets its contract: by the answer of the callee.
 use Rattle.predict.specs.Walk.{withEnding, taken}
 use Rattle.predict.proofs.turn.taken.Statement.{statement}
 use Rattle.predict.proofs.turn.taken.Tie as tie

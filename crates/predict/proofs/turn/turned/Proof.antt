@@ -1,5 +1,4 @@
 -- `predict::turn::turned` meets its contract: each return by whether the edge is of a roundabout, and whether the walk already was on one.
--- Assumes nothing.
 use mathlib.Core.Path.{sym, _∙_}
 use borrow.Author.Tests.{not-true, not-false}
 use borrow.Author.Needs.{needs}

@@ -1,4 +1,4 @@
--- `predict::turn::with_entry` meets its contract: the fields as they were, but for the two headings. Assumes nothing.
+-- `predict::turn::with_entry` meets its contract: the fields as they were, but for the two headings.
 use mathlib.Core.Path.{refl}
 use Rattle.predict.specs.Walk.{withEntry}
 use Rattle.predict.proofs.turn.with_entry.Statement.{statement}

@@ -1,5 +1,4 @@
 -- `predict::twins::boundary_twins` meets its contract. The loop's invariant: the twins so far are the definition's after as many turns.
--- Assumes nothing.
 use Prim.Native.Nat.{_-_, _≤_}
 use mathlib.Core.Path.{_≡_}
 use native.Mathlib.Omega.{arith}

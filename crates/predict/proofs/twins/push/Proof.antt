@@ -1,4 +1,4 @@
--- `predict::twins::push` meets its contract: each return by the test of the room. Assumes nothing.
+-- `predict::twins::push` meets its contract: each return by the test of the room.
 use borrow.Author.Tests.{le-leb, lt-leb}
 use borrow.Author.Needs.{needs}
 use Rattle.predict.specs.Twins.{push}

@@ -1,4 +1,4 @@
--- `predict::twins::shares` meets its contract: each return by its tests. Assumes nothing.
+-- `predict::twins::shares` meets its contract: each return by its tests.
 use borrow.Author.Tests.{eq-eqb, ne-eqb}
 use Rattle.predict.proofs.twins.shares.Statement.{statement}
 use Rattle.predict.proofs.twins.shares.Tie as tie

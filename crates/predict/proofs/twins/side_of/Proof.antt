@@ -1,4 +1,4 @@
--- `predict::twins::side_of` meets its contract: each return by its tests. Assumes nothing.
+-- `predict::twins::side_of` meets its contract: each return by its tests.
 use borrow.Author.Tests.{eq-eqb, ne-eqb}
 use Rattle.predict.proofs.twins.side_of.Statement.{statement}
 use Rattle.predict.proofs.twins.side_of.Tie as tie

@@ -1,4 +1,4 @@
--- `predict::twins::twin_step` meets its contract: each return by the tests before it. Assumes nothing.
+-- `predict::twins::twin_step` meets its contract: each return by the tests before it.
 use mathlib.Core.Path.{sym, _∙_}
 use mir.Syntax.{w64}
 use borrow.Author.Tests.{eq-eqb, ne-eqb, not-true, not-false}

@@ -1,4 +1,4 @@
--- `predict::vertex::advance` meets its contract: each return by its test and the answers of its callees. Assumes nothing.
+-- `predict::vertex::advance` meets its contract: each return by its test and the answers of its callees.
 use borrow.Author.Needs.{needs}
 use mir.Facts.{toZ-ofZ}
 use mir.Syntax.{w32}

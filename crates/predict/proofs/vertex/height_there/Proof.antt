@@ -1,4 +1,4 @@
--- `predict::vertex::height_there` meets its contract: a difference of two i32 fits 64 bits. Assumes nothing.
+-- `predict::vertex::height_there` meets its contract: a difference of two i32 fits 64 bits.
 use mir.Facts.{toZ-ofZ}
 use mir.Syntax.{w32}
 use Rattle.predict.proofs.Signed.{sf, got, widens, gap-fits, gap-is}

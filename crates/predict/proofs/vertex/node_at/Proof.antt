@@ -1,4 +1,4 @@
--- `predict::vertex::node_at` meets its contract: each return by its tests and the answer of the tile's reader. Assumes nothing.
+-- `predict::vertex::node_at` meets its contract: each return by its tests and the answer of the tile's reader.
 use Prim.Native.Nat.{_+_, _-_}
 use mathlib.Core.Path.{_≡_}
 use native.Mathlib.Omega.{arith}

@@ -1,4 +1,4 @@
--- `predict::vertex::part_of` meets its contract: each return by its test, with the literals read as whole numbers. Assumes nothing.
+-- `predict::vertex::part_of` meets its contract: each return by its test, with the literals read as whole numbers.
 use Rattle.geo.proofs.Literals.{literal-0, literal-1}
 use Rattle.predict.proofs.vertex.part_of.Statement.{statement}
 use Rattle.predict.proofs.vertex.part_of.Tie as tie

@@ -1,4 +1,4 @@
--- `predict::vertex::pass` meets its contract: by the answers of its two callees. Assumes nothing.
+-- `predict::vertex::pass` meets its contract: by the answers of its two callees.
 use borrow.Author.Needs.{needs}
 use mir.Facts.{toZ-ofZ}
 use Rattle.predict.specs.Vertex.{passed}

@@ -1,4 +1,4 @@
--- `predict::vertex::reach` meets its contract: by the answers of its callees, in the definition's order. Assumes nothing.
+-- `predict::vertex::reach` meets its contract: by the answers of its callees, in the definition's order.
 use borrow.Author.Needs.{needs}
 use mir.Facts.{toZ-ofZ}
 use mir.Syntax.{w32}

@@ -1,4 +1,4 @@
--- `predict::vertex::step_of` meets its contract: by the answers of `metres` and `length`. Assumes nothing.
+-- `predict::vertex::step_of` meets its contract: by the answers of `metres` and `length`.
 use Rattle.predict.proofs.vertex.step_of.Statement.{statement}
 use Rattle.predict.proofs.vertex.step_of.Tie as tie
 

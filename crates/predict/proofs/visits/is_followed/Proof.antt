@@ -1,4 +1,4 @@
--- `predict::visits::is_followed` meets its contract: each return by the test of the edges. Assumes nothing.
+-- `predict::visits::is_followed` meets its contract: each return by the test of the edges.
 use borrow.Author.Tests.{eq-eqb, ne-eqb}
 use Rattle.predict.proofs.visits.is_followed.Statement.{statement}
 use Rattle.predict.proofs.visits.is_followed.Tie as tie

@@ -1,5 +1,5 @@
 -- `predict::visits::visit` meets its contract: a store past the last of the 128 places stores nothing, and the next place is the same
--- whether it is cut to the array before one is added or after. Assumes nothing.
+-- whether it is cut to the array before one is added or after.
 use Prim.Native.Nat.{ℕ, _+_, _%_}
 use mathlib.Core.Path.{_≡_, sym, _∙_}
 use mathlib.Core.Logic.{⊎-elim}

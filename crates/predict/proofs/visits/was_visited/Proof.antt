@@ -1,4 +1,4 @@
--- `predict::visits::was_visited` meets its contract. The loop's invariant: no place passed holds the edge. Assumes nothing.
+-- `predict::visits::was_visited` meets its contract. The loop's invariant: no place passed holds the edge.
 use Prim.Native.Nat.{ℕ, _≤_, _-_}
 use mathlib.Core.Path.{_≡_, sym, _∙_}
 use native.Mathlib.Omega.{arith}

@@ -1,4 +1,4 @@
--- `fix_line` meets its contract: the parts of the line, one behind the other from 0 on. Assumes nothing.
+-- `fix_line` meets its contract: the parts of the line, one behind the other from 0 on.
 use borrow.Author.Needs.{needs}
 use Rattle.profile_text.specs.Drive.{fixLine}
 use Rattle.profile_text.proofs.Laws.{append-more, whole}

@@ -1,6 +1,7 @@
--- `put_end` meets its contract: the name of each case is the text that the definition has. Assumes nothing.
+-- `put_end` meets its contract: the name of each case is the text that the definition has.
 use native.Mathlib.Omega.{arith}
 use borrow.Author.Needs.{needs}
+use Rattle.profile_text.specs.Codes.{codes}
 use Rattle.profile_text.specs.Drive.{end}
 use Rattle.profile_text.proofs.drive.put_end.Statement.{statement}
 use Rattle.profile_text.proofs.drive.put_end.Tie as tie
@@ -60,27 +61,27 @@ put-bytes-requires-6 : tie.Need-put-bytes-requires-6
 put-bytes-requires-6 c κs = search needs
 
 returns : tie.Need-returns
-unfolding end
+unfolding end codes
 returns c = rw (c .before .before .before .enum-told .given .1) (c .put-bytes .ensures, omega (arith, c .put-bytes .ensures .ends))
 
 returns-2 : tie.Need-returns-2
-unfolding end
+unfolding end codes
 returns-2 c = rw (c .before .before .before .enum-told2 .given .1) (c .put-bytes2 .ensures, omega (arith, c .put-bytes2 .ensures .ends))
 
 returns-3 : tie.Need-returns-3
-unfolding end
+unfolding end codes
 returns-3 c = rw (c .before .before .before .enum-told3 .given .1) (c .put-bytes3 .ensures, omega (arith, c .put-bytes3 .ensures .ends))
 
 returns-4 : tie.Need-returns-4
-unfolding end
+unfolding end codes
 returns-4 c = rw (c .before .before .before .enum-told4 .given .1) (c .put-bytes4 .ensures, omega (arith, c .put-bytes4 .ensures .ends))
 
 returns-5 : tie.Need-returns-5
-unfolding end
+unfolding end codes
 returns-5 c = rw (c .before .before .before .enum-told5 .given .1) (c .put-bytes5 .ensures, omega (arith, c .put-bytes5 .ensures .ends))
 
 returns-6 : tie.Need-returns-6
-unfolding end
+unfolding end codes
 returns-6 c = rw (c .before .before .before .enum-told6 .given .1) (c .put-bytes6 .ensures, omega (arith, c .put-bytes6 .ensures .ends))
 
 pub put-end-spec : {M : Type 1} → statement M

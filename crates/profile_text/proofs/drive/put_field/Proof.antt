@@ -1,4 +1,4 @@
--- `put_field` meets its contract: a number of at most five digits, and a blank. Assumes nothing.
+-- `put_field` meets its contract: a number of at most five digits, and a blank.
 use native.Mathlib.Omega.{arith}
 use borrow.Author.Needs.{needs}
 use Rattle.profile_text.specs.Drive.{field}

@@ -1,6 +1,7 @@
--- `put_match` meets its contract: five times '-', or the match. Assumes nothing.
+-- `put_match` meets its contract: five times '-', or the match.
 use native.Mathlib.Omega.{arith}
 use borrow.Author.Needs.{needs}
+use Rattle.profile_text.specs.Codes.{codes}
 use Rattle.profile_text.specs.Drive.{matched}
 use Rattle.profile_text.proofs.drive.put_match.Statement.{statement}
 use Rattle.profile_text.proofs.drive.put_match.Tie as tie
@@ -21,11 +22,11 @@ put-place-requires : tie.Need-put-place-requires
 put-place-requires c κs = search needs
 
 returns : tie.Need-returns
-unfolding matched
+unfolding matched codes
 returns c = rw (c .before .before .before .enum-told .given .1) (c .put-bytes .ensures, omega (arith, c .put-bytes .ensures .ends))
 
 returns-2 : tie.Need-returns-2
-unfolding matched
+unfolding matched codes
 returns-2 c = rw (c .before .before .before .place .given .1) (c .put-place .ensures)
 
 pub put-match-spec : {M : Type 1} → statement M

@@ -1,4 +1,4 @@
--- `put_metres` meets its contract: whole metres, a point, and the last digit. Assumes nothing.
+-- `put_metres` meets its contract: whole metres, a point, and the last digit.
 use native.Mathlib.Omega.{arith}
 use borrow.Author.Needs.{needs}
 use Rattle.profile_text.specs.Drive.{metres}

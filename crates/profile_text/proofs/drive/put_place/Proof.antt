@@ -1,4 +1,4 @@
--- `put_place` meets its contract: its five parts, one behind the other. Assumes nothing.
+-- `put_place` meets its contract: its five parts, one behind the other.
 use native.Mathlib.Omega.{arith}
 use borrow.Author.Needs.{needs}
 use Rattle.profile_text.specs.Drive.{place}

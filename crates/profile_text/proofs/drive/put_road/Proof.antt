@@ -1,4 +1,4 @@
--- `put_road` meets its contract: its three parts and a line end, one behind the other. Assumes nothing.
+-- `put_road` meets its contract: its three parts and a line end, one behind the other.
 use native.Mathlib.Omega.{arith}
 use borrow.Author.Needs.{needs}
 use Rattle.profile_text.specs.Drive.{road}

@@ -1,6 +1,7 @@
--- `put_status` meets its contract: the name of each case is the text that the definition has. Assumes nothing.
+-- `put_status` meets its contract: the name of each case is the text that the definition has.
 use native.Mathlib.Omega.{arith}
 use borrow.Author.Needs.{needs}
+use Rattle.profile_text.specs.Codes.{codes}
 use Rattle.profile_text.specs.Drive.{status}
 use Rattle.profile_text.proofs.drive.put_status.Statement.{statement}
 use Rattle.profile_text.proofs.drive.put_status.Tie as tie
@@ -51,23 +52,23 @@ put-bytes-requires-5 : tie.Need-put-bytes-requires-5
 put-bytes-requires-5 c κs = search needs
 
 returns : tie.Need-returns
-unfolding status
+unfolding status codes
 returns c = rw (c .before .before .before .enum-told .given .1) (c .put-bytes .ensures, omega (arith, c .put-bytes .ensures .ends))
 
 returns-2 : tie.Need-returns-2
-unfolding status
+unfolding status codes
 returns-2 c = rw (c .before .before .before .enum-told2 .given .1) (c .put-bytes2 .ensures, omega (arith, c .put-bytes2 .ensures .ends))
 
 returns-3 : tie.Need-returns-3
-unfolding status
+unfolding status codes
 returns-3 c = rw (c .before .before .before .enum-told3 .given .1) (c .put-bytes3 .ensures, omega (arith, c .put-bytes3 .ensures .ends))
 
 returns-4 : tie.Need-returns-4
-unfolding status
+unfolding status codes
 returns-4 c = rw (c .before .before .before .enum-told4 .given .1) (c .put-bytes4 .ensures, omega (arith, c .put-bytes4 .ensures .ends))
 
 returns-5 : tie.Need-returns-5
-unfolding status
+unfolding status codes
 returns-5 c = rw (c .before .before .before .enum-told5 .given .1) (c .put-bytes5 .ensures, omega (arith, c .put-bytes5 .ensures .ends))
 
 pub put-status-spec : {M : Type 1} → statement M

@@ -1,6 +1,7 @@
--- `put_way` meets its contract: the name of each case is the text that the definition has. Assumes nothing.
+-- `put_way` meets its contract: the name of each case is the text that the definition has.
 use native.Mathlib.Omega.{arith}
 use borrow.Author.Needs.{needs}
+use Rattle.profile_text.specs.Codes.{codes}
 use Rattle.profile_text.specs.Drive.{way}
 use Rattle.profile_text.proofs.drive.put_way.Statement.{statement}
 use Rattle.profile_text.proofs.drive.put_way.Tie as tie
@@ -33,15 +34,15 @@ put-bytes-requires-3 : tie.Need-put-bytes-requires-3
 put-bytes-requires-3 c κs = search needs
 
 returns : tie.Need-returns
-unfolding way
+unfolding way codes
 returns c = rw (c .before .before .before .enum-told .given .1) (c .put-bytes .ensures, omega (arith, c .put-bytes .ensures .ends))
 
 returns-2 : tie.Need-returns-2
-unfolding way
+unfolding way codes
 returns-2 c = rw (c .before .before .before .enum-told2 .given .1) (c .put-bytes2 .ensures, omega (arith, c .put-bytes2 .ensures .ends))
 
 returns-3 : tie.Need-returns-3
-unfolding way
+unfolding way codes
 returns-3 c = rw (c .before .before .before .enum-told3 .given .1) (c .put-bytes3 .ensures, omega (arith, c .put-bytes3 .ensures .ends))
 
 pub put-way-spec : {M : Type 1} → statement M

@@ -1,4 +1,4 @@
--- `above` meets its contract: in 32 bits a difference of 16-bit heights fits, and it is not negative. Assumes nothing.
+-- `above` meets its contract: in 32 bits a difference of 16-bit heights fits, and it is not negative.
 use mathlib.Core.Path.{_≡_, refl, _∙_}
 use mathlib.Core.Bool.{true}
 use native.Mathlib.Omega.{arith}

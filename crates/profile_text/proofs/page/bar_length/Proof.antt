@@ -1,4 +1,4 @@
--- `bar_length` meets its contract: both differences are those of the definition. Assumes nothing.
+-- `bar_length` meets its contract: both differences are those of the definition.
 use Prim.Native.Nat.{_*_}
 use mathlib.Core.Path.{sym, _∙_}
 use native.Mathlib.Nat.{div-le-self}

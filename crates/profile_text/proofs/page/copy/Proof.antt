@@ -1,4 +1,4 @@
--- `copy` meets its contract. The loop's invariant: the first i bytes of the text stand at the front. The measure is what is left of it. Assumes nothing.
+-- `copy` meets its contract. The loop's invariant: the first i bytes of the text stand at the front. The measure is what is left of it.
 use Prim.Native.Nat.{ℕ, _+_, _-_, _≤_, _<_}
 use mathlib.Core.Path.{_≡_}
 use mathlib.Core.List.{List}

@@ -1,4 +1,4 @@
--- `greater` meets its contract: both are read back from their bits. Assumes nothing.
+-- `greater` meets its contract: both are read back from their bits.
 use mir.Facts.{toZ-ofZ}
 use Rattle.profile_text.proofs.page.greater.Statement.{statement}
 use Rattle.profile_text.proofs.page.greater.Tie as tie

@@ -1,4 +1,4 @@
--- `lesser` meets its contract: both are read back from their bits. Assumes nothing.
+-- `lesser` meets its contract: both are read back from their bits.
 use mir.Facts.{toZ-ofZ}
 use Rattle.profile_text.proofs.page.lesser.Statement.{statement}
 use Rattle.profile_text.proofs.page.lesser.Tie as tie

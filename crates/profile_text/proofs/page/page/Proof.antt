@@ -1,4 +1,4 @@
--- `page` meets its contract: the samples that the code finds are the page's, and what was written into its own buffer is copied where there is room. Assumes nothing.
+-- `page` meets its contract: the samples that the code finds are the page's, and what was written into its own buffer is copied where there is room.
 use Prim.Native.Nat.{ℕ, _+_, _-_, _*_, _≤_, _<_}
 use mathlib.Core.Path.{_≡_, refl, sym, ap, _∙_}
 use mathlib.Core.Bool.{Bool, true, false}

@@ -1,4 +1,4 @@
--- `put_ahead` meets its contract: blanks for the digits that are missing, and the number. Assumes nothing.
+-- `put_ahead` meets its contract: blanks for the digits that are missing, and the number.
 use Prim.Native.Nat.{ℕ, _+_, _-_, _*_, _<_}
 use mathlib.Core.Path.{_≡_}
 use mathlib.Core.List.{List}

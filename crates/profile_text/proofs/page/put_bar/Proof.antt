@@ -1,4 +1,4 @@
--- `put_bar` meets its contract: the bar, the blanks that fill it, and the line end. Assumes nothing.
+-- `put_bar` meets its contract: the bar, the blanks that fill it, and the line end.
 use Prim.Native.Nat.{ℕ, _+_, _-_, _≤_}
 use mathlib.Core.Path.{_≡_}
 use mathlib.Core.List.{List, [], _∷_}

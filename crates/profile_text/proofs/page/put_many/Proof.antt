@@ -1,4 +1,4 @@
--- `put_many` meets its contract. The loop's invariant: i of the bytes are put. The measure is how many are left. Assumes nothing.
+-- `put_many` meets its contract. The loop's invariant: i of the bytes are put. The measure is how many are left.
 use Prim.Native.Nat.{ℕ, _+_, _-_, _≤_}
 use mathlib.Core.List.{List, [], _∷_}
 use native.Mathlib.Nat.{add-zero}

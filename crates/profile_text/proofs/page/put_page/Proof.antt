@@ -1,4 +1,4 @@
--- `put_page` meets its contract. The loop's invariant: behind the heading stand the lines of the samples up to i, 41 bytes each. The measure is how many are left. Assumes nothing.
+-- `put_page` meets its contract. The loop's invariant: behind the heading stand the lines of the samples up to i, 41 bytes each. The measure is how many are left.
 use Prim.Native.Nat.{ℕ, suc, _+_, _-_, _*_, _≤_, _<_}
 use mathlib.Core.Path.{_≡_, refl, sym, ap, _∙_}
 use mathlib.Core.List.{List, [], _++_}
@@ -11,6 +11,7 @@ use mir.Facts.{toZ-ofZ}
 use mir.Syntax.{w16}
 use mir.Val.{toZ, ofZ}
 use borrow.Author.Needs.{needs}
+use Rattle.profile_text.specs.Codes.{codes}
 use Rattle.profile_text.specs.Appended.{Appended}
 use Rattle.profile_text.specs.Text.{linesBy}
 use Rattle.profile_text.specs.Page.{lowest, highest, pageLine, pageHeading, pageOf, rightIn, leftIn, bar}
@@ -105,7 +106,7 @@ loop-again c =
     next _ _ _ _ _ _ _ _ _ _ (c .before .before .before .before .before .loop-test .taken) (s .pre .1 .1 .0) (l .inv) line (c .put-page-line .ensures .1)
 
 returns : tie.Need-returns Inv-loop μ-loop
-unfolding pageOf pageHeading rightIn leftIn bar
+unfolding pageOf pageHeading rightIn leftIn bar codes
 returns c = let l = c .before .loop in append-more (c .before .before .put-bytes .ensures) (done _ _ _ _ _ _ _ (l .i) (c .loop-test .left) (l .inv))
 
 pub put-page-spec : {M : Type 1} → statement M

@@ -1,4 +1,4 @@
--- `put_page_line` meets its contract: the three columns, one behind the other. Assumes nothing.
+-- `put_page_line` meets its contract: the three columns, one behind the other.
 use native.Mathlib.Omega.{arith}
 use mir.Facts.{toZ-ofZ}
 use borrow.Author.Needs.{needs}

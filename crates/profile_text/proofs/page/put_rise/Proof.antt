@@ -1,4 +1,4 @@
--- `put_rise` meets its contract: blanks, the sign, and the metres with their decimal. Assumes nothing.
+-- `put_rise` meets its contract: blanks, the sign, and the metres with their decimal.
 use Prim.Native.Nat.{ℕ, suc, _+_, _-_, _/_, _<_}
 use mathlib.Core.Path.{_≡_, ap}
 use mathlib.Core.List.{List, [], _∷_}

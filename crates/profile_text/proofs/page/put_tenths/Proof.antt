@@ -1,4 +1,4 @@
--- `put_tenths` meets its contract: whole metres, a point, and the last digit. Assumes nothing.
+-- `put_tenths` meets its contract: whole metres, a point, and the last digit.
 use Prim.Native.Nat.{_/_}
 use native.Mathlib.Omega.{arith}
 use borrow.Author.Needs.{needs}

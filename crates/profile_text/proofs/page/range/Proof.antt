@@ -1,4 +1,4 @@
--- `range` meets its contract. The loop's invariant: from what was found so far, the rest of the list has the lowest and the highest of all. The measure is what is left of it. Assumes nothing.
+-- `range` meets its contract. The loop's invariant: from what was found so far, the rest of the list has the lowest and the highest of all. The measure is what is left of it.
 use Prim.Native.Nat.{ℕ, suc, _+_, _-_, _≤_, _<_}
 use mathlib.Core.Path.{_≡_, refl, sym, ap, _∙_}
 use mathlib.Core.List.{List, [], _∷_}

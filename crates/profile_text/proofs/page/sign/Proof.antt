@@ -1,4 +1,4 @@
--- `sign` meets its contract: a height below zero is a `negsuc`. Assumes nothing.
+-- `sign` meets its contract: a height below zero is a `negsuc`.
 use mathlib.Core.Path.{sym, ap}
 use mir.Facts.{toZ-ofZ}
 use Rattle.profile_text.specs.Page.{sign}

@@ -1,4 +1,4 @@
--- `width` meets its contract. The loop's invariant: the digits counted and those of what is left are one more than n has. The measure is what is left. Assumes nothing.
+-- `width` meets its contract. The loop's invariant: the digits counted and those of what is left are one more than n has. The measure is what is left.
 use Prim.Native.Nat.{ℕ, _+_, _/_, _≤_, _<_}
 use mathlib.Core.Path.{_≡_, ap, _∙_}
 use native.Mathlib.Omega.{arith}

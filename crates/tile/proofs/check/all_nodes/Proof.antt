@@ -1,6 +1,5 @@
 -- `tile::check::all_nodes` meets its contract. The loop's invariant: every node passed is good and follows the one before it, and whether the next one
 -- does is what comparing it with (x, y) tells.
--- Assumes nothing.
 use Prim.Native.Nat.{_≤_, _-_}
 use mathlib.Core.Bool.{true, not}
 use mathlib.Core.Path.{_≡_, sym, _∙_}

@@ -1,5 +1,4 @@
 -- `tile::check::edge_ok` meets its contract: each return by the tests so far.
--- Assumes nothing.
 use borrow.Author.Tests.{le-ltb, lt-ltb}
 use borrow.Author.Needs.{needs}
 use Rattle.tile.specs.Parse.{edgeFits}

@@ -1,5 +1,4 @@
 -- `tile::check::edges_good` meets its contract. The loop's invariant: every edge passed is good.
--- Assumes nothing.
 use Prim.Native.Nat.{_≤_, _-_}
 use mathlib.Core.Bool.{true}
 use mathlib.Core.Path.{_≡_, sym, _∙_}

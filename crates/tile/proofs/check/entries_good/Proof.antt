@@ -1,5 +1,4 @@
 -- `tile::check::entries_good` meets its contract. The loop's invariant: every entry passed names an edge.
--- Assumes nothing.
 use Prim.Native.Nat.{_≤_, _-_, _*_}
 use mathlib.Core.Bool.{true}
 use mathlib.Core.Path.{_≡_, sym}

@@ -1,5 +1,4 @@
 -- `tile::check::is_head` meets its contract: each return by the tests so far.
--- Assumes nothing.
 use borrow.Author.Tests.{lt-leb, le-leb, eq-eqb, ne-eqb}
 use borrow.Author.Needs.{needs}
 use Rattle.tile.proofs.check.is_head.Statement.{statement}

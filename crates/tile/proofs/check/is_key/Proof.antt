@@ -1,5 +1,4 @@
 -- `tile::check::is_key` meets its contract: each return by the tests so far.
--- Assumes nothing.
 use borrow.Author.Tests.{eq-eqb, ne-eqb}
 use borrow.Author.Needs.{needs}
 use Rattle.tile.proofs.check.is_key.Statement.{statement}

@@ -1,5 +1,4 @@
 -- `tile::check::is_length` meets its contract: the three counts are what their readers ensure.
--- Assumes nothing.
 use borrow.Author.Needs.{needs}
 use Rattle.tile.proofs.check.is_length.Statement.{statement}
 use Rattle.tile.proofs.check.is_length.Tie as tie

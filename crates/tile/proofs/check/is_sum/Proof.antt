@@ -1,5 +1,4 @@
 -- `tile::check::is_sum` meets its contract: the sum and the four bytes are what their readers ensure.
--- Assumes nothing.
 use borrow.Author.Needs.{needs}
 use Rattle.tile.proofs.check.is_sum.Statement.{statement}
 use Rattle.tile.proofs.check.is_sum.Tie as tie

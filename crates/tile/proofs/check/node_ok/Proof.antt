@@ -1,5 +1,4 @@
 -- `tile::check::node_ok` meets its contract: each return by the tests so far.
--- Assumes nothing.
 use borrow.Author.Tests.{le-leb, lt-leb}
 use borrow.Author.Needs.{needs}
 use Rattle.tile.specs.Parse.{nodeOk}

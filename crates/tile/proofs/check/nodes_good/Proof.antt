@@ -1,5 +1,4 @@
 -- `tile::check::nodes_good` meets its contract: the lesser of the size and 65,535, by which is less.
--- Assumes nothing.
 use Prim.Native.Nat.{_≤_}
 use native.Mathlib.Nat.{min-eq-left, min-eq-right}
 use native.Mathlib.Omega.{arith}

@@ -1,5 +1,4 @@
 -- `tile::raw::adjacency_end` meets its contract: by whether a next node is there.
--- Assumes nothing.
 use borrow.Author.Tests.{lt-ltb, le-ltb}
 use borrow.Author.Needs.{needs}
 use Rattle.tile.proofs.raw.adjacency_end.Statement.{statement}

@@ -1,5 +1,4 @@
 -- `tile::raw::before` meets its contract: each return by the tests so far.
--- Assumes nothing.
 use borrow.Author.Tests.{lt-ltb, le-ltb, eq-eqb, ne-eqb}
 use Rattle.tile.proofs.raw.before.Statement.{statement}
 use Rattle.tile.proofs.raw.before.Tie as tie

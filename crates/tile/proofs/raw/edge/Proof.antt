@@ -1,5 +1,4 @@
 -- `tile::raw::edge` meets its contract: each field is what its reader ensures.
--- Assumes nothing.
 use borrow.Author.Needs.{needs}
 use Rattle.tile.specs.Layout.{edgeOf}
 use Rattle.tile.proofs.raw.edge.Statement.{statement}

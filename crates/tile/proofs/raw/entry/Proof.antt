@@ -1,5 +1,4 @@
 -- `tile::raw::entry` meets its contract: the entry's number is what its reader ensures.
--- Assumes nothing.
 use borrow.Author.Needs.{needs}
 use Rattle.tile.proofs.raw.entry.Statement.{statement}
 use Rattle.tile.proofs.raw.entry.Tie as tie

@@ -1,59 +1,62 @@
 -- `tile::raw::has_point` meets its contract: by which point the number names.
--- Assumes nothing.
 use borrow.Author.Tests.{lt-ltb, le-ltb, eq-eqb, ne-eqb}
-use borrow.Author.Needs.{needs}
 use Rattle.tile.specs.Readers.{hasPoint}
+use borrow.Author.Needs.{needs}
 use Rattle.tile.proofs.raw.has_point.Statement.{statement}
 use Rattle.tile.proofs.raw.has_point.Tie as tie
 
-u16-at-requires : tie.Need-u16-at-requires
-u16-at-requires c κs = search needs
+cast-has-node : tie.Need-cast-has-node
+cast-has-node c = search needs
+
+has-node-requires : tie.Need-has-node-requires
+has-node-requires c κs = search needs
 
 returns : tie.Need-returns
 unfolding hasPoint
-returns c = rw (c .before .u16-at .ensures, eq-eqb _ _ (c .before .before .if1 .taken))
+returns c = rw (c .has-node .ensures, eq-eqb _ _ (c .before .before .if1 .taken))
 
 cast-if2 : tie.Need-cast-if2
 cast-if2 c = search needs
 
-u16-at-requires-2 : tie.Need-u16-at-requires-2
-u16-at-requires-2 c κs = search needs
+cast-has-node-2 : tie.Need-cast-has-node-2
+cast-has-node-2 c = search needs
+
+has-node-requires-2 : tie.Need-has-node-requires-2
+has-node-requires-2 c κs = search needs
 
 returns-2 : tie.Need-returns-2
 unfolding hasPoint
-returns-2 c = rw (c .before .u16-at2 .ensures, ne-eqb _ _ (c .before .before .before .before .if1 .left), lt-ltb _ _ (c .before .before .if2 .taken))
+returns-2 c = rw (c .has-node2 .ensures, ne-eqb _ _ (c .before .before .before .before .if1 .left), lt-ltb _ _ (c .before .before .if2 .taken))
 
-cast-result : tie.Need-cast-result
-cast-result c = search needs
+cast-has-vertex : tie.Need-cast-has-vertex
+cast-has-vertex c = search needs
 
-add-result : tie.Need-add-result
-add-result c = search needs
+add-has-vertex : tie.Need-add-has-vertex
+add-has-vertex c = search needs
 
-sub-result : tie.Need-sub-result
-sub-result c = search needs
+sub-has-vertex : tie.Need-sub-has-vertex
+sub-has-vertex c = search needs
 
-u32-at-requires : tie.Need-u32-at-requires
-u32-at-requires c κs = search needs
-
-cast-result-2 : tie.Need-cast-result-2
-cast-result-2 c = search needs
+has-vertex-requires : tie.Need-has-vertex-requires
+has-vertex-requires c κs = search needs
 
 returns-3 : tie.Need-returns-3
 unfolding hasPoint
-returns-3 c = rw (c .u32-at .ensures, ne-eqb _ _ (c .before .before .before .before .if1 .left), le-ltb _ _ (c .before .before .if2 .left))
+returns-3 c = rw (c .has-vertex .ensures, ne-eqb _ _ (c .before .before .before .before .if1 .left), le-ltb _ _ (c .before .before .if2 .left))
 
 pub has-point-spec : {M : Type 1} → statement M
 has-point-spec =
     tie.close
     (tie.spec
-    u16-at-requires
+    cast-has-node
+    has-node-requires
     returns
     cast-if2
-    u16-at-requires-2
+    cast-has-node-2
+    has-node-requires-2
     returns-2
-    cast-result
-    add-result
-    sub-result
-    u32-at-requires
-    cast-result-2
+    cast-has-vertex
+    add-has-vertex
+    sub-has-vertex
+    has-vertex-requires
     returns-3)

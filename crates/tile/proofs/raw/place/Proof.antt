@@ -1,5 +1,4 @@
 -- `tile::raw::place` meets its contract: each field is what its reader ensures.
--- Assumes nothing.
 use borrow.Author.Needs.{needs}
 use Rattle.tile.specs.Layout.{placeAt}
 use Rattle.tile.proofs.raw.place.Statement.{statement}

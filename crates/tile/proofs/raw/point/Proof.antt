@@ -1,5 +1,4 @@
 -- `tile::raw::point` meets its contract: by which point the number names.
--- Assumes nothing.
 use borrow.Author.Tests.{lt-ltb, le-ltb, eq-eqb, ne-eqb}
 use borrow.Author.Needs.{needs}
 use Rattle.tile.specs.Layout.{pointOf}

@@ -1,5 +1,4 @@
 -- `tile::raw::vertex` meets its contract: the place behind the nodes, the entries and the edges.
--- Assumes nothing.
 use borrow.Author.Needs.{needs}
 use Rattle.tile.proofs.raw.vertex.Statement.{statement}
 use Rattle.tile.proofs.raw.vertex.Tie as tie

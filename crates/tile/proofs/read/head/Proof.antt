@@ -1,5 +1,4 @@
 -- `tile::read::head` meets its contract: each field is what its reader ensures.
--- Assumes nothing.
 use borrow.Author.Needs.{needs}
 use Rattle.tile.proofs.read.head.Statement.{statement}
 use Rattle.tile.proofs.read.head.Tie as tie

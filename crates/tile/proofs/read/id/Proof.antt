@@ -1,5 +1,4 @@
 -- `tile::read::id` meets its contract: each field is what its reader ensures.
--- Assumes nothing.
 use borrow.Author.Needs.{needs}
 use Rattle.tile.proofs.read.id.Statement.{statement}
 use Rattle.tile.proofs.read.id.Tie as tie

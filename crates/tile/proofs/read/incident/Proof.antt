@@ -1,20 +1,23 @@
--- `tile::read::incident` meets its contract: by whether the node is there, and the greater of the end and the start by which is greater.
--- Assumes nothing.
+-- `tile::read::incident` meets its contract: by whether the record that is read last is there, and the greater of the end and the start by which is greater.
 use Prim.Native.Nat.{_≤_}
+use mathlib.Core.Path.{sym, _∙_}
 use native.Mathlib.Nat.{max-eq-left, max-eq-right}
 use native.Mathlib.Omega.{arith}
-use borrow.Author.Tests.{lt-ltb, le-ltb}
-use borrow.Author.Needs.{needs}
+use borrow.Author.Tests.{not-true, not-false}
 use Rattle.tile.specs.Readers as Readers
+use borrow.Author.Needs.{needs}
 use Rattle.tile.proofs.read.incident.Statement.{statement}
 use Rattle.tile.proofs.read.incident.Tie as tie
 
-u16-at-requires : tie.Need-u16-at-requires
-u16-at-requires c κs = search needs
+last-read-requires : tie.Need-last-read-requires
+last-read-requires c κs = search needs
+
+has-node-requires : tie.Need-has-node-requires
+has-node-requires c κs = search needs
 
 returns : tie.Need-returns
 unfolding Readers.incident
-returns c = rw (← c .before .u16-at .ensures, le-ltb _ _ (c .if1 .taken))
+returns c = rw (← c .before .before .last-read .ensures, sym (c .before .has-node .ensures) ∙ not-true _ (c .if1 .taken))
 
 adjacency-start-requires : tie.Need-adjacency-start-requires
 adjacency-start-requires c κs = search needs
@@ -33,8 +36,8 @@ returns-2 c =
       ← c .before .adjacency-end .ensures,
       ← c .before .before .adjacency-start .ensures,
       max-eq-right falls,
-      ← c .before .before .before .before .u16-at .ensures,
-      lt-ltb _ _ (c .before .before .before .if1 .left),
+      ← c .before .before .before .before .before .last-read .ensures,
+      sym (c .before .before .before .before .has-node .ensures) ∙ not-false _ (c .before .before .before .if1 .left),
     )
 
 returns-3 : tie.Need-returns-3
@@ -44,15 +47,16 @@ returns-3 c =
       ← c .before .adjacency-end .ensures,
       ← c .before .before .adjacency-start .ensures,
       max-eq-left (c .if2 .left),
-      ← c .before .before .before .before .u16-at .ensures,
-      lt-ltb _ _ (c .before .before .before .if1 .left),
+      ← c .before .before .before .before .before .last-read .ensures,
+      sym (c .before .before .before .before .has-node .ensures) ∙ not-false _ (c .before .before .before .if1 .left),
     )
 
 pub incident-spec : {M : Type 1} → statement M
 incident-spec =
     tie.close
     (tie.spec
-    u16-at-requires
+    last-read-requires
+    has-node-requires
     returns
     adjacency-start-requires
     cast-start

@@ -1,30 +1,29 @@
 -- `tile::read::node_at` meets its contract. The loop's invariant: the search from here finds what the whole search finds.
--- Assumes nothing.
 use Prim.Native.Nat.{_≤_, _-_}
 use mathlib.Core.Path.{_≡_, sym, _∙_}
 use native.Mathlib.Omega.{arith}
 use borrow.Author.Needs.{needs}
-use Rattle.tile.specs.Layout.{nodesOf}
 use Rattle.tile.specs.Readers as Readers
 use Rattle.tile.proofs.Search.{search-step, search-none}
 use Rattle.tile.proofs.read.node_at.Statement.{statement}
 use Rattle.tile.proofs.read.node_at.Tie as tie
 
 abbrev Inv-loop : tie.InvT-loop
-Inv-loop bytes x y low₀ high₀ low high = (high ≤ nodesOf bytes) × (Readers.search (nodesOf bytes) bytes x y low high ≡ Readers.nodeAt bytes x y)
+Inv-loop bytes x y low₀ high₀ low high =
+    (high ≤ 65535) × ((high ≤ Readers.nodesThere bytes) × (Readers.search (Readers.nodesThere bytes) bytes x y low high ≡ Readers.nodeAt bytes x y))
 
 abbrev μ-loop : tie.MeasureT-loop
 μ-loop bytes x y low₀ high₀ low high = high - low
 
-u16-at-requires : tie.Need-u16-at-requires Inv-loop μ-loop
-u16-at-requires c κs = search needs
+nodes-there-requires : tie.Need-nodes-there-requires Inv-loop μ-loop
+nodes-there-requires c κs = search needs
 
 cast-high : tie.Need-cast-high Inv-loop μ-loop
 cast-high c = search needs
 
 loop-holds : tie.Need-loop-holds Inv-loop μ-loop
 unfolding Readers.nodeAt
-loop-holds c = (omega arith, rw (c .u16-at .ensures))
+loop-holds c = (omega arith, (omega (arith, c .nodes-there .ensures), rw (c .nodes-there .ensures)))
 
 add-middle : tie.Need-add-middle Inv-loop μ-loop
 add-middle c = search needs
@@ -47,12 +46,15 @@ loop-less c = search needs
 loop-again : tie.Need-loop-again Inv-loop μ-loop
 loop-again c = (
   omega arith,
-  rw (
-    search-step _ _ _ _ _ _ (c .before .before .before .loop-test .taken) (c .before .before .before .before .loop .inv .0),
-    ← c .before .before .node .ensures,
-    sym (c .before .before2 .ensures) ∙ c .if1 .taken,
-  )
-      at (c .before .before .before .before .loop .inv .1),
+  (
+    omega arith,
+    rw (
+      search-step _ _ _ _ _ _ (c .before .before .before .loop-test .taken) (c .before .before .before .before .loop .inv .1 .0),
+      ← c .before .before .node .ensures,
+      sym (c .before .before2 .ensures) ∙ c .if1 .taken,
+    )
+        at (c .before .before .before .before .loop .inv .1 .1),
+  ),
 )
 
 before-requires-2 : tie.Need-before-requires-2 Inv-loop μ-loop
@@ -64,13 +66,16 @@ loop-less-2 c = search needs
 loop-again-2 : tie.Need-loop-again-2 Inv-loop μ-loop
 loop-again-2 c = (
   omega arith,
-  rw (
-    search-step _ _ _ _ _ _ (c .before .before .before .before .before .loop-test .taken) (c .before .before .before .before .before .before .loop .inv .0),
-    ← c .before .before .before .before .node .ensures,
-    sym (c .before .before .before .before2 .ensures) ∙ c .before .before .if1 .left,
-    sym (c .before .before3 .ensures) ∙ c .if2 .taken,
-  )
-      at (c .before .before .before .before .before .before .loop .inv .1),
+  (
+    omega arith,
+    rw (
+      search-step _ _ _ _ _ _ (c .before .before .before .before .before .loop-test .taken) (c .before .before .before .before .before .before .loop .inv .1 .0),
+      ← c .before .before .before .before .node .ensures,
+      sym (c .before .before .before .before2 .ensures) ∙ c .before .before .if1 .left,
+      sym (c .before .before3 .ensures) ∙ c .if2 .taken,
+    )
+        at (c .before .before .before .before .before .before .loop .inv .1 .1),
+  ),
 )
 
 cast-t14 : tie.Need-cast-t14 Inv-loop μ-loop
@@ -79,15 +84,15 @@ cast-t14 c = search needs
 returns : tie.Need-returns Inv-loop μ-loop
 returns c =
     rw (
-      search-step _ _ _ _ _ _ (c .before .before .before .before .before .loop-test .taken) (c .before .before .before .before .before .before .loop .inv .0),
+      search-step _ _ _ _ _ _ (c .before .before .before .before .before .loop-test .taken) (c .before .before .before .before .before .before .loop .inv .1 .0),
       ← c .before .before .before .before .node .ensures,
       sym (c .before .before .before .before2 .ensures) ∙ c .before .before .if1 .left,
       sym (c .before .before3 .ensures) ∙ c .if2 .left,
     )
-    at (c .before .before .before .before .before .before .loop .inv .1)
+    at (c .before .before .before .before .before .before .loop .inv .1 .1)
 
 returns-2 : tie.Need-returns-2 Inv-loop μ-loop
-returns-2 c = sym (search-none _ _ _ _ _ _ (c .loop-test .left)) ∙ c .before .loop .inv .1
+returns-2 c = sym (search-none _ _ _ _ _ _ (c .loop-test .left)) ∙ c .before .loop .inv .1 .1
 
 pub node-at-spec : {M : Type 1} → statement M
 node-at-spec =
@@ -95,7 +100,7 @@ node-at-spec =
     (tie.spec
     Inv-loop
     μ-loop
-    u16-at-requires
+    nodes-there-requires
     cast-high
     loop-holds
     add-middle

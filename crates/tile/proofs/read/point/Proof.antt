@@ -1,5 +1,4 @@
 -- `tile::read::point` meets its contract: by whether what the number reads is there.
--- Assumes nothing.
 use mathlib.Core.Path.{sym, _∙_}
 use borrow.Author.Needs.{needs}
 use Rattle.tile.specs.Readers as Readers

@@ -1,5 +1,5 @@
 -- `Tile::edge` meets its contract: the view is taken apart, and its bytes are handed to `tile::read::edge`, with what else was passed. The walk is `one`
--- of `Thin.antt`. Assumes nothing.
+-- of `Thin.antt`.
 use mathlib.Core.Path.{refl}
 use mir.Syntax.{w16}
 use contract.Running.{givenOf, tables, tablesOf}

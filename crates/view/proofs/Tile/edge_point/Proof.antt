@@ -1,5 +1,5 @@
 -- `Tile::edge_point` meets its contract: the view is taken apart, and its bytes are handed to `view::on::edge_point`, with what else was passed. The
--- walk is `three` of `Thin.antt`. Assumes nothing.
+-- walk is `three` of `Thin.antt`.
 use mathlib.Core.Path.{refl}
 use mir.Syntax.{w64}
 use contract.Running.{givenOf, tables, tablesOf}

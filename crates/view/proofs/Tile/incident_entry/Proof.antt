@@ -1,5 +1,5 @@
 -- `Tile::incident_entry` meets its contract: the view is taken apart, and its bytes are handed to `tile::read::incident_entry`, with what else was
--- passed. The walk is `one` of `Thin.antt`. Assumes nothing.
+-- passed. The walk is `one` of `Thin.antt`.
 use mathlib.Core.Path.{refl}
 use mir.Syntax.{w32}
 use contract.Running.{givenOf, tables, tablesOf}

@@ -1,5 +1,4 @@
 -- `Tile::node_count` meets its contract: the view is taken apart, and its bytes are handed to `view::on::node_count`. The walk is `none` of `Thin.antt`.
--- Assumes nothing.
 use mir.Syntax.{w64}
 use contract.Running.{givenOf, tables, tablesOf}
 use denote.Triple.Spec.{tripleOf}

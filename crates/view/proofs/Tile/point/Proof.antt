@@ -1,5 +1,5 @@
 -- `Tile::point` meets its contract: the view is taken apart, and its bytes are handed to `tile::read::point`, with what else was passed. The walk is
--- `two` of `Thin.antt`. Assumes nothing.
+-- `two` of `Thin.antt`.
 use mathlib.Core.Path.{refl}
 use mir.Syntax.{w64}
 use contract.Running.{givenOf, tables, tablesOf}

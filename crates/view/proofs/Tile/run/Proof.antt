@@ -1,6 +1,6 @@
 -- `Tile::run` meets its contract: a walk of its MIR, by hand. `on::run` cuts the run out of the arena, and `Tile::view` makes a view of it. What the
 -- parameters own goes to the first call, what its slice owns to the second; nothing is kept. The machine value of the slice that the first call returned
--- is stored and passed on as it is. Assumes nothing.
+-- is stored and passed on as it is.
 use mathlib.Core.Path.{_≡_, refl, ap, _∙_}
 use Prim.Native.Nat.{ℕ}
 use mathlib.Core.List.{List, [], _∷_}

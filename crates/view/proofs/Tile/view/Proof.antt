@@ -1,6 +1,6 @@
 -- `Tile::view` meets its contract: a walk of its MIR, by hand. `tile::read::head` reads the head out of the bytes, and the two are put together in the
 -- result's local. A `&[u8]` is Copy, so what it owns is had twice: once for the call, and once inside the result. The head that the call returned is at
--- a machine value that is not written out; it is the one that the head's type tells. Assumes nothing.
+-- a machine value that is not written out; it is the one that the head's type tells.
 use mathlib.Core.Path.{_≡_, refl, sym, subst}
 use Prim.Native.Nat.{ℕ}
 use mathlib.Core.Bool.{Bool, true, false, _&&_}

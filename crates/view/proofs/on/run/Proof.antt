@@ -1,5 +1,5 @@
 -- `view::on::run` meets its contract: past the arena's end both sides are empty, a run that passes the end is all that is there, and any other is a
--- part. Assumes nothing.
+-- part.
 use Prim.Native.Nat.{ℕ, _+_, _*_, _-_, _<_, _≤_}
 use mathlib.Core.Path.{_≡_, sym, _∙_}
 use mathlib.Core.List.{List}

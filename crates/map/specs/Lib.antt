@@ -1,0 +1,2 @@
+-- Where places lie on the page.
+pub mod Page
