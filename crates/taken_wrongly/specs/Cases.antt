@@ -1,0 +1,104 @@
+-- Document 01, "Easily taken wrongly", and of "These fail" the programs that answer otherwise in one place: each as a case of the definitions in which the wrong answer shows. The rest of both
+-- lists stands elsewhere: `from_e7` and `key` in the bench lines, engines that are always Working, always NoPack or hand the state back in `new-steps` of engine_states.
+use Prim.Native.Nat.{ℕ, _+_}
+use mathlib.Core.Path.{_≡_}
+use mathlib.Core.Bool.{true, false}
+use mathlib.Core.List.{List, [], _∷_}
+use lib.Dec.{ltb}
+use lib.IntN.{ℤ, pos, negsuc}
+use lib.Ieee.{Float}
+use lib.ListN.{replicate, getD}
+use Rattle.pack.specs.declared.TileKey.{TileKey}
+use Rattle.geo.specs.Flat.{whole}
+use Rattle.cache.specs.Runs.{emptySlot}
+use Rattle.cache.specs.Victim.{victim}
+use Rattle.cache.specs.Lookups.{after}
+use Rattle.cache.specs.Loads as Loads
+use Rattle.cache.specs.declared.Cache.{Cache}
+use Rattle.cache.specs.declared.Loading.{Loading}
+use Rattle.cache.specs.declared.Pages.{Pages}
+use Rattle.cache.specs.declared.victim.Found.the-variants as Found
+use Rattle.matcher.specs.Keeping.{noCandidate, insert}
+use Rattle.matcher.specs.declared.Candidate.{Candidate}
+use Rattle.matcher.specs.declared.Kept.{Kept}
+use Rattle.predict.specs.Choose.{noChoice, noChoices, push}
+use Rattle.predict.specs.Decide.{decide}
+use Rattle.predict.specs.Meets.{budget, meet, nothingMet}
+use Rattle.predict.specs.Ridden.{lastSample}
+use Rattle.predict.specs.Vertex.{passed}
+use Rattle.predict.specs.declared.Choice.{Choice}
+use Rattle.predict.specs.declared.End.the-variants as End
+use Rattle.predict.specs.declared.Ending.the-variants as Ending
+use Rattle.predict.specs.declared.Track.{Track}
+use Rattle.predict.specs.declared.ridden.Back.{Back}
+use Rattle.writer.specs.TileWritten.{entriesBelow}
+use Rattle.writer.specs.PackWritten.{GivenPack, keyAt, total}
+use Rattle.writer.specs.PackWritten as PackWritten
+use Rattle.engine.specs.Publish.{forgotten}
+use Rattle.engine.specs.declared.Ahead.{Ahead}
+
+-- four pages, all empty and so of one age
+abbrev fourEmpty : Pages
+fourEmpty = record { slots = replicate 96 emptySlot; used = replicate 96 0; count = 4; clock = 0 }
+
+-- a choice, and a candidate, of this cost
+abbrev choiceOf : ℕ → Choice
+choiceOf cost = record { way = noChoice .way; cost = whole cost }
+
+abbrev pub candidateOf : ℕ → Candidate
+candidateOf cost = record {
+  found = noCandidate .found;
+  cost = whole cost;
+  joined = false;
+  «at_node» = false;
+  «along_m» = whole 0;
+}
+
+-- eight candidates of cost 5
+abbrev pub eight : Kept
+eight = record { v = replicate 8 (candidateOf 5); len = 8 }
+
+-- a candidate of cost 5 that none of the eight is
+abbrev pub ninth : Candidate
+ninth = record { found = noCandidate .found; cost = whole 5; joined = true; «at_node» = false; «along_m» = whole 0 }
+
+-- a ride of 10 m with one sample, that ends 4,000 m up
+abbrev pub rideUp : Back
+rideUp = record {
+  here = record { lat = pos 0; lon = pos 0 };
+  distance = whole 10;
+  mark = record { len = 1; distance = whole 10; z = pos 40000 };
+  over = true;
+}
+
+-- a grid of these rows and columns with tiles of these lengths
+abbrev gridOf : ℕ → ℕ → List ℕ → GivenPack
+gridOf rows cols lengths = PackWritten.given (pos 0) (pos 0) 1000 rows cols [] lengths
+
+pub record Cases : Type 0 where
+  -- "Last of equal maxima over a reversed range is the lowest start."
+  pub lowest-start : victim fourEmpty 1 ≡ Found.At 0
+  -- "Two equal lowest costs are a Fork, not the first of them."
+  pub equal-costs-fork : (confidence : Float) → decide (push (push noChoices (choiceOf 3)) (choiceOf 3)) false confidence .ending ≡ Ending.Stops End.Fork
+  -- "Once eight are kept, a candidate as dear as the worst of them is dropped."
+  pub as-dear-dropped : insert eight ninth ≡ eight
+  -- "The extra last sample of `ridden` keeps the low 16 bits": 40,000 is -25,536
+  pub low-bits-kept : getD (lastSample rideUp (replicate 11 (pos 0)) .heights) 1 (pos 0) ≡ negsuc 25535
+  -- "a load that marks the tile ready after its first chunk, or Missing": a chunk that is not the last leaves the load with more to come, and marks nothing
+  pub chunk-leaves-more : (c : Cache) (l : Loading) (arena : List ℕ) (size : ℕ) (bs : List ℕ) → ltb (l .done + Loads.chunkLen l) (l .len) ≡ true
+      → Loads.chunkStep c l arena size 0 bs ≡ Loads.over (Loads.more (Loads.further c l (l .done + Loads.chunkLen l))) (Loads.put arena (l .slot) (l .done) bs)
+  -- "Memory for every road before an edge is walked": the first tile of one page fits, whatever the page count is
+  pub first-tile-fits : (count : ℕ) (key : TileKey) → meet nothingMet (budget count) key 1 .fits ≡ true
+  -- "one flat road for every match": a point 20 m on and 5 m up sets that height, where the sample at 0 m was set before
+  pub road-rises : (t : Track) → t .mark ≡ record { len = 1; distance = whole 0; z = pos 0 }
+      → getD (passed t (whole 20) (t .here) (pos 50) (replicate 501 (pos 0)) .heights) 1 (pos 0) ≡ pos 50
+  -- "invented `loads` or generation": a load that ends ready counts one, an emptied road is one generation on
+  pub loads-by-one : (c : Cache) (l : Loading) → Loads.readied c l .loads ≡ after (c .loads)
+  pub generation-by-one : (a : Ahead) → forgotten a .generation ≡ after (a .generation)
+  -- Document 02, request 1, "adjacency by node, then edge, start before end": the entries of an edge from node 0 to itself
+  pub start-before-end : entriesBelow (0 ∷ 0 ∷ 0 ∷ 0 ∷ 0 ∷ 0 ∷ 0 ∷ []) 1 ≡ 0 ∷ 1 ∷ []
+  -- "tiles in row order": the second place of two rows and three columns
+  pub second-place : keyAt (gridOf 2 3 []) 1 ≡ record { row = 0; col = 1 }
+  -- "total where the last ends or, with none, at the data"
+  pub total-at-the-end : total (gridOf 1 1 (40 ∷ [])) ≡ 560
+  pub total-at-the-data : total (gridOf 1 1 []) ≡ 520

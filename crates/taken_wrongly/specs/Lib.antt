@@ -1,0 +1,2 @@
+-- What is easily taken wrongly.
+pub mod Cases
