@@ -75,7 +75,7 @@ fn put_node(h: Header, f: Frame, key: TileKey, n: Node) {
 
 // A point of an edge.
 fn put_point(bytes: &[u8], h: Header, f: Frame, key: TileKey, e: Edge, index: usize) {
-    match tile::read::point(bytes, e, index) {
+    match view::through::point(bytes, e, index) {
         NodeRead::Refused(_) => (),
         NodeRead::At(n) => put_node(h, f, key, n),
     }
@@ -113,33 +113,33 @@ fn put_leg(bytes: &[u8], h: Header, f: Frame, key: TileKey, e: Edge) {
         svg::put(b" oneway");
     }
     svg::put(b"\" points=\"");
-    points(bytes, h, f, key, e, 0, tile::read::points(e), true);
+    points(bytes, h, f, key, e, 0, view::through::points(e), true);
     svg::put(b"\"/>\n");
 }
 
 // The line of an edge that a fix was matched to.
 fn put_matched(bytes: &[u8], h: Header, f: Frame, key: TileKey, e: Edge) {
     svg::put(b"<polyline class=\"matched\" points=\"");
-    points(bytes, h, f, key, e, 0, tile::read::points(e), true);
+    points(bytes, h, f, key, e, 0, view::through::points(e), true);
     svg::put(b"\"/>\n");
 }
 
 pub fn matched(bytes: &[u8], h: Header, f: Frame, key: TileKey, edge: u16) {
-    match tile::read::edge(bytes, edge) {
+    match view::through::edge(bytes, edge) {
         EdgeRead::Refused(_) => (),
         EdgeRead::At(e) => put_matched(bytes, h, f, key, e),
     }
 }
 
 fn leg(bytes: &[u8], h: Header, f: Frame, key: TileKey, i: u16) {
-    match tile::read::edge(bytes, i) {
+    match view::through::edge(bytes, i) {
         EdgeRead::Refused(_) => (),
         EdgeRead::At(e) => put_leg(bytes, h, f, key, e),
     }
 }
 
 fn legs(bytes: &[u8], h: Header, f: Frame, key: TileKey) {
-    let count = view::on::edge_count(bytes);
+    let count = view::through::edge_count(bytes);
     let mut i: u16 = 0;
     while i < 65535 {
         if count <= i as usize {
@@ -151,7 +151,7 @@ fn legs(bytes: &[u8], h: Header, f: Frame, key: TileKey) {
 }
 
 fn junction(bytes: &[u8], h: Header, f: Frame, key: TileKey, i: u16) {
-    match tile::read::node(bytes, i) {
+    match view::through::node(bytes, i) {
         NodeRead::Refused(_) => (),
         NodeRead::At(n) => {
             svg::field(b"<circle class=\"node\" cx=\"", page::node_x(h, f, key, n));
@@ -162,7 +162,7 @@ fn junction(bytes: &[u8], h: Header, f: Frame, key: TileKey, i: u16) {
 }
 
 fn junctions(bytes: &[u8], h: Header, f: Frame, key: TileKey) {
-    let count = view::on::node_count(bytes);
+    let count = view::through::node_count(bytes);
     let mut i: u16 = 0;
     while i < 65535 {
         if count <= i as usize {

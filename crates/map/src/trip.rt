@@ -114,14 +114,14 @@ fn put_leg(card: Card, h: Header, f: Frame, m: Current, room: &mut [u8]) {
 fn rest(bytes: &[u8], h: Header, f: Frame, key: TileKey, e: Edge, segment: u16, forward: bool) {
     let next = (segment as usize) + 1;
     if forward {
-        tiles::points(bytes, h, f, key, e, next, tile::read::points(e), true);
+        tiles::points(bytes, h, f, key, e, next, view::through::points(e), true);
         return;
     }
     tiles::points(bytes, h, f, key, e, segment as usize, next, false);
 }
 
 fn rest_of(bytes: &[u8], h: Header, f: Frame, key: TileKey, m: Matched, forward: bool) {
-    match tile::read::edge(bytes, m.edge) {
+    match view::through::edge(bytes, m.edge) {
         EdgeRead::Refused(_) => (),
         EdgeRead::At(e) => rest(bytes, h, f, key, e, m.segment, forward),
     }

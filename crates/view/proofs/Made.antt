@@ -1,7 +1,7 @@
 -- A function with plain parameters that makes a view of its bytes in a local and passes it on, with the data, to a thin function, whose answer it
 -- returns. Its contract says nothing of a view, so whoever calls it needs no walk. `starts` gives what `Tile::view` asks, `views` what it has said, and
 -- `passes-on` what the thin function asks. In a local MIR erases the lifetime of the view's type, so the view is shown to have the type at `erased`.
--- Then comes a walk through the locals for one datum, for two and for three.
+-- Then comes a walk through the locals for no datum, for one, for two and for three.
 use mathlib.Core.Path.{_≡_, refl, ap, _∙_}
 use Prim.Native.Nat.{ℕ}
 use mathlib.Core.List.{List, [], _∷_}
@@ -104,6 +104,30 @@ module _ (R : Datum) (Ps : List Datum) (f : (κs : Lfts 1) → List ℕ → Data
 
     passes-on : (d : Tile) (u : Val) → ent 𝓤 (⋆ 𝓤 H A (‵ (B (κ, tt) .own d (u ∷ [])) ∷ (‵ (flft κ q) ⊛ ‵ ftrue) ∷ ‵ Own ∷ [])) (Answer seen R Ps f 𝓤 H A .pre (to seen R Ps f 𝓤 H A κ q d xs u))
     passes-on d u = qed W (‵ (B (κ, tt) .own d (u ∷ [])) ∷ (‵ (flft κ q) ⊛ ‵ ftrue) ∷ ‵ Own ∷ []) ∵ move ! (0 ∷ 2 ∷ []) $ fjoin ! $ move ! (1 ∷ 0 ∷ []) $ join ! $ frame ! $ done !
+
+-- ---- no data
+module _ (R : Datum) (f : List ℕ → R .row .Denot) {M : Type 1} (𝓤 : URA M) (H : Heap 𝓤) (A : Atoms 𝓤) (W : Given 𝓤 H A) (maker callee : Name) where
+  abbrev Ps₀ : List Datum
+  Ps₀ = []
+
+  abbrev F₀ : (κs : Lfts 1) → List ℕ → Data κs Ps₀ → R .row .Denot
+  F₀ κs bs xs = f bs
+
+  none-walk : (𝓣 : Tables 𝓤 H) → Triple 𝓤 (𝓣 .C maker) (View 𝓤 H A) → Triple 𝓤 (𝓣 .C callee) (Answer seen R Ps₀ F₀ 𝓤 H A) → Walk lent R Ps₀ F₀ 𝓤 H A 𝓣 (function R Ps₀ maker callee)
+  none-walk 𝓣 known-view known κ q s xs is are =
+      qed W (raw (Entry lent R Ps₀ F₀ 𝓤 H A κ q s xs) ∷ []) ∵ enter ! (𝓣 .C) (𝓣 .Λ) (function R Ps₀ maker callee) _ _ $
+      alloc1 ! (λ l₀. alloc1 ! (λ l₁. alloc1 ! (λ l₂. alloc0 ! $ params1 ! $ pass1 ! (init ! 2 refl (slice-typed 𝓤 H A W κ s is)) $ pass0 ! $
+      move ! (6 ∷ []) $ use1 W (raw (View 𝓤 H A .pre (to-view 𝓤 H A κ q s (slice s))) ⊛ ‵ (Own R Ps₀ F₀ 𝓤 H A κ q s xs W)) (starts R Ps₀ F₀ 𝓤 H A κ q s xs W) $ split ! $
+      calls-at ! (fmOf 𝓤 H (W .laws) 𝓣) (View 𝓤 H A) known-view (to-view 𝓤 H A κ q s (slice s)) (and-then ! (load ! (from ! (stop !)) (look ! 4 refl)) (no-more !)) (λ u. views 𝓤 H A κ q s (slice s) W ! tt u (λ d e dis.
+      -- [what the view owns; the token; nothing of data; room for _2; …; _1; …; room for _0; …]
+      land ! (from ! (stop !)) (init ! 3 refl (local-typed 𝓤 H A W κ d u dis)) $ use3 W (raw (Answer seen R Ps₀ F₀ 𝓤 H A .pre (to seen R Ps₀ F₀ 𝓤 H A κ q d xs u))) (passes-on R Ps₀ F₀ 𝓤 H A κ q s xs W d u) $
+      calls-at ! (fmOf 𝓤 H (W .laws) 𝓣) (Answer seen R Ps₀ F₀ 𝓤 H A) known (to seen R Ps₀ F₀ 𝓤 H A κ q d xs u) (and-then ! (load ! (from ! (stop !)) (look ! 1 refl)) (no-more !)) (λ w. answers seen R Ps₀ F₀ 𝓤 H A κ q d xs u W ! tt w (λ r e′ ris.
+      -- [the answer; the token; _2; …; _1; …; room for _0; …]
+      land ! (from ! (stop !)) (init ! 6 refl (typed R 𝓤 H A W r w ris)) $ returns ! (look ! 6 refl) $ forget ! 2 refl $ forget ! 4 refl $ forget ! 6 refl $
+      move ! (6 ∷ 7 ∷ []) $ free1 ! $ move ! (4 ∷ 5 ∷ []) $ free1 ! $ move ! (2 ∷ 3 ∷ []) $ free1 ! $ free0 ! $ by ! (exits lent R Ps₀ F₀ 𝓤 H A κ q s xs W r w (e′ ∙ ap (λ (b : Tile). F₀ (κ, tt) (now (b .bytes)) xs) e)))))))))
+
+  pub none : Shown R Ps₀ F₀ 𝓤 H A maker callee
+  none 𝓣 known-view known = meets lent R Ps₀ F₀ 𝓤 H A W 𝓣 (function R Ps₀ maker callee) (none-walk 𝓣 known-view known)
 
 -- ---- one datum
 module _ (R P : Datum) (f : List ℕ → P .row .Denot → R .row .Denot) {M : Type 1} (𝓤 : URA M) (H : Heap 𝓤) (A : Atoms 𝓤) (W : Given 𝓤 H A) (maker callee : Name) where

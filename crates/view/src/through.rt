@@ -9,8 +9,21 @@ use tile::EntryRead;
 use tile::Found;
 use tile::NodeRead;
 ghost use mathlib.Core.Path.{_≡_};
+ghost use Rattle.tile.specs.Layout as Layout;
 ghost use Rattle.tile.specs.Readers as Readers;
 ghost use Rattle.geo.specs.Points as Points;
+
+pub fn node_count(bytes: &[u8]) -> usize
+    ensures { λ r. ⌜ r ≡ Layout.nodesOf (now (bytes .entry)) ⌝ }
+{
+    Tile::view(bytes).node_count()
+}
+
+pub fn edge_count(bytes: &[u8]) -> usize
+    ensures { λ r. ⌜ r ≡ Layout.edgesOf (now (bytes .entry)) ⌝ }
+{
+    Tile::view(bytes).edge_count()
+}
 
 pub fn node(bytes: &[u8], index: u16) -> NodeRead
     ensures { λ r. ⌜ r ≡ Readers.node (now (bytes .entry)) index ⌝ }
@@ -40,6 +53,13 @@ pub fn point(bytes: &[u8], edge: Edge, index: usize) -> NodeRead
     ensures { λ r. ⌜ r ≡ Readers.point (now (bytes .entry)) edge index ⌝ }
 {
     Tile::view(bytes).point(edge, index)
+}
+
+// How many points an edge has. Its record says it, so no view is made.
+pub fn points(edge: Edge) -> usize
+    ensures { λ r. ⌜ r ≡ Layout.points edge ⌝ }
+{
+    tile::read::points(edge)
 }
 
 pub fn node_at(bytes: &[u8], x: u16, y: u16) -> Found
