@@ -6,6 +6,7 @@ use mathlib.Core.Logic.{_⊎_, inl, inr, ⊎-elim}
 use native.Mathlib.Omega.{arith}
 use lib.Dec.{ltb, eqb}
 use borrow.Author.Tests.{ltb-true, ltb-false, eqb-true, eqb-false}
+pub use Rattle.tile.proofs.Laws.{and-left, and-right, all-at}
 use Rattle.cache.specs.Runs.{allBelow}
 
 -- ---- cases
@@ -24,26 +25,9 @@ same-or a b = by (eqb a b) refl
     by true e = inl (eqb-true a b e)
     by false e = inr (eqb-false a b e)
 
-pub and-left : (a b : Bool) → (a && b) ≡ true → a ≡ true
-and-left true b e = refl
-and-left false b e = absurd (true≢false (sym e))
-
-pub and-right : (a b : Bool) → (a && b) ≡ true → b ≡ true
-and-right true b e = e
-and-right false b e = absurd (true≢false (sym e))
-
 -- ---- every number below
 
 module _ (p : ℕ → Bool) where
-  pub all-at : (i n : ℕ) → i < n → allBelow p n ≡ true → p i ≡ true
-  unfolding allBelow
-  all-at i zero h e = absurd (omega arith)
-  all-at i (suc n) h e =
-      ⊎-elim
-      (λ q. ap p q ∙ and-right (allBelow p n) (p n) e)
-      (λ q. all-at i n (omega (arith, q)) (and-left (allBelow p n) (p n) e))
-      (same-or i n)
-
   -- each below n has it
   pub all-from : (n : ℕ) → ((i : ℕ) → i < n → p i ≡ true) → allBelow p n ≡ true
   unfolding allBelow

@@ -8,6 +8,7 @@ use mathlib.Core.List.{List}
 use mathlib.Core.Path.{_≡_}
 use lib.Dec.{eqb, ltb, leb}
 use lib.ListN.{length, getD}
+unfoldable pub use Rattle.tile.specs.Below.{allBelow}
 use Rattle.cache.specs.declared.Slot.{Slot}
 use Rattle.cache.specs.declared.Pages.{Pages}
 use Rattle.cache.specs.declared.Part.{Part}
@@ -69,11 +70,6 @@ noKey MaybeKey.Nothing = true
 noKey (MaybeKey.Key k) = false
 
 -- ---- well-formed, as a test
-
--- p holds of each number below the bound
-unfoldable pub allBelow : (ℕ → Bool) → ℕ → Bool
-allBelow p zero = true
-allBelow p (suc n) = allBelow p n && p n
 
 -- the n pages after p are pieces of the run at p
 abbrev pub piecesOk : List Slot → ℕ → ℕ → Bool

@@ -8,7 +8,7 @@ use Rattle.pack.specs.Sector.{allOf}
 use Rattle.pack.specs.declared.TileKey.{TileKey}
 use Rattle.tile.specs.Parse.{accepts, parse, clauses, isLong, isMagic, isVersion, isSum, isKey, isLength, hasLon, nodesGood, edgesGood, entriesGood, nodesOrdered}
 use Rattle.tile.specs.declared.Parsed.the-variants as Parsed
-use Rattle.tile.proofs.Laws.{clause-miss}
+use Rattle.tile.proofs.Laws.{broken}
 
 first-three : (a b d rest : Bool) → (a && (b && (d && rest))) ≡ ((a && (b && d)) && rest)
 first-three true true d rest = refl
@@ -18,7 +18,7 @@ first-three false b d rest = refl
 module _ (bs : List ℕ) (key : TileKey) (size : ℕ) where
   pub refused-by : (k : ℕ) → getD (clauses bs key size) k true ≡ false → Parsed.Refused 4 ≡ parse bs key size
   unfolding parse accepts
-  refused-by k e = rw (clause-miss k (clauses bs key size) e)
+  refused-by k e = rw (broken k (clauses bs key size) e)
 
   pub head-first : accepts bs key size
       ≡ ((isLong bs && (isMagic bs && isVersion bs))

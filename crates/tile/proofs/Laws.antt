@@ -1,29 +1,13 @@
--- Laws about conjunctions, about a sum that is tested as a difference, about a test of every number below a bound and of any, and about a list of clauses.
+-- Laws about a sum that is tested as a difference, and about a test of every number below a bound and of any. Those about conjunctions and lists of clauses are pack's.
 use Prim.Native.Nat.{ℕ, zero, suc, _+_, _-_, _≤_, _<_}
 use mathlib.Core.Path.{_≡_, refl, sym, ap, _∙_}
-use mathlib.Core.Bool.{Bool, true, false, _&&_, _||_, true≢false}
-use mathlib.Core.List.{List, [], _∷_}
+use mathlib.Core.Bool.{Bool, true, false, _||_, true≢false}
 use native.Mathlib.Numerals.{add-one}
 use native.Mathlib.Omega.{arith}
 use lib.Dec.{leb, eqb}
-use lib.ListN.{getD}
 use borrow.Author.Tests.{eqb-true, eqb-false, leb-true, leb-false, le-leb, lt-leb}
-use Rattle.pack.specs.Sector.{allOf}
+pub use Rattle.pack.proofs.Laws.{and-left, and-right, and-not, clause, broken}
 use Rattle.tile.specs.Below.{allBelow, anyBelow}
-
--- ---- a conjunction
-
-pub and-left : (a b : Bool) → (a && b) ≡ true → a ≡ true
-and-left true b e = refl
-and-left false b e = absurd (true≢false (sym e))
-
-pub and-right : (a b : Bool) → (a && b) ≡ true → b ≡ true
-and-right true b e = e
-and-right false b e = absurd (true≢false (sym e))
-
-pub and-miss : (a b : Bool) → b ≡ false → (a && b) ≡ false
-and-miss true b e = e
-and-miss false b e = refl
 
 -- ---- a sum against a bound, as a difference
 
@@ -86,19 +70,3 @@ pub any-none : (p : ℕ → Bool) (n : ℕ) → ((i : ℕ) → i < n → p i ≡
 unfolding anyBelow
 any-none p zero h = refl
 any-none p (suc n) h = rw (any-none p n (λ (i : ℕ) (k : i < n). h i (omega arith)), h n (omega arith))
-
--- ---- a list of clauses
-
--- the clause at k of a list that holds
-pub clause : (k : ℕ) (bs : List Bool) → allOf bs ≡ true → getD bs k true ≡ true
-clause k [] e = refl
-clause zero (b ∷ bs) e = and-left b (allOf bs) e
-clause (suc k) (b ∷ bs) e = clause k bs (and-right b (allOf bs) e)
-
--- a list with a clause that fails
-pub clause-miss : (k : ℕ) (bs : List Bool) → getD bs k true ≡ false → allOf bs ≡ false
-clause-miss k bs t = go (allOf bs) refl
-  where
-    go : (b : Bool) → allOf bs ≡ b → b ≡ false
-    go true e = absurd (true≢false (sym (clause k bs e) ∙ t))
-    go false e = refl

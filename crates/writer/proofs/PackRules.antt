@@ -13,18 +13,18 @@ use Rattle.tile.specs.declared.Parsed.the-variants as Parsed
 use Rattle.tile.specs.Layout.{headOf}
 use Rattle.tile.specs.Parse.{accepts, parse}
 use Rattle.tile.specs.Order.{follows, isBelow}
-use Rattle.tile.proofs.Laws.{clause-miss}
+use Rattle.tile.proofs.Laws.{broken}
 use Rattle.writer.specs.PackWritten.{GivenPack, gridRules, gridGood, tileRules, tileIsGood, packRules, packGood}
 
 pub grid-broken : (g : GivenPack) (k : ℕ) → getD (gridRules g) k true ≡ false → gridGood g ≡ false
-grid-broken g k e = clause-miss k (gridRules g) e
+grid-broken g k e = broken k (gridRules g) e
 
 pub tile-broken : (g : GivenPack) (bs : List ℕ) (k : ℕ) → getD (tileRules g bs) k true ≡ false → tileIsGood g bs ≡ false
-tile-broken g bs k e = clause-miss k (tileRules g bs) e
+tile-broken g bs k e = broken k (tileRules g bs) e
 
 pub pack-broken : (g : GivenPack) (k : ℕ) → getD (packRules g) k true ≡ false → packGood g ≡ false
 unfolding packGood
-pack-broken g k e = clause-miss k (packRules g) e
+pack-broken g k e = broken k (packRules g) e
 
 module _ (bs : List ℕ) (key : TileKey) (size : ℕ) where
   pub parse-tile : (h : Head) → parse bs key size ≡ Parsed.Tile h → accepts bs key size ≡ true

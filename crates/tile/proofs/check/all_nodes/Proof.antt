@@ -9,7 +9,7 @@ use borrow.Author.Tests.{not-true, not-false}
 use Rattle.tile.specs.Order.{before, follows, inOrder}
 use Rattle.tile.specs.Parse.{nodeOk, allBelow, nodesOrdered}
 use Rattle.tile.specs.Layout.{nodesOf, nodeOf}
-use Rattle.tile.proofs.Laws.{and-miss, all-none, all-more, all-miss, all-end}
+use Rattle.tile.proofs.Laws.{and-not, all-none, all-more, all-miss, all-end}
 use Rattle.tile.proofs.Ordered.{follows-first, follows-next}
 use Rattle.tile.proofs.check.all_nodes.Statement.{statement}
 use Rattle.tile.proofs.check.all_nodes.Tie as tie
@@ -66,7 +66,7 @@ returns-2 c =
     let bytes = c .before .before .before .before .before .before .before .before .before .before .args .bytes .now in
     let size = c .before .before .before .before .before .before .before .before .before .before .args .size in
     let index = c .before .before .before .before .before .before .loop .index in
-    sym (and-miss (allBelow (nodeOk bytes size) (nodesOf bytes)) (nodesOrdered bytes) (all-miss (follows (nodeOf bytes)) index (nodesOf bytes) (omega arith)
+    sym (and-not (allBelow (nodeOk bytes size) (nodesOf bytes)) (nodesOrdered bytes) (all-miss (follows (nodeOf bytes)) index (nodesOf bytes) (omega arith)
     (sym (c .before .before .before .before .before .before .loop .inv .1 .1 .1) ∙ rw (← c .before .before .node .ensures, sym (c .before .before2 .ensures) ∙ c .if2 .taken))))
 
 add-index : tie.Need-add-index Inv-loop μ-loop
