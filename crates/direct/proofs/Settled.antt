@@ -290,7 +290,7 @@ module _ (at : Lookup) (n : ℕ) (horizon : Float) (answers : Answers n at) wher
         next k = cond k (e₁ .follower) (record {
           sight = Fixes.seen (e₁ .follower .sight) f;
           matcher = e₁ .follower .matcher;
-          due = Followers.withMatching (e₁ .follower .due);
+          due = Followers.matchAsked (e₁ .follower .due);
           ahead = e₁ .follower .ahead;
           failures = e₁ .follower .failures;
           «horizon_m» = e₁ .follower .«horizon_m»;

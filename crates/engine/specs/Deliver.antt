@@ -24,6 +24,7 @@ use Rattle.cache.specs.declared.Loaded.{Loaded}
 use Rattle.cache.specs.declared.Progress.{Progress}
 use Rattle.cache.specs.declared.Progress.the-variants as Progress
 use Rattle.num.specs.Fold.{upTo}
+use Rattle.engine.specs.Setters as Setters
 use Rattle.engine.specs.declared.Due.{Due}
 use Rattle.engine.specs.declared.Follower.{Follower}
 use Rattle.engine.specs.declared.Engine.{Engine}
@@ -57,15 +58,7 @@ abbrev pub withPhase : Shared → Phase → Header → Shared
 withPhase s phase h = record { phase = phase; header = h; cache = withPending (s .cache) Pending.Nothing }
 
 abbrev pub failing : Follower → ℕ → Follower
-failing f failures = record {
-  sight = f .sight;
-  matcher = f .matcher;
-  due = f .due;
-  ahead = f .ahead;
-  failures = failures;
-  «horizon_m» = f .«horizon_m»;
-  steps = f .steps;
-}
+failing f failures = Setters.withFailures f failures
 
 abbrev pub withFailures : Engine → Shared → ℕ → Status → Stepped
 withFailures e s failures answer = record { answer = answer; engine = record { shared = s; follower = failing (e .follower) failures } }
@@ -92,7 +85,7 @@ headerCame e failure bs =
 -- ---- a part of the tile that is needed
 
 abbrev pub needless : Due → Due
-needless d = record { matching = d .matching; road = d .road; «last_road» = d .«last_road»; need = MaybeKey.Nothing; reloads = d .reloads }
+needless d = Setters.withNeed d MaybeKey.Nothing
 
 -- the tile is settled
 unfoldable pub arrived : Engine → Cache → Stepped

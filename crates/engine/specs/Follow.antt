@@ -18,6 +18,7 @@ use Rattle.engine.specs.declared.MaybeTime.the-variants as MaybeTime
 use Rattle.engine.specs.declared.Ahead.{Ahead}
 use Rattle.engine.specs.Fixes as Fixes
 use Rattle.engine.specs.Publish.{nothingAhead, forgotten}
+use Rattle.engine.specs.Setters.{withSight, withMatcher, withDue, withAhead, withFailures, withMatching, withRoad}
 
 abbrev pub nothingDone : Bool → Due
 nothingDone matching = record { matching = matching; road = false; «last_road» = MaybeTime.Nothing; need = MaybeKey.Nothing; reloads = 0 }
@@ -34,25 +35,17 @@ fresh horizon = record {
   steps = 0;
 }
 
-abbrev pub withMatching : Due → Due
-withMatching d = record { matching = true; road = d .road; «last_road» = d .«last_road»; need = d .need; reloads = d .reloads }
+abbrev pub matchAsked : Due → Due
+matchAsked d = withMatching d true
 
-abbrev pub withNothing : Due → Due
-withNothing d = record { matching = false; road = false; «last_road» = d .«last_road»; need = d .need; reloads = d .reloads }
+abbrev pub nothingAsked : Due → Due
+nothingAsked d = withRoad (withMatching d false) false
 
 -- a match is due; nothing changes where the fix is at the same place
 unfoldable pub fixed : Follower → Fix → Follower
 fixed f fix =
     cond (Fixes.isSamePlace (f .sight .fix) fix) f
-    (record {
-      sight = Fixes.seen (f .sight) fix;
-      matcher = f .matcher;
-      due = withMatching (f .due);
-      ahead = f .ahead;
-      failures = f .failures;
-      «horizon_m» = f .«horizon_m»;
-      steps = f .steps;
-    })
+    (withDue (withSight f (Fixes.seen (f .sight) fix)) (matchAsked (f .due)))
 
 abbrev pub isMatched : Current → Bool
 isMatched Current.Nothing = false
@@ -63,27 +56,11 @@ abbrev pub lostAhead : Ahead → Ahead
 lostAhead a = cond (isMatched (a .matched)) (forgotten a) a
 
 unfoldable pub lost : Follower → Follower
-lost f = record {
-  sight = Fixes.lost (f .sight);
-  matcher = Matching.reset;
-  due = withNothing (f .due);
-  ahead = lostAhead (f .ahead);
-  failures = f .failures;
-  «horizon_m» = f .«horizon_m»;
-  steps = f .steps;
-}
+lost f = withAhead (withDue (withMatcher (withSight f (Fixes.lost (f .sight))) Matching.reset) (nothingAsked (f .due))) (lostAhead (f .ahead))
 
 abbrev pub hasFix : MaybeFix → Bool
 hasFix MaybeFix.Nothing = false
 hasFix (MaybeFix.Is fix) = true
 
 unfoldable pub reset : Follower → Follower
-reset f = record {
-  sight = f .sight;
-  matcher = Matching.reset;
-  due = nothingDone (hasFix (f .sight .fix));
-  ahead = forgotten (f .ahead);
-  failures = 0;
-  «horizon_m» = f .«horizon_m»;
-  steps = f .steps;
-}
+reset f = withFailures (withAhead (withDue (withMatcher f Matching.reset) (nothingDone (hasFix (f .sight .fix)))) (forgotten (f .ahead))) 0

@@ -1,6 +1,7 @@
 -- What follows one rider: fixes and heading, the road that is published, the state.
 pub mod Fixes
 pub mod Publish
+pub mod Setters
 pub mod Follow
 -- The engine: the states that number 12 names, the steps, the work of a step, the deliveries, and the public functions.
 pub mod State

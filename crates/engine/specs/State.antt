@@ -9,6 +9,7 @@ use mathlib.Core.List.{List, [], _∷_}
 use lib.Dec.{eqb, ltb, leb}
 use lib.IntN.{pos}
 use Rattle.pack.specs.Sector.{allOf, rules}
+use Rattle.pack.specs.Sector as Sector
 use Rattle.pack.specs.Grid.{inGrid, isPoint}
 use Rattle.pack.specs.declared.Header.{Header}
 use Rattle.pack.specs.declared.TileKey.{TileKey}
@@ -47,20 +48,7 @@ use Rattle.engine.specs.declared.Taken.the-variants as Taken
 -- ---- before the header is read
 
 abbrev pub noHeader : Header
-noHeader = record {
-  tile = 0;
-  south = pos 0;
-  west = pos 0;
-  rows = 0;
-  cols = 0;
-  directory = 0;
-  «data» = 0;
-  total = 0;
-  tiles = 0;
-  created = 0;
-  «attribution_offset» = 0;
-  «attribution_len» = 0;
-}
+noHeader = Sector.empty
 
 abbrev pub unread : Cache → Shared
 unread c = record { phase = Phase.Unread; header = noHeader; cache = c }

@@ -27,6 +27,7 @@ use Rattle.engine.specs.declared.Status.the-variants as Status
 use Rattle.engine.specs.declared.Stepped.{Stepped}
 use Rattle.engine.specs.Work.{worked}
 use Rattle.engine.specs.Deliver as Deliver
+pub use Rattle.engine.specs.Deliver.{withPending}
 
 -- ---- a fetch
 
@@ -40,9 +41,6 @@ requestOf s Pending.Nothing = Status.Refused 12
 requestOf s Pending.Header = Status.Fetch 0 512
 requestOf s (Pending.Entry key) = Status.Fetch (entryOf (s .header) key) 8
 requestOf s Pending.Chunk = chunkRequest (s .cache .loading)
-
-abbrev pub withPending : Cache → Pending → Cache
-withPending c pending = Deliver.withPending c pending
 
 -- the engine with that fetch open, and its read
 abbrev pub opened : Engine → Pending → Stepped

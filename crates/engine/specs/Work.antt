@@ -46,54 +46,12 @@ use Rattle.engine.specs.declared.Engine.{Engine}
 use Rattle.engine.specs.declared.Status.{Status}
 use Rattle.engine.specs.declared.Status.the-variants as Status
 use Rattle.engine.specs.declared.Stepped.{Stepped}
+pub use Rattle.engine.specs.Setters.{withMatcher, withDue, withAhead, withSteps, withMatching, withRoad, withLastRoad, withNeed, withReloads}
 use Rattle.engine.specs.State.{refused, reloadLimit}
-
--- ---- a follower with one thing changed
-
-abbrev pub withDue : Follower → Due → Follower
-withDue f due = record {
-  sight = f .sight;
-  matcher = f .matcher;
-  due = due;
-  ahead = f .ahead;
-  failures = f .failures;
-  «horizon_m» = f .«horizon_m»;
-  steps = f .steps;
-}
-
-abbrev pub withAhead : Follower → Ahead → Follower
-withAhead f ahead = record {
-  sight = f .sight;
-  matcher = f .matcher;
-  due = f .due;
-  ahead = ahead;
-  failures = f .failures;
-  «horizon_m» = f .«horizon_m»;
-  steps = f .steps;
-}
-
-abbrev pub withMatcher : Follower → Matcher → Follower
-withMatcher f m = record {
-  sight = f .sight;
-  matcher = m;
-  due = f .due;
-  ahead = f .ahead;
-  failures = f .failures;
-  «horizon_m» = f .«horizon_m»;
-  steps = f .steps;
-}
 
 -- one step more is counted, in 32 bits
 abbrev pub counted : Follower → Follower
-counted f = record {
-  sight = f .sight;
-  matcher = f .matcher;
-  due = f .due;
-  ahead = f .ahead;
-  failures = f .failures;
-  «horizon_m» = f .«horizon_m»;
-  steps = after (f .steps);
-}
+counted f = withSteps f (after (f .steps))
 
 abbrev pub ended : Engine → Cache → Follower → Status → Stepped
 ended e c f answer = record {
@@ -111,7 +69,7 @@ emptied a at end = cond (isMatched (a .matched)) (withoutMatch a at end) a
 -- ---- off the map: a published match is cleared with its road
 
 abbrev pub matchingOff : Due → Due
-matchingOff d = record { matching = false; road = d .road; «last_road» = d .«last_road»; need = d .need; reloads = d .reloads }
+matchingOff d = withMatching d false
 
 unfoldable pub offMap : Follower → Fix → Follower
 offMap f fix =
@@ -121,7 +79,7 @@ offMap f fix =
 -- ---- a tile is needed first
 
 abbrev pub asking : Due → TileKey → ℕ → Due
-asking d key reloads = record { matching = d .matching; road = d .road; «last_road» = d .«last_road»; need = MaybeKey.Key key; reloads = reloads }
+asking d key reloads = withReloads (withNeed d (MaybeKey.Key key)) reloads
 
 abbrev pub mayAsk : Due → ℕ → Bool
 mayAsk d pages = ltb (d .reloads) (reloadLimit pages)
@@ -138,7 +96,7 @@ isTime MaybeTime.Nothing now = true
 isTime (MaybeTime.At at) now = leb 2000 (now - at)
 
 abbrev pub matchDone : Due → Bool → Due
-matchDone d road = record { matching = false; road = road; «last_road» = d .«last_road»; need = d .need; reloads = 0 }
+matchDone d road = withReloads (withRoad (withMatching d false) road) 0
 
 abbrev pub matchedBy : Current → Follower → Matcher → Fix → Follower
 matchedBy Current.Nothing f m fix =
@@ -176,7 +134,7 @@ abbrev pub noRoad : Prediction
 noRoad = record { len = 0; behind = 0; «behind_m» = whole 0; end = End.Memory; «end_m» = whole 0; confidence = 0 }
 
 abbrev pub roadDone : Due → ℕ → Due
-roadDone d at = record { matching = d .matching; road = false; «last_road» = MaybeTime.At at; need = d .need; reloads = 0 }
+roadDone d at = withReloads (withLastRoad (withRoad d false) (MaybeTime.At at)) 0
 
 unfoldable pub published : Follower → Ahead → Fix → Matched → Prediction → Follower
 published f a fix found p = withAhead (withDue f (roadDone (f .due) (fix .«at_ms»))) (withMatch a (fix .«at_ms») found p)
@@ -188,7 +146,7 @@ roadAsks f pages fix found key =
 
 -- 6 and 10: the matcher cleared, a match due, and the road still due
 abbrev pub matchingOn : Due → Due
-matchingOn d = record { matching = true; road = d .road; «last_road» = d .«last_road»; need = d .need; reloads = d .reloads }
+matchingOn d = withMatching d true
 
 abbrev pub rematch : Follower → Follower
 rematch f = withDue (withMatcher f Matching.reset) (matchingOn (f .due))
@@ -225,7 +183,7 @@ roadStep e arena f fix found =
     roadEndedBy (x .predicted .answer) e f fix found x
 
 abbrev pub roadOff : Due → Due
-roadOff d = record { matching = d .matching; road = false; «last_road» = d .«last_road»; need = d .need; reloads = d .reloads }
+roadOff d = withRoad d false
 
 abbrev pub roadDueBy : Current → Engine → List ℕ → Follower → Fix → Stepped
 roadDueBy (Current.Is found) e arena f fix = roadStep e arena f fix found

@@ -115,7 +115,7 @@ fixed-ok s f fix n here ok = by (Fixes.isSamePlace (f .sight .fix) fix)
     by : (t : Bool) → Ok s (cond t f (record {
       sight = Fixes.seen (f .sight) fix;
       matcher = f .matcher;
-      due = Followers.withMatching (f .due);
+      due = Followers.matchAsked (f .due);
       ahead = f .ahead;
       failures = f .failures;
       «horizon_m» = f .«horizon_m»;
