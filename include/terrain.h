@@ -1,7 +1,7 @@
 /* The functions of libterrain.a, which `rt staticlib terrain` writes to target/staticlib.
  * A slice is a pointer and a count of its elements; an empty one may have any pointer that is not null. What is lent to be written must not overlap anything else that is lent.
  * Every function is total: each bit pattern has an answer. None allocates, keeps a state or stops the program.
- * No call keeps a pointer. Words are aligned to 4 bytes, heights to 2; bytes may lie anywhere. The archive is for x86-64 Linux, and of the C library it calls memcpy and memset alone. On the drive
+ * No call keeps a pointer. Words are aligned to 4 bytes and heights to 2, as C aligns a uint32_t and an int16_t, and to no more; bytes (arena, delivery, pack) may lie anywhere. The archive is for x86-64 Linux, and of the C library it calls memcpy and memset alone. On the drive
  * that hosts/run measures terrain_step takes 98 KB of stack, terrain_deliver 71 KB and terrain_ahead 30 KB, most of it copies of the state.
  *
  * The numbers that refuse a call:
@@ -28,8 +28,9 @@ extern "C" {
  * A host keeps the engine's state, TERRAIN_WORDS words, and an arena of 8,192 bytes a page, at most 96 pages, and lends both to every call; the arena's bytes and count
  * stay the same but for what deliver and step_from write. A host gives a fix for each fix of its receiver and calls step often. A step that answers TERRAIN_FETCH asks for
  * `len` bytes of the pack from `offset` on: the host reads them and calls deliver with failure 0 and the bytes, or with failure 1 (the read missed) or 2 (past the pack's end) and
- * none; until then a step repeats the fetch. TERRAIN_WORKING means more to do; idle, off the map and no pack mean nothing to do until the next fix or reset. Where the whole pack is in
- * memory, step_from does both halves.
+ * none, and is answered how that step ended; until then a step repeats the fetch. TERRAIN_WORKING means more to do; idle, off the map and no pack mean nothing to do until the next fix or reset. Where the whole pack is in
+ * memory, step_from does both halves. Words and arena are all that an engine is: stored after any call, also while a fetch is open, and lent again in another process or at other
+ * addresses, they answer what they would have answered.
  *
  * The state in words, one number a word, in the order given here; a 64-bit number is two words, the low one first; a signed number is in two's complement, a float its bits, with
  * 0x7fc00000 for not-a-number; false is 0 and true 1. A key is row * 65,536 + col. An enum is its tag, 0 for the first variant, and its fields, 0 where the variant has none.

@@ -7,9 +7,8 @@
 
 #include "terrain.h"
 
-/* Pages of the arena, the longest read, and the most steps after one fix. */
+/* Pages of the arena, and the most steps after one fix. */
 #define PAGES 24
-#define CHUNK 2048
 #define STEPS 65536
 
 static struct terrain_engine engine;
@@ -35,7 +34,7 @@ static uint32_t read_at(uint64_t offset, uint8_t *buf, size_t len)
 /* Steps until one leaves nothing to do; each fetch is answered. */
 static struct terrain_step_told settle(void)
 {
-    uint8_t chunk[CHUNK];
+    uint8_t chunk[TERRAIN_FETCH_MOST];
     struct terrain_step_told told = {0, TERRAIN_WORKING, 0, 0};
     long left;
     for (left = STEPS; left > 0 && told.status == TERRAIN_WORKING; left--) {
