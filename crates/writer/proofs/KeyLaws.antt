@@ -1,4 +1,4 @@
--- Keys among the tiles: whether one has a key, that a key below all others is new, and that no key is given twice.
+-- Keys among the tiles: whether one has a key, that a key below all others or without a mark is new, and that no key is given twice.
 use Prim.Native.Nat.{ℕ, zero, suc, _+_, _*_, _≤_, _<_}
 use mathlib.Core.Path.{_≡_, refl, sym, ap, _∙_}
 use mathlib.Core.Bool.{Bool, true, false, _&&_, not, cond, true≢false}
@@ -6,12 +6,13 @@ use mathlib.Core.List.{List, [], _∷_}
 use native.Mathlib.Numerals.{add-one}
 use native.Mathlib.Omega.{arith}
 use lib.Dec.{eqb, ltb}
-use lib.ListN.{length}
+use lib.ListN.{length, getD, set}
+use lib.Seq.{getD-set-same, getD-set-other}
 use borrow.Author.Tests.{eqb-true, ltb-true, ltb-false}
 use Rattle.pack.specs.declared.TileKey.{TileKey}
 use Rattle.tile.proofs.Laws.{and-left, and-right}
 use Rattle.writer.specs.PackWritten.{cut, keyIn, sameKey, hasKey, noKeyTwice}
-use Rattle.writer.specs.PackSteps.{numbered, tilesFrom, rank}
+use Rattle.writer.specs.PackSteps.{numbered, tilesFrom, rank, slot}
 use Rattle.writer.proofs.CutLaws.{from-all, from-more, from-end}
 
 -- ---- the search
@@ -55,6 +56,39 @@ none-more least new ns bs i k next h l r rest key below = go (sameKey (keyIn (nu
     go : (b : Bool) → sameKey (keyIn (numbered ns bs i)) key ≡ b → hasKey key (tilesFrom ns bs i) ≡ false
     go true e = absurd (omega (arith, same-rank (keyIn (numbered ns bs i)) key e))
     go false e = key-on key ns bs i h e ∙ ap (λ (n : ℕ). hasKey key (tilesFrom ns bs n)) next ∙ rest key (omega arith)
+
+-- ---- a key whose mark is not set
+
+same-slot : (cols : ℕ) (a b : TileKey) → sameKey a b ≡ true → slot cols a ≡ slot cols b
+unfolding slot
+same-slot cols a b e =
+    rw (
+      eqb-true (a .row) (b .row) (and-left (eqb (a .row) (b .row)) (eqb (a .col) (b .col)) e),
+      eqb-true (a .col) (b .col) (and-right (eqb (a .row) (b .row)) (eqb (a .col) (b .col)) e),
+    )
+
+-- every tile from number i on has set its mark; others may be set too
+abbrev pub Marked : ℕ → List ℕ → List ℕ → List ℕ → ℕ → Type 0
+Marked cols marks ns bs i = (key : TileKey) → getD marks (slot cols key) 0 ≡ 0 → hasKey key (tilesFrom ns bs i) ≡ false
+
+pub marked-end : (cols : ℕ) (marks ns bs : List ℕ) (i : ℕ) → length ns ≤ i → Marked cols marks ns bs i
+marked-end cols marks ns bs i h key clear = key-end key ns bs i h
+
+-- k is the number behind i
+pub marked-more : (cols : ℕ) (marks ns bs : List ℕ) (i k at : ℕ) → i + 1 ≡ k → i < length ns → at ≡ slot cols (keyIn (numbered ns bs i)) → at < length marks
+    → Marked cols marks ns bs k → Marked cols (set marks at 1) ns bs i
+marked-more cols marks ns bs i k at next h here within rest key clear = go (sameKey (keyIn (numbered ns bs i)) key) refl
+  where
+    -- the mark at that place is set
+    apart : slot cols key ≡ at → ⊥
+    apart e = omega (arith, getD-set-same marks at 1 0 within, rw e at clear)
+
+    go : (b : Bool) → sameKey (keyIn (numbered ns bs i)) key ≡ b → hasKey key (tilesFrom ns bs i) ≡ false
+    go true e = absurd (apart (sym (same-slot cols (keyIn (numbered ns bs i)) key e) ∙ sym here))
+    go false e =
+        key-on key ns bs i h e
+        ∙ ap (λ (n : ℕ). hasKey key (tilesFrom ns bs n)) next
+        ∙ rest key (sym (getD-set-other marks at (slot cols key) 1 0 apart) ∙ clear)
 
 -- ---- no key twice
 

@@ -1,6 +1,6 @@
 -- What the pack writer's steps mean, one by one. They restate private code; what the writer promises stands in
 -- PackWritten. `startOf` and `numbered` are also terms of the promise of crate written_lookups.
-use Prim.Native.Nat.{ℕ, zero, suc, _+_, _*_}
+use Prim.Native.Nat.{ℕ, zero, suc, _+_, _*_, _%_}
 use mathlib.Core.Bool.{cond}
 use mathlib.Core.List.{List, [], _∷_, _++_}
 use lib.Dec.{eqb, ltb}
@@ -31,6 +31,10 @@ tilesFrom ns bs i = cut (drop i ns) (drop (startOf ns i) bs)
 -- a key as a number that rises in row order
 abbrev pub rank : TileKey → ℕ
 rank key = key .row * 0x1_0000 + key .col
+
+-- the place of a key's mark
+unfoldable pub slot : ℕ → TileKey → ℕ
+slot cols key = (key .row * cols + key .col) % 0x4_0000
 
 -- where the tile of a key starts, of tiles whose bytes start at `at`; 0 where there is none
 unfoldable pub sourceOf : List ℕ → List ℕ → ℕ → TileKey → ℕ

@@ -12,6 +12,9 @@ ghost use Rattle.tile.specs.Parse as Parse;
 ghost use Rattle.writer.specs.PackWritten as PackWritten;
 ghost use Rattle.writer.specs.PackSteps as Steps;
 
+// How many keys are told apart by a mark; beyond, tiles that are not given in row order may be searched.
+const MARKS: usize = 0x4_0000;
+
 // Whether `tiles` tiles from `from` on stay within 360 degrees of 0.
 fn spans(from: i32, tiles: u16, size: u32) -> bool
     ensures { λ r. ⌜ r ≡ Sector.spans from tiles size ⌝ }
@@ -150,10 +153,19 @@ fn lesser(a: u32, b: u32) -> u32
     b
 }
 
-// As `has_key`. None of those tiles ranks below `least`, so a key that does is new without a search.
+// The place of a key's mark. In a grid of as many places each has its own.
+fn slot(key: TileKey, cols: u16) -> usize
+    ensures { λ r. ⌜ r ≡ Steps.slot cols key ⌝ }
+    ensures { λ r. ⌜ r < 0x4_0000 ⌝ }
+{
+    ((key.row as usize) * (cols as usize) + (key.col as usize)) % MARKS
+}
+
+// As `has_key`. None of those tiles ranks below `least`, and each has set its mark, so a key that ranks below, or whose mark is not set, is new without a search.
 fn again(
     key: TileKey,
     least: u32,
+    mark: u8,
     tiles: &[u8],
     lengths: &[u32],
     first: usize,
@@ -161,16 +173,21 @@ fn again(
 ) -> bool
     requires { ⌜ (PackWritten.sumOf (now lengths) ≡ length (now tiles)) × (start ≡ Steps.startOf (now lengths) first) ⌝ }
     requires { ⌜ (Steps.rank key < least → PackWritten.hasKey key (Steps.tilesFrom (now lengths) (now tiles) first) ≡ false) ⌝ }
+    requires { ⌜ (mark ≡ 0 → PackWritten.hasKey key (Steps.tilesFrom (now lengths) (now tiles) first) ≡ false) ⌝ }
     ensures { λ r. ⌜ r ≡ PackWritten.hasKey key (Steps.tilesFrom (now (lengths .entry)) (now (tiles .entry)) first) ⌝ }
 {
     if rank(key) < least {
         return false;
     }
+    if mark == 0 {
+        return false;
+    }
     has_key(key, tiles, lengths, first, start)
 }
 
-// No key is given twice. From the last tile to the first, so that tiles given in row order need no search.
-fn no_key_twice(tiles: &[u8], lengths: &[u32]) -> bool
+// As `no_key_twice`, with room for the marks. From the last tile to the first, so that tiles given in row order need no mark.
+fn each_once(cols: u16, tiles: &[u8], lengths: &[u32], marks: &mut [u8]) -> bool
+    requires { ⌜ length (now marks) ≡ 0x4_0000 ⌝ }
     requires { ⌜ PackWritten.sumOf (now lengths) ≡ length (now tiles) ⌝ }
     ensures { λ r. ⌜ r ≡ PackWritten.noKeyTwice (PackWritten.cut (now (lengths .entry)) (now (tiles .entry))) ⌝ }
 {
@@ -181,14 +198,25 @@ fn no_key_twice(tiles: &[u8], lengths: &[u32]) -> bool
         let i = after - 1;
         let at = end - lengths[i] as usize;
         let key = key_in(&tiles[at..end]);
-        if again(key, least, tiles, lengths, after, end) {
+        let place = slot(key, cols);
+        if again(key, least, marks[place], tiles, lengths, after, end) {
             return false;
         }
         least = lesser(least, rank(key));
+        marks[place] = 1;
         end = at;
         after = i;
     }
     true
+}
+
+// No key is given twice.
+fn no_key_twice(cols: u16, tiles: &[u8], lengths: &[u32]) -> bool
+    requires { ⌜ PackWritten.sumOf (now lengths) ≡ length (now tiles) ⌝ }
+    ensures { λ r. ⌜ r ≡ PackWritten.noKeyTwice (PackWritten.cut (now (lengths .entry)) (now (tiles .entry))) ⌝ }
+{
+    let mut marks = [0u8; MARKS];
+    each_once(cols, tiles, lengths, &mut marks)
 }
 
 // Everything that number 13 asks of a pack.
@@ -204,5 +232,5 @@ pub fn pack_good(grid: Grid, tiles: &[u8], lengths: &[u32]) -> bool
     if !tiles_good(grid, tiles, lengths) {
         return false;
     }
-    no_key_twice(tiles, lengths)
+    no_key_twice(grid.cols, tiles, lengths)
 }
