@@ -7,14 +7,13 @@ use mathlib.Core.Bool.{Bool, true, false, _&&_, _||_, not, cond, true≢false}
 use mathlib.Core.List.{List, [], _∷_}
 use mathlib.Core.Logic.{_⊎_, inl, inr}
 use native.Mathlib.Omega.{arith}
-use lib.Dec.{eqb, leb}
+use lib.Dec.{eqb}
 use lib.Ieee.{Float}
 use lib.ListN.{length}
 use Rattle.pack.specs.Grid.{isPoint, keyOf}
 use Rattle.pack.specs.declared.Header.{Header}
 use Rattle.pack.specs.declared.Keyed.{Keyed}
 use Rattle.pack.specs.declared.Keyed.the-variants as Keyed
-use Rattle.cache.proofs.Below.{and-right}
 use Rattle.cache.specs.declared.MaybeLoading.{MaybeLoading}
 use Rattle.cache.specs.declared.MaybeLoading.the-variants as MaybeLoading
 use Rattle.cache.specs.declared.Pending.{Pending}
@@ -42,7 +41,7 @@ use Rattle.engine.specs.declared.Follower.{Follower}
 use Rattle.engine.specs.declared.MaybeFix.{MaybeFix}
 use Rattle.engine.specs.declared.MaybeFix.the-variants as MaybeFix
 use Rattle.engine.specs.State as States
-use Rattle.engine.specs.State.{refused, isFailed, needOk, pendingBy, pendingOk, reloadLimit, engineOk}
+use Rattle.engine.specs.State.{refused, isFailed, pendingBy, engineOk}
 use Rattle.engine.specs.Work as Work
 use Rattle.engine.specs.Work.{counted, matched, matchedBy, mayAsk, matchEndedBy, published, rematch, roadEndedBy, offMap}
 use Rattle.engine.specs.Deliver.{After, arrived, deliveredBy, delivered, over}
@@ -55,7 +54,7 @@ use Rattle.engine.specs.declared.Phase.the-variants as Phase
 use Rattle.engine.specs.declared.Sight.{Sight}
 use Rattle.engine.specs.declared.Status.the-variants as Status
 use Rattle.engine.specs.declared.Stepped.{Stepped}
-use Rattle.engine_states.proofs.KeptParts.{Ok, apart}
+use Rattle.engine_states.proofs.KeptParts.{apart}
 use Rattle.direct.specs.Lists as Calls
 use Rattle.direct.specs.Lists.{World, Call, exec, start}
 use Rattle.direct.specs.Finished as Shows
@@ -410,10 +409,7 @@ failed-delivers e arena failure bs failed = by (engineOk e (length arena)) refl
     by : (t : Bool) → engineOk e (length arena) ≡ t
         → cond t (deliveredBy (e .shared .cache .pending) e arena failure bs) (over (refused e 12) arena) .engine ≡ e
     by true ok =
-        let parts : Ok (e .shared) (e .follower) (length arena) = apart e (length arena) ok in
-        let due : (needOk (e .shared) (e .follower .due .need) && pendingOk (e .shared) (e .follower .due .need)) ≡ true
-        = and-right (leb (e .follower .due .reloads) (reloadLimit (e .shared .cache .pages .count))) _ (parts .due) in
-        unopened (e .shared .phase) (e .shared .cache .pending) failed refl refl (and-right (needOk (e .shared) (e .follower .due .need)) _ due)
+        unopened (e .shared .phase) (e .shared .cache .pending) failed refl refl (apart e (length arena) ok .pending)
     by false ok = refl
 
 -- ---- a step that rests

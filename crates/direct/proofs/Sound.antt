@@ -2,17 +2,15 @@
 -- which change nothing else and withdraw an open fetch that they do the work of.
 use Prim.Native.Nat.{ℕ, _*_, _≤_}
 use mathlib.Core.Path.{_≡_, refl, sym, ap, _∙_}
-use mathlib.Core.Bool.{true, _&&_}
+use mathlib.Core.Bool.{true}
 use mathlib.Core.List.{List}
 use native.Mathlib.Omega.{arith}
 use borrow.Author.Tests.{le-leb}
-use lib.Dec.{leb}
 use lib.Ieee.{Float}
 use lib.ListN.{length}
 use Rattle.pack.specs.declared.Header.{Header}
 use Rattle.pack.specs.declared.TileKey.{TileKey}
 use Rattle.cache.specs.declared.MaybeKey.{MaybeKey}
-use Rattle.cache.proofs.Below.{and-right}
 use Rattle.cache.specs.Lookups.{touched}
 use Rattle.cache.specs.State as Caches
 use Rattle.cache.specs.State.{cleared}
@@ -29,7 +27,7 @@ use Rattle.cache_lists.proofs.Inv.{Inv, inv-ok, inv-fresh}
 use Rattle.cache_lists.proofs.Safe.{inv-call, clear-leaves}
 use Rattle.engine.specs.Publish.{nothingAhead}
 use Rattle.engine.specs.Follow as Followers
-use Rattle.engine.specs.State.{needOk, pendingBy, pendingOk, reloadLimit, placesOk, sharedOk, engineOk}
+use Rattle.engine.specs.State.{pendingBy, pendingOk, reloadLimit, placesOk, sharedOk, engineOk}
 use Rattle.engine.specs.declared.Engine.{Engine}
 use Rattle.engine.specs.declared.Shared.{Shared}
 use Rattle.engine_states.proofs.KeptParts.{Ok, apart, together, cache-ok}
@@ -119,11 +117,9 @@ pub cache-sound : (e : Engine) (d : Cache) (size : ℕ) → engineOk e size ≡ 
     → engineOk (withCache e d) size ≡ true
 cache-sound e d size ok inv count l =
     let parts : Ok (e .shared) (e .follower) size = apart e size ok in
-    let due : (needOk (e .shared) (e .follower .due .need) && pendingOk (e .shared) (e .follower .due .need)) ≡ true
-    = and-right (leb (e .follower .due .reloads) (reloadLimit (e .shared .cache .pages .count))) _ (parts .due) in
     together (withCache e d) size
     (cache-ok (e .shared) d (e .follower) size parts (inv-ok d inv) count
-    (pending-leaves (e .shared) (e .follower .due .need) d (and-right (needOk (e .shared) (e .follower .due .need)) _ due) l))
+    (pending-leaves (e .shared) (e .follower .due .need) d (parts .pending) l))
 
 -- lookups leave both
 pub touched-leaves : (c d : Cache) (i : ℕ) → Leaves c d → Leaves c (touched d i)

@@ -47,7 +47,7 @@ use Rattle.engine.specs.declared.Fix.{Fix}
 use Rattle.engine.specs.declared.Follower.{Follower}
 use Rattle.engine.specs.declared.MaybeFix.{MaybeFix}
 use Rattle.engine.specs.declared.MaybeFix.the-variants as MaybeFix
-use Rattle.engine.specs.State.{refused, isReady, headerOk, sharedOk, needOk, pendingBy, pendingOk, reloadLimit, engineOk}
+use Rattle.engine.specs.State.{refused, isReady, headerOk, sharedOk, needOk, pendingBy, reloadLimit, engineOk}
 use Rattle.engine.specs.Work as Work
 use Rattle.engine.specs.Work.{counted, ended, matchEnded, matchStep, roadEndedBy, roadStep, roadDueBy, atFix, atFixBy, workedBy, worked, withDue, roadOff}
 use Rattle.engine.specs.Deliver.{After, arrived, over, withPhase, withFailures, sectorOf, headerFailed, headerParsed, headerCame, loaded, partCame, fitsHeader, needCameBy, deliveredBy, delivered}
@@ -272,27 +272,24 @@ module _ (e : Engine) (arena : List ℕ) (ok : engineOk e (length arena) ≡ tru
   pub open-fits : (x : Pending) → c₁ .pending ≡ x → pendingFits x c₁ ≡ true
   open-fits x q = sym (ap (λ (y : Pending). pendingFits y c₁) q) ∙ ok-parts c₁ state-ok .pending
 
-  due-parts : (needOk (e .shared) (e .follower .due .need) && pendingOk (e .shared) (e .follower .due .need)) ≡ true
-  due-parts = and-right (leb (e .follower .due .reloads) (reloadLimit (c₁ .pages .count))) _ (parts .due)
+  need-held : needOk (e .shared) (e .follower .due .need) ≡ true
+  need-held = and-right (leb (e .follower .due .reloads) (reloadLimit (c₁ .pages .count))) _ (parts .due)
 
   -- an open entry is of the tile needed, which lies in the grid of the header that was read
-  entry-by : (x : Pending) (need : MaybeKey) (phase : Phase) → (needOk (record { phase = phase; header = h₁; cache = c₁ }) need
-      && pendingBy x (record { phase = phase; header = h₁; cache = c₁ }) need) ≡ true
-      → (h : Header) → (phase ≡ Phase.Ready → h₁ ≡ h) → entryIn x h ≡ true
-  entry-by Pending.Nothing need phase q h same = refl
-  entry-by Pending.Header need phase q h same = refl
-  entry-by Pending.Chunk need phase q h same = refl
-  entry-by (Pending.Entry k) MaybeKey.Nothing Phase.Ready q h same = absurd (true≢false (sym q))
-  entry-by (Pending.Entry k) MaybeKey.Nothing Phase.Unread q h same = absurd (true≢false (sym q))
-  entry-by (Pending.Entry k) MaybeKey.Nothing Phase.Failed q h same = absurd (true≢false (sym q))
-  entry-by (Pending.Entry k) (MaybeKey.Key key) Phase.Unread q h same = absurd (true≢false (sym q))
-  entry-by (Pending.Entry k) (MaybeKey.Key key) Phase.Failed q h same = absurd (true≢false (sym q))
-  entry-by (Pending.Entry k) (MaybeKey.Key key) Phase.Ready q h same =
-      let is : key ≡ k = same-key key k (and-right (inGrid h₁ key) _ q) in
-      rw (← is, ← same refl) (and-left (inGrid h₁ key) _ q)
+  entry-by : (x : Pending) (need : MaybeKey) (phase : Phase) → needOk (record { phase = phase; header = h₁; cache = c₁ }) need ≡ true
+      → pendingBy x (record { phase = phase; header = h₁; cache = c₁ }) need ≡ true → (h : Header) → (phase ≡ Phase.Ready → h₁ ≡ h) → entryIn x h ≡ true
+  entry-by Pending.Nothing need phase r q h same = refl
+  entry-by Pending.Header need phase r q h same = refl
+  entry-by Pending.Chunk need phase r q h same = refl
+  entry-by (Pending.Entry k) MaybeKey.Nothing Phase.Ready r q h same = absurd (true≢false (sym q))
+  entry-by (Pending.Entry k) MaybeKey.Nothing Phase.Unread r q h same = absurd (true≢false (sym q))
+  entry-by (Pending.Entry k) MaybeKey.Nothing Phase.Failed r q h same = absurd (true≢false (sym q))
+  entry-by (Pending.Entry k) (MaybeKey.Key key) Phase.Unread r q h same = absurd (true≢false (sym q))
+  entry-by (Pending.Entry k) (MaybeKey.Key key) Phase.Failed r q h same = absurd (true≢false (sym q))
+  entry-by (Pending.Entry k) (MaybeKey.Key key) Phase.Ready r q h same = let is : key ≡ k = same-key key k q in rw (← is, ← same refl) r
 
   pub entry-is : (h : Header) → (e .shared .phase ≡ Phase.Ready → h₁ ≡ h) → entryIn (c₁ .pending) h ≡ true
-  entry-is h same = entry-by (c₁ .pending) (e .follower .due .need) (e .shared .phase) due-parts h same
+  entry-is h same = entry-by (c₁ .pending) (e .follower .due .need) (e .shared .phase) need-held (parts .pending) h same
 
   module _ (ready : e .shared .phase ≡ Phase.Ready) where
     pub cache-is : cacheOk c₁ h₁ (length arena) ≡ true
@@ -304,7 +301,7 @@ module _ (e : Engine) (arena : List ℕ) (ok : engineOk e (length arena) ≡ tru
 
     module _ (key : TileKey) (need : e .follower .due .need ≡ MaybeKey.Key key) where
       pub grid-of : inGrid h₁ key ≡ true
-      grid-of = rw (ready, need) at (and-left (needOk (e .shared) (e .follower .due .need)) _ due-parts)
+      grid-of = rw (ready, need) at need-held
 
       module _ (failure : ℕ) (bs : List ℕ) (fits : takes (nextStep c₁ key) h₁ key failure (length bs) ≡ true) where
         brings-by : (n : Next) (offset len : ℕ) → nextStep c₁ key ≡ n → fetched c₁ n arena h₁ key ≡ Request.Read offset len
@@ -326,7 +323,7 @@ module _ (e : Engine) (arena : List ℕ) (ok : engineOk e (length arena) ≡ tru
         entry-brings : (k : TileKey) → c₁ .pending ≡ Pending.Entry k → Brings e arena key failure bs
         entry-brings k p =
             let both : (isReady (e .shared .phase) && holds (MaybeKey.Key key) k) ≡ true
-            = rw (p, need) at (and-right (needOk (e .shared) (e .follower .due .need)) _ due-parts) in
+            = rw (p, need) at (parts .pending) in
             let same : key ≡ k = same-key key k (and-right (isReady (e .shared .phase)) _ both) in
             let next : nextStep c₁ k ≡ Next.Entry = entry-next (nextStep c₁ k) (open-fits (Pending.Entry k) p) in
             brings-by Next.Entry (entryOf h₁ key) 8 (rw same next) refl (rw (p, same)) refl
@@ -350,7 +347,7 @@ module _ (e : Engine) (arena : List ℕ) (ok : engineOk e (length arena) ≡ tru
             by MaybeLoading.Nothing q = absurd (true≢false (sym (wants MaybeLoading.Nothing q)))
             by (MaybeLoading.Tile l) q =
                 let both : (isReady (e .shared .phase) && holds (MaybeKey.Key key) (l .key)) ≡ true
-                = rw (p, need, q) at (and-right (needOk (e .shared) (e .follower .due .need)) _ due-parts) in
+                = rw (p, need, q) at (parts .pending) in
                 let same : key ≡ l .key = same-key key (l .key) (and-right (isReady (e .shared .phase)) _ both) in
                 with-next l (nextStep c₁ key) q refl (ap (λ (k : TileKey). isChunk (nextStep c₁ k)) same ∙ wants (MaybeLoading.Tile l) q)
 
@@ -405,8 +402,7 @@ module _ (e : Engine) (arena : List ℕ) (ok : engineOk e (length arena) ≡ tru
     tile-ready : (x : Pending) → isTile x ≡ true → c₁ .pending ≡ x → e .shared .phase ≡ Phase.Ready
     tile-ready x t q =
         by (e .shared .phase) x t refl
-        (sym (ap (λ (y : Pending). pendingBy y (e .shared) (e .follower .due .need)) q)
-        ∙ and-right (needOk (e .shared) (e .follower .due .need)) _ (and-right (leb (e .follower .due .reloads) (reloadLimit (c₁ .pages .count))) _ (parts .due)))
+        (sym (ap (λ (y : Pending). pendingBy y (e .shared) (e .follower .due .need)) q) ∙ parts .pending)
       where
         by : (p : Phase) (x : Pending) → isTile x ≡ true → e .shared .phase ≡ p → pendingBy x (e .shared) (e .follower .due .need) ≡ true → p ≡ Phase.Ready
         by Phase.Ready x t q h = refl

@@ -23,18 +23,19 @@ module _ (e : Engine) (n : ℕ) (ok : engineOk e n ≡ true) where
   abbrev causes : List Bool
   causes =
       sharedOk (e .shared) n ∷ dueOk (e .shared) (e .follower .due) ∷ sightOk (e .follower .sight) ∷ matcherOk (e .shared) (e .follower .matcher)
-      ∷ aheadOk (e .shared) (e .follower .ahead) ∷ failuresOk (e .shared .phase) (e .follower .failures) ∷ []
+      ∷ aheadOk (e .shared) (e .follower .ahead) ∷ failuresOk (e .shared .phase) (e .follower .failures)
+      ∷ pendingOk (e .shared) (e .follower .due .need) ∷ []
 
   pub state-in : stateOk (e .shared .cache) ≡ true
   unfolding engineOk sharedOk
   state-in = and-left (stateOk (e .shared .cache)) _ (clause 0 causes ok)
 
-  due-in : (needOk (e .shared) (e .follower .due .need) && pendingOk (e .shared) (e .follower .due .need)) ≡ true
+  due-in : needOk (e .shared) (e .follower .due .need) ≡ true
   unfolding engineOk
   due-in = and-right (leb (e .follower .due .reloads) (reloadLimit (e .shared .cache .pages .count))) _ (clause 1 causes ok)
 
   pub need-in : (key : TileKey) → e .shared .phase ≡ Phase.Ready → e .follower .due .need ≡ MaybeKey.Key key → inGrid (e .shared .header) key ≡ true
-  need-in key ready need = rw (ready, need) at (and-left (needOk (e .shared) (e .follower .due .need)) _ due-in)
+  need-in key ready need = rw (ready, need) at due-in
 
   sight-in : sightOk (e .follower .sight) ≡ true
   unfolding engineOk

@@ -154,12 +154,13 @@ abbrev pub reloadLimit : ℕ → ℕ
 reloadLimit pages = 2 * min pages 96 + 16
 
 abbrev pub dueOk : Shared → Due → Bool
-dueOk s due = leb (due .reloads) (reloadLimit (s .cache .pages .count)) && (needOk s (due .need) && pendingOk s (due .need))
+dueOk s due = leb (due .reloads) (reloadLimit (s .cache .pages .count)) && needOk s (due .need)
 
--- all of them, over an arena of `size` bytes
+-- all of them, over an arena of `size` bytes: what is shared, what a follower holds, and the open fetch against the follower whose it is
 unfoldable pub engineOk : Engine → ℕ → Bool
 engineOk e size =
     let s = e .shared in
     let f = e .follower in
     allOf
-    (sharedOk s size ∷ dueOk s (f .due) ∷ sightOk (f .sight) ∷ matcherOk s (f .matcher) ∷ aheadOk s (f .ahead) ∷ failuresOk (s .phase) (f .failures) ∷ [])
+    (sharedOk s size ∷ dueOk s (f .due) ∷ sightOk (f .sight) ∷ matcherOk s (f .matcher) ∷ aheadOk s (f .ahead) ∷ failuresOk (s .phase) (f .failures)
+    ∷ pendingOk s (f .due .need) ∷ [])

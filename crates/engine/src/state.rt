@@ -327,10 +327,7 @@ fn due_ok(s: Shared, due: Due) -> bool
         return false;
     }
     let need = due.need;
-    if !need_ok(s, need) {
-        return false;
-    }
-    pending_ok(s, need)
+    need_ok(s, need)
 }
 
 // Every cause, over an arena of `size` bytes.
@@ -359,5 +356,9 @@ pub(crate) fn engine_ok(e: Engine, size: usize) -> bool
         return false;
     }
     let phase = s.phase;
-    failures_ok(phase, f.failures)
+    if !failures_ok(phase, f.failures) {
+        return false;
+    }
+    let need = due.need;
+    pending_ok(s, need)
 }

@@ -129,6 +129,7 @@ fixed-ok s f fix n here ok = by (Fixes.isSamePlace (f .sight .fix) fix)
       matcher = ok .matcher;
       ahead = ok .ahead;
       failures = ok .failures;
+      pending = ok .pending;
     }
 
 pub fix-kept : (e : Engine) (arena : List ℕ) (f : Fix) (n : ℕ) → engineOk e n ≡ true → engineOk (Calls.fix e arena f .engine) n ≡ true
@@ -159,6 +160,7 @@ lost-ok s f n ok = record {
   matcher = refl;
   ahead = ahead-lost s (f .ahead) (ok .ahead);
   failures = ok .failures;
+  pending = ok .pending;
 }
 
 pub lost-kept : (e : Engine) (arena : List ℕ) (n : ℕ) → engineOk e n ≡ true → engineOk (Calls.lost e arena .engine) n ≡ true
@@ -182,6 +184,7 @@ module _ (clears : (c : Cache) → stateOk c ≡ true → stateOk (cleared c) �
         matcher = refl;
         ahead = refl;
         failures = refl;
+        pending = refl;
       }
 
   pub reset-kept : (e : Engine) (arena : List ℕ) (n : ℕ) → engineOk e n ≡ true → engineOk (Calls.reset e arena .engine) n ≡ true
@@ -489,7 +492,7 @@ module _ (opens-nothing : (c : Cache) → stateOk c ≡ true → stateOk (withPe
       let next : Shared = withPhase s x h in
       let o : Ok s f n = apart e n ok in
       let shared : (arenaOk (s .cache) n && headerOk s) ≡ true = and-right (stateOk (s .cache)) _ (o .shared) in
-      let due : (needOk s (f .due .need) && pendingOk s (f .due .need)) ≡ true
+      let due : needOk s (f .due .need) ≡ true
       = and-right (leb (f .due .reloads) (reloadLimit (s .cache .pages .count))) _ (o .due) in
       let behind : (leb (f .ahead .«behind_len») 11 && matchedOk s (f .ahead .matched)) ≡ true = and-right (leb (f .ahead .len) 501) _ (o .ahead) in
       together _ n
@@ -500,7 +503,7 @@ module _ (opens-nothing : (c : Cache) → stateOk c ≡ true → stateOk (withPe
         due =
             both (leb (f .due .reloads) (reloadLimit (s .cache .pages .count))) _
             (and-left (leb (f .due .reloads) (reloadLimit (s .cache .pages .count))) _ (o .due))
-            (both (needOk next (f .due .need)) _ (need-unread s next (f .due .need) unread (and-left (needOk s (f .due .need)) _ due)) refl);
+            (need-unread s next (f .due .need) unread due);
         sight = o .sight;
         matcher =
             both (countsOk (f .matcher)) _ (and-left (countsOk (f .matcher)) _ (o .matcher))
@@ -510,6 +513,7 @@ module _ (opens-nothing : (c : Cache) → stateOk c ≡ true → stateOk (withPe
             (both (leb (f .ahead .«behind_len») 11) _ (and-left (leb (f .ahead .«behind_len») 11) _ behind)
             (matched-unread s next (f .ahead .matched) unread (and-right (leb (f .ahead .«behind_len») 11) _ behind)));
         failures = few;
+        pending = refl;
       })
 
   few : ltb (e .follower .failures) 8 ≡ true
@@ -651,13 +655,13 @@ module _ (opens-nothing : (c : Cache) → stateOk c ≡ true → stateOk (withPe
     → Loads.stepped c (nextStep c key) arena h key failure bs .cache .pages .count ≡ c .pages .count)
     (e : Engine) (arena : List ℕ) (failure : ℕ) (bs : List ℕ) (n : ℕ) (size : length (e .shared .cache .pages .slots) ≡ 96) (ok : engineOk e n ≡ true)
   where
-    due-rest : (needOk (e .shared) (e .follower .due .need) && pendingOk (e .shared) (e .follower .due .need)) ≡ true
-    due-rest =
+    need-held : needOk (e .shared) (e .follower .due .need) ≡ true
+    need-held =
         and-right (leb (e .follower .due .reloads) (reloadLimit (e .shared .cache .pages .count))) _ (apart e n ok .due)
 
     -- the fetch that is open is one that the state would make
     fetch-open : pendingOk (e .shared) (e .follower .due .need) ≡ true
-    fetch-open = and-right (needOk (e .shared) (e .follower .due .need)) _ due-rest
+    fetch-open = apart e n ok .pending
 
     part-kept : (key : TileKey) → e .shared .phase ≡ Phase.Ready → e .follower .due .need ≡ MaybeKey.Key key
         → isRead (nextStep (e .shared .cache) key) ≡ true → withdrawn (e .shared .cache .pending) ≡ Pending.Nothing
@@ -665,7 +669,7 @@ module _ (opens-nothing : (c : Cache) → stateOk c ≡ true → stateOk (withPe
     part-kept key ready need reads closed =
         let c : Cache = e .shared .cache in
         let h : Header = e .shared .header in
-        let held : needOk (e .shared) (MaybeKey.Key key) ≡ true = rw need at (and-left (needOk (e .shared) (e .follower .due .need)) _ due-rest) in
+        let held : needOk (e .shared) (MaybeKey.Key key) ≡ true = rw need at need-held in
         let in-grid : inGrid h key ≡ true = rw ready at held in
         let x : Loads.After = Loads.stepped c (nextStep c key) arena h key failure bs in
         subst (λ (a : After). engineOk (a .engine) n ≡ true) (sym (part-is e arena key failure bs in-grid))

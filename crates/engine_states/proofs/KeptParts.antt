@@ -50,11 +50,13 @@ pub record Ok (s : Shared) (f : Follower) (n : ℕ) : Type 0 where
   pub matcher : matcherOk s (f .matcher) ≡ true
   pub ahead : aheadOk s (f .ahead) ≡ true
   pub failures : failuresOk (s .phase) (f .failures) ≡ true
+  pub pending : pendingOk s (f .due .need) ≡ true
 
 abbrev causes : Engine → ℕ → List Bool
 causes e n =
     sharedOk (e .shared) n ∷ dueOk (e .shared) (e .follower .due) ∷ sightOk (e .follower .sight) ∷ matcherOk (e .shared) (e .follower .matcher)
-    ∷ aheadOk (e .shared) (e .follower .ahead) ∷ failuresOk (e .shared .phase) (e .follower .failures) ∷ []
+    ∷ aheadOk (e .shared) (e .follower .ahead) ∷ failuresOk (e .shared .phase) (e .follower .failures)
+    ∷ pendingOk (e .shared) (e .follower .due .need) ∷ []
 
 pub apart : (e : Engine) (n : ℕ) → engineOk e n ≡ true → Ok (e .shared) (e .follower) n
 unfolding engineOk
@@ -65,11 +67,12 @@ apart e n ok = record {
   matcher = clause 3 (causes e n) ok;
   ahead = clause 4 (causes e n) ok;
   failures = clause 5 (causes e n) ok;
+  pending = clause 6 (causes e n) ok;
 }
 
 pub together : (e : Engine) (n : ℕ) → Ok (e .shared) (e .follower) n → engineOk e n ≡ true
 unfolding engineOk
-together e n ok = rw (ok .shared, ok .due, ok .sight, ok .matcher, ok .ahead, ok .failures)
+together e n ok = rw (ok .shared, ok .due, ok .sight, ok .matcher, ok .ahead, ok .failures, ok .pending)
 
 -- ---- another cache beside the same phase and header
 
@@ -109,15 +112,14 @@ module _ (s : Shared) (c : Cache) (f : Follower) (n : ℕ) (ok : Ok s f n) where
   cache-ok good count fits = record {
     shared = shared-cache good count;
     due =
-        let rest : (needOk s (f .due .need) && pendingOk s (f .due .need)) ≡ true
-        = and-right (leb (f .due .reloads) (reloadLimit (s .cache .pages .count))) _ (ok .due) in
         both (leb (f .due .reloads) (reloadLimit (c .pages .count))) _
         (rw count (and-left (leb (f .due .reloads) (reloadLimit (s .cache .pages .count))) _ (ok .due)))
-        (both (needOk (withCache s c) (f .due .need)) _ (need-cache s c (f .due .need) (and-left (needOk s (f .due .need)) _ rest)) fits);
+        (need-cache s c (f .due .need) (and-right (leb (f .due .reloads) (reloadLimit (s .cache .pages .count))) _ (ok .due)));
     sight = ok .sight;
     matcher = matcher-cache;
     ahead = ahead-cache;
     failures = ok .failures;
+    pending = fits;
   }
 
 pub none-pending : (s : Shared) (need : MaybeKey) → s .cache .pending ≡ Pending.Nothing → pendingOk s need ≡ true
@@ -143,6 +145,7 @@ module _ (s : Shared) (f : Follower) (n : ℕ) (ok : Ok s f n) where
     matcher = by (isMatched (f .ahead .matched));
     ahead = emptied-ok s (f .ahead) _ _ (ok .ahead);
     failures = ok .failures;
+    pending = ok .pending;
   }
     where
       by : (t : Bool) → matcherOk s (cond t Matching.reset (f .matcher)) ≡ true
@@ -151,14 +154,14 @@ module _ (s : Shared) (f : Follower) (n : ℕ) (ok : Ok s f n) where
 
   pub road-off-ok : Ok s (withDue f (roadOff (f .due))) n
   road-off-ok =
-      record { shared = ok .shared; due = ok .due; sight = ok .sight; matcher = ok .matcher; ahead = ok .ahead; failures = ok .failures }
+      record { shared = ok .shared; due = ok .due; sight = ok .sight; matcher = ok .matcher; ahead = ok .ahead; failures = ok .failures; pending = ok .pending }
 
   pub counted-ok : Ok s (counted f) n
   counted-ok =
-      record { shared = ok .shared; due = ok .due; sight = ok .sight; matcher = ok .matcher; ahead = ok .ahead; failures = ok .failures }
+      record { shared = ok .shared; due = ok .due; sight = ok .sight; matcher = ok .matcher; ahead = ok .ahead; failures = ok .failures; pending = ok .pending }
 
   pub rematch-ok : Ok s (rematch f) n
-  rematch-ok = record { shared = ok .shared; due = ok .due; sight = ok .sight; matcher = refl; ahead = ok .ahead; failures = ok .failures }
+  rematch-ok = record { shared = ok .shared; due = ok .due; sight = ok .sight; matcher = refl; ahead = ok .ahead; failures = ok .failures; pending = ok .pending }
 
 -- ---- a match and a road
 
@@ -207,9 +210,10 @@ module _ (s : Shared) (f : Follower) (n : ℕ) (ok : Ok s f n) where
     matcher = good;
     ahead = emptied-ok s (f .ahead) _ _ (ok .ahead);
     failures = ok .failures;
+    pending = ok .pending;
   }
   matched-by-ok (Current.Is found) m fix good =
-      record { shared = ok .shared; due = done-due; sight = ok .sight; matcher = good; ahead = ok .ahead; failures = ok .failures }
+      record { shared = ok .shared; due = done-due; sight = ok .sight; matcher = good; ahead = ok .ahead; failures = ok .failures; pending = ok .pending }
 
   pub matched-ok : (m : Matcher) (fix : Fix) → matcherOk s m ≡ true → Ok s (matched f m fix) n
   unfolding matched
@@ -225,6 +229,7 @@ module _ (s : Shared) (f : Follower) (n : ℕ) (ok : Ok s f n) where
     matcher = ok .matcher;
     ahead = both (leb (p .len) 501) _ (le-leb (p .len) 501 ahead) (both (leb (p .behind) 11) _ (le-leb (p .behind) 11 behind) key);
     failures = ok .failures;
+    pending = ok .pending;
   }
 
   module _ (ready : s .phase ≡ Phase.Ready) (idle : s .cache .pending ≡ Pending.Nothing) (key : TileKey) (in-grid : inGrid (s .header) key ≡ true) where
@@ -234,17 +239,18 @@ module _ (s : Shared) (f : Follower) (n : ℕ) (ok : Ok s f n) where
       due =
           let most = reloadLimit (s .cache .pages .count) in
           both (leb (f .due .reloads + 1) most) _ (le-leb (f .due .reloads + 1) most (omega (arith, ltb-true (f .due .reloads) most may)))
-          (both (heldOk s key) _ (rw ready in-grid) (none-pending s (MaybeKey.Key key) idle));
+          (rw ready in-grid);
       sight = ok .sight;
       matcher = ok .matcher;
       ahead = ok .ahead;
       failures = ok .failures;
+      pending = none-pending s (MaybeKey.Key key) idle;
     }
 
     pub match-asks-ok : Ok s (matchAsks f (s .cache .pages .count) key) n
     match-asks-ok =
         either-follower (mayAsk (f .due) (s .cache .pages .count)) s _ _ n asks-ok
-        (record { shared = ok .shared; due = done-due; sight = ok .sight; matcher = ok .matcher; ahead = ok .ahead; failures = ok .failures })
+        (record { shared = ok .shared; due = done-due; sight = ok .sight; matcher = ok .matcher; ahead = ok .ahead; failures = ok .failures; pending = ok .pending })
 
     pub road-asks-ok : (fix : Fix) (found : Matched) → heldOk s (found .tile .key) ≡ true → Ok s (roadAsks f (s .cache .pages .count) fix found key) n
     road-asks-ok fix found held =
@@ -257,12 +263,13 @@ pub needless-ok : (s : Shared) (f : Follower) (n : ℕ) → s .cache .pending �
 needless-ok s f n idle ok = record {
   shared = ok .shared;
   due =
-      both (leb (f .due .reloads) (reloadLimit (s .cache .pages .count))) _
-      (and-left (leb (f .due .reloads) (reloadLimit (s .cache .pages .count))) _ (ok .due)) (none-pending s MaybeKey.Nothing idle);
+      both (leb (f .due .reloads) (reloadLimit (s .cache .pages .count))) true
+      (and-left (leb (f .due .reloads) (reloadLimit (s .cache .pages .count))) _ (ok .due)) refl;
   sight = ok .sight;
   matcher = ok .matcher;
   ahead = ok .ahead;
   failures = refl;
+  pending = none-pending s MaybeKey.Nothing idle;
 }
 
 -- a pack that failed keeps what is needed and matched
@@ -279,7 +286,7 @@ matched-failed s c (Current.Is m) = refl
 
 pub failing-ok : (s : Shared) (f : Follower) (n k : ℕ) → failuresOk (s .phase) k ≡ true → Ok s f n → Ok s (failing f k) n
 failing-ok s f n k few ok =
-    record { shared = ok .shared; due = ok .due; sight = ok .sight; matcher = ok .matcher; ahead = ok .ahead; failures = few }
+    record { shared = ok .shared; due = ok .due; sight = ok .sight; matcher = ok .matcher; ahead = ok .ahead; failures = few; pending = ok .pending }
 
 pub failed-ok : (s : Shared) (f : Follower) (n : ℕ) → s .cache .pending ≡ Pending.Nothing → Ok s f n → Ok (failedWith s (s .cache)) (failing f 8) n
 unfolding sharedOk
@@ -294,11 +301,12 @@ failed-ok s f n idle ok =
       due =
           both (leb (f .due .reloads) (reloadLimit (s .cache .pages .count))) _
           (and-left (leb (f .due .reloads) (reloadLimit (s .cache .pages .count))) _ (ok .due))
-          (both (needOk next (f .due .need)) _ (need-failed s (s .cache) (f .due .need)) (none-pending next (f .due .need) idle));
+          (need-failed s (s .cache) (f .due .need));
       sight = ok .sight;
       matcher = both (countsOk (f .matcher)) _ (and-left (countsOk (f .matcher)) _ (ok .matcher)) (matched-failed s (s .cache) (f .matcher .current));
       ahead =
           both (leb (f .ahead .len) 501) _ (and-left (leb (f .ahead .len) 501) _ (ok .ahead))
           (both (leb (f .ahead .«behind_len») 11) _ (and-left (leb (f .ahead .«behind_len») 11) _ behind) (matched-failed s (s .cache) (f .ahead .matched)));
       failures = refl;
+      pending = none-pending next (f .due .need) idle;
     }

@@ -359,18 +359,18 @@ module _ (e : Engine) (arena : List ℕ) (ok : engineOk e (length arena) ≡ tru
   abbrev h₁ : Header
   h₁ = e .shared .header
 
-  due-rest : (needOk (e .shared) (e .follower .due .need) && pendingOk (e .shared) (e .follower .due .need)) ≡ true
-  due-rest = and-right (leb (e .follower .due .reloads) (reloadLimit (c₁ .pages .count))) _ (apart e (length arena) ok .due)
+  need-held : needOk (e .shared) (e .follower .due .need) ≡ true
+  need-held = and-right (leb (e .follower .due .reloads) (reloadLimit (c₁ .pages .count))) _ (apart e (length arena) ok .due)
 
   fetch-open : pendingOk (e .shared) (e .follower .due .need) ≡ true
-  fetch-open = and-right (needOk (e .shared) (e .follower .due .need)) _ due-rest
+  fetch-open = apart e (length arena) ok .pending
 
   -- the read of the tile needed
   part-taken : (key : TileKey) (n : Next) → isReady (e .shared .phase) ≡ true → e .follower .due .need ≡ MaybeKey.Key key → nextStep c₁ key ≡ n
       → isRead n ≡ true → Loads.readLen n ≡ len → 0 < len → isRefused (partCame e arena key failure bs .answer) ≡ false
   unfolding partCame
   part-taken key n ready need q reads size some =
-      let held : needOk (e .shared) (MaybeKey.Key key) ≡ true = rw need at (and-left (needOk (e .shared) (e .follower .due .need)) _ due-rest) in
+      let held : needOk (e .shared) (MaybeKey.Key key) ≡ true = rw need at need-held in
       let grid : inGrid h₁ key ≡ true = rw (ready-is (e .shared .phase) ready) at held in
       rw (q, grid, size, read-fits len failure bs some answer)
       (loaded-taken e (Loads.stepped c₁ n arena h₁ key failure bs .answer) _ (read-taken c₁ arena h₁ key failure bs n reads))

@@ -16,6 +16,7 @@ use Rattle.cache.specs.declared.MaybeLoading.the-variants as MaybeLoading
 use Rattle.cache.specs.declared.Cache.{Cache}
 use Rattle.cache.specs.declared.Pages.{Pages}
 use Rattle.cache.specs.declared.Slot.{Slot}
+use Rattle.engine.specs.State as Engines
 use Rattle.engine.specs.State.{engineOk, sharedOk, placesOk, fixOk, dueOk, sightOk, matcherOk, matchedOk, aheadOk, failuresOk}
 use Rattle.engine.specs.declared.Engine.{Engine}
 use Rattle.engine.specs.declared.Places.{Places}
@@ -74,6 +75,7 @@ module _ (e : Engine) (size : ℕ) (ok : engineOk e size ≡ true) where
       ∷ matcherOk (e .shared) (e .follower .matcher)
       ∷ aheadOk (e .shared) (e .follower .ahead)
       ∷ failuresOk (e .shared .phase) (e .follower .failures)
+      ∷ Engines.pendingOk (e .shared) (e .follower .due .need)
       ∷ []
 
   every : allOf clauses ≡ true

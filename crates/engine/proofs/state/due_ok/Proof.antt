@@ -1,7 +1,6 @@
 -- `engine::state::due_ok` meets its contract: each return by the causes tested before it.
-use mathlib.Core.Path.{sym, _∙_}
 use borrow.Author.Needs.{needs}
-use borrow.Author.Tests.{not-true, not-false, le-leb, lt-leb}
+use borrow.Author.Tests.{le-leb, lt-leb}
 use Rattle.engine.proofs.state.due_ok.Statement.{statement}
 use Rattle.engine.proofs.state.due_ok.Tie as tie
 
@@ -19,25 +18,8 @@ need-ok-requires c κs = tt
 
 returns-2 : tie.Need-returns-2
 returns-2 c =
-    let limit = c .before .before in
-    rw (
-      ← limit .before .before .reload-limit .ensures,
-      le-leb _ _ (limit .if1 .left),
-      sym (c .before .need-ok .ensures) ∙ not-true _ (c .if2 .taken),
-    )
-
-pending-ok-requires : tie.Need-pending-ok-requires
-pending-ok-requires c κs = tt
-
-returns-3 : tie.Need-returns-3
-returns-3 c =
-    let need = c .before in
-    let limit = need .before .before in
-    rw (
-      ← limit .before .before .reload-limit .ensures,
-      le-leb _ _ (limit .if1 .left),
-      sym (need .before .need-ok .ensures) ∙ not-false _ (need .if2 .left),
-    ) (c .pending-ok .ensures)
+    let limit = c .before in
+    rw (← limit .before .before .reload-limit .ensures, le-leb _ _ (limit .if1 .left)) (c .need-ok .ensures)
 
 pub due-ok-spec : {M : Type 1} → statement M
 due-ok-spec =
@@ -47,6 +29,4 @@ due-ok-spec =
     cast-if1
     returns
     need-ok-requires
-    returns-2
-    pending-ok-requires
-    returns-3)
+    returns-2)

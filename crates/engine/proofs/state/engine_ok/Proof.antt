@@ -79,7 +79,7 @@ failures-ok-requires c κs = tt
 returns-6 : tie.Need-returns-6
 unfolding engineOk
 returns-6 c =
-    let ahead = c .before in
+    let ahead = c .before .before in
     let matcher = ahead .before .before .before in
     let sight = matcher .before .before .before in
     let due = sight .before .before .before in
@@ -90,7 +90,29 @@ returns-6 c =
       sym (sight .before .sight-ok .ensures) ∙ not-false _ (sight .if3 .left),
       sym (matcher .before .matcher-ok .ensures) ∙ not-false _ (matcher .if4 .left),
       sym (ahead .before .ahead-ok .ensures) ∙ not-false _ (ahead .if5 .left),
-      c .failures-ok .ensures,
+      sym (c .before .failures-ok .ensures) ∙ not-true _ (c .if6 .taken),
+    )
+
+pending-ok-requires : tie.Need-pending-ok-requires
+pending-ok-requires c κs = tt
+
+returns-7 : tie.Need-returns-7
+unfolding engineOk
+returns-7 c =
+    let failures = c .before in
+    let ahead = failures .before .before in
+    let matcher = ahead .before .before .before in
+    let sight = matcher .before .before .before in
+    let due = sight .before .before .before in
+    let shared = due .before .before .before in
+    rw (
+      sym (shared .before .shared-ok .ensures) ∙ not-false _ (shared .if1 .left),
+      sym (due .before .due-ok .ensures) ∙ not-false _ (due .if2 .left),
+      sym (sight .before .sight-ok .ensures) ∙ not-false _ (sight .if3 .left),
+      sym (matcher .before .matcher-ok .ensures) ∙ not-false _ (matcher .if4 .left),
+      sym (ahead .before .ahead-ok .ensures) ∙ not-false _ (ahead .if5 .left),
+      sym (failures .before .failures-ok .ensures) ∙ not-false _ (failures .if6 .left),
+      c .pending-ok .ensures,
       and-true,
     )
 
@@ -109,4 +131,6 @@ engine-ok-spec =
     ahead-ok-requires
     returns-5
     failures-ok-requires
-    returns-6)
+    returns-6
+    pending-ok-requires
+    returns-7)
