@@ -132,9 +132,9 @@ module _ (P : List ℕ) (n : ℕ) (horizon : Float) (w : World) (s : Stays P n h
   delivers-number (Ways.parses o y len a) z = omega arith
   delivers-number {failure} {bs} (Ways.brings key b) z =
       let h : Header = e₁ .shared .header in
-      let parsed : Parsed P h = rw (b .ready) at (s .fit .header) in
+      let parsed : Parsed P h = rw (b .ready) at (s .fit .shared .header) in
       loaded-number (brought e₁ (w .arena) key failure bs .answer) _
-      (open-step P h n key (e₁ .shared .cache) (w .arena) (given P n parsed (s .fit .cache)) (parsed-rules P n parsed) (s .long)
+      (open-step P h n key (e₁ .shared .cache) (w .arena) (given P n parsed (s .fit .shared .cache)) (parsed-rules P n parsed) (s .long)
       (entry-is e₁ (w .arena) (s .ok) h (λ y. refl)) (load-is (e₁ .shared .cache) (w .arena) h key failure bs)) z
 
   deliver-number : (failure : ℕ) (bs : List ℕ) → numberOfStatus (Engines.deliver e₁ (w .arena) failure bs .answer) ≡ 12 → ⊥
@@ -165,7 +165,7 @@ module _ (P : List ℕ) (n : ℕ) (horizon : Float) (w : World) (s : Stays P n h
   e₂ = w .engine
 
   sized : length (e₂ .shared .cache .pages .slots) ≡ 96
-  sized = s .fit .cache .inv .pages .size
+  sized = s .fit .shared .cache .inv .pages .size
 
   either-found : (t : Bool) (x y : Changed) → CurrentFits P n (x .engine .follower .matcher) → CurrentFits P n (y .engine .follower .matcher)
       → CurrentFits P n (cond t x y .engine .follower .matcher)
@@ -205,7 +205,7 @@ module _ (P : List ℕ) (n : ℕ) (horizon : Float) (w : World) (s : Stays P n h
 
   -- a direct call over another state of the cache
   cached-ok : (d : Cache) → Inv d → d .pages .count ≡ n → Leaves (e₂ .shared .cache) d → engineOk (withCache e₂ d) (length (w .arena)) ≡ true
-  cached-ok d inv count l = cache-sound e₂ d (length (w .arena)) (s .ok) inv (count ∙ sym (s .fit .cache .count)) l
+  cached-ok d inv count l = cache-sound e₂ d (length (w .arena)) (s .ok) inv (count ∙ sym (s .fit .shared .cache .count)) l
 
   LeavesOver : Cache → List ℕ → Type 0
   LeavesOver d arena = Leaves (e₂ .shared .cache) d
@@ -219,14 +219,14 @@ module _ (P : List ℕ) (n : ℕ) (horizon : Float) (w : World) (s : Stays P n h
   ok-after (Calls.deliver failure bs) fit = deliver-ok e₂ (w .arena) failure bs (length (w .arena)) sized (s .ok)
   ok-after (Calls.stepFrom Q) fit = step-from-ok (length (w .arena)) e₂ (w .arena) Q sized (s .ok)
   ok-after (Calls.read r) fit = s .ok
-  ok-after (Calls.onCache c) fit = call-sound w c (length (w .arena)) (s .ok) (s .fit .cache .inv) (fit .cache .count ∙ sym (s .fit .cache .count))
+  ok-after (Calls.onCache c) fit = call-sound w c (length (w .arena)) (s .ok) (s .fit .shared .cache .inv) (fit .shared .cache .count ∙ sym (s .fit .shared .cache .count))
   ok-after (Calls.nearby h p) fit = s .ok
   ok-after (Calls.current m) fit = s .ok
   ok-after (Calls.update m h p heading) fit =
-      cached-ok _ (fit .cache .inv) (fit .cache .count)
+      cached-ok _ (fit .shared .cache .inv) (fit .shared .cache .count)
       (update-keeps LeavesOver (λ c arena i q. touched-leaves (e₂ .shared .cache) c i q) m (e₂ .shared .cache) (w .arena) h p heading (stands refl refl))
   ok-after (Calls.predict h m reach samples behind) fit =
-      cached-ok _ (fit .cache .inv) (fit .cache .count)
+      cached-ok _ (fit .shared .cache .inv) (fit .shared .cache .count)
       (predict-keeps LeavesOver (λ c arena i q. touched-leaves (e₂ .shared .cache) c i q) (e₂ .shared .cache) (w .arena) h m reach samples behind (stands refl refl))
 
   pub stays-after : (c : Call) → Fair P w c → Stays (packAfter P c (toldOf w c)) n horizon (exec c w .world)
@@ -292,18 +292,18 @@ module _ (P : List ℕ) (n : ℕ) (horizon : Float) (w : World) (s : Stays P n h
 
   -- the header that was read is the pack's
   header-same : e₂ .shared .phase ≡ Phase.Ready → e₂ .shared .header ≡ headerOf P
-  header-same z = let parsed : Parsed P (e₂ .shared .header) = rw z at (s .fit .header) in sym (parsed .header)
+  header-same z = let parsed : Parsed P (e₂ .shared .header) = rw z at (s .fit .shared .header) in sym (parsed .header)
 
   pub entry-of-pack : entryIn (e₂ .shared .cache .pending) (headerOf P) ≡ true
   entry-of-pack = entry-is e₂ (w .arena) (s .ok) (headerOf P) header-same
 
   module _ (h : Header) (parsed : Parsed P h) where
     fresh-at : (key : TileKey) → look (e₂ .shared .cache) (w .arena) (h .tile) key ≡ stale → ⊥
-    fresh-at = not-stale P h n (e₂ .shared .cache) (w .arena) (given P n parsed (s .fit .cache)) (parsed-rules P n parsed) (s .long)
+    fresh-at = not-stale P h n (e₂ .shared .cache) (w .arena) (given P n parsed (s .fit .shared .cache)) (parsed-rules P n parsed) (s .long)
 
     pub cache-is : (key : TileKey) → cacheOk (e₂ .shared .cache) h (length (w .arena)) ≡ true
     cache-is key =
-        kept-ok P h n key (e₂ .shared .cache) (w .arena) (given P n parsed (s .fit .cache)) (parsed-rules P n parsed) (s .long)
+        kept-ok P h n key (e₂ .shared .cache) (w .arena) (given P n parsed (s .fit .shared .cache)) (parsed-rules P n parsed) (s .long)
         (entry-is e₂ (w .arena) (s .ok) h (λ z. header-same z ∙ parsed .header))
 
     update-number : (m : Matcher) (p : Point) (heading : Heading) → MatchNumbers.numberOfOutcome (Matching.update m (e₂ .shared .cache) (w .arena) h p heading .answer) ≡ 12
@@ -359,7 +359,7 @@ module _ (P : List ℕ) (n : ℕ) (horizon : Float) (w : World) (s : Stays P n h
   call-number (Calls.deliver failure bs) fair = deliver-number P n horizon w s failure bs
   call-number (Calls.stepFrom Q) fair = lent-number P n horizon w Q s (lends-is e₂ (w .arena) Q)
   call-number (Calls.read r) fair = read-number r
-  call-number (Calls.onCache c) fair = open-call P n (cacheOf w) (s .fit .cache) (s .long) entry-of-pack c fair
+  call-number (Calls.onCache c) fair = open-call P n (cacheOf w) (s .fit .shared .cache) (s .long) entry-of-pack c fair
   call-number (Calls.nearby h p) fair = nearby-number h p fair
   call-number (Calls.current m) fair = current-number m
   call-number (Calls.update m h p heading) fair = update-number h fair m p heading

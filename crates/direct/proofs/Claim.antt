@@ -10,10 +10,10 @@ use Rattle.engine.specs.Follow as Followers
 use Rattle.engine.specs.Calls as Engines
 use Rattle.direct.specs.Lists.{World, Call, exec, start}
 use Rattle.direct.specs.Direct.{Lookup, directly, Direct, newDirect, applied, packAfter, directExec, directShows}
-use Rattle.direct.specs.Claims.{toldOf, tolds, shows, AllFair, madeOf, Answers, AllSame, AllDirect, AllSafe, AllOpen}
+use Rattle.direct.specs.Claims.{isFetching, toldOf, tolds, shows, AllFair, madeOf, Answers, AllSame, AllDirect, AllSafe, AllOpen}
 use Rattle.direct.proofs.Safe.{safe-along}
-use Rattle.direct.proofs.Fit.{Fit, fit-after, fit-start}
-use Rattle.direct.proofs.Linked.{Linked, Alike, turn-alike}
+use Rattle.direct.proofs.Fit.{SharedFits, Reaches, Fit, fit-start}
+use Rattle.direct.proofs.Linked.{Linked, Turn, turn}
 use Rattle.direct.proofs.Sound.{start-sound}
 use Rattle.direct.proofs.Opened.{reset-fits}
 use Rattle.direct.proofs.Always.{open-along}
@@ -29,23 +29,23 @@ all-safe n few horizon arena cs = safe-along cs (start n horizon arena) (inv-fre
 -- ---- finished matches and roads
 
 module _ (n : ℕ) (horizon : Float) (at : Lookup) (answers : Answers n at) where
-  same-along : (cs : List Call) (P : List ℕ) (w : World) (d : Direct) → Fit P n horizon w → Linked d (w .engine) → AllFair P cs w
-      → directShows at (madeOf n horizon) P cs (tolds cs w) d ≡ shows cs w
+  same-along : (cs : List Call) (P : List ℕ) (w : World) (d : Direct) → SharedFits P n (w .engine .shared) (w .arena) → Reaches horizon (w .engine .follower)
+      → Linked d (isFetching (w .engine)) (w .engine .follower) → AllFair P cs w → directShows at (madeOf n horizon) P cs (tolds cs w) d ≡ shows cs w
   unfolding AllFair tolds shows directShows
-  same-along [] P w d fit l fair = refl
-  same-along (c ∷ cs) P w d fit l fair =
-      let a : Alike at n horizon P w d l c = turn-alike at n horizon P w d l fit answers c (fair .0) in
+  same-along [] P w d fits reach l fair = refl
+  same-along (c ∷ cs) P w d fits reach l fair =
+      let t : Turn at n horizon P w d l fits reach answers c = turn at n horizon P w d l fits reach answers c (fair .0) in
       rw (
-        a .shown,
+        t .alike .shown,
         same-along cs (packAfter P c (toldOf w c)) (exec c w .world) (directExec at (madeOf n horizon) P c (toldOf w c) d .direct)
-            (fit-after P n horizon w c fit (fair .0)) (a .linked) (fair .1),
+            (t .shared) (t .reach) (t .alike .linked) (fair .1),
       )
 
 pub all-same : AllSame
 unfolding Followers.fresh applied
 all-same n few horizon arena P cs fair at answers =
-    same-along n horizon at answers cs P (start n horizon arena) newDirect (fit-start P n horizon arena few)
-    (record { sight = refl; matcher = refl; none = λ r. refl }) fair
+    let fit : Fit P n horizon (start n horizon arena) = fit-start P n horizon arena few in
+    same-along n horizon at answers cs P (start n horizon arena) newDirect (fit .shared) (fit .reach) (record { sight = refl; matcher = refl; none = λ r. refl }) fair
 
 pub all-direct : AllDirect
 all-direct n few horizon arena P cs fair = all-same n few horizon arena P cs fair (directly n) (λ P key s. refl)

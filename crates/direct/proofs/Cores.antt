@@ -59,7 +59,7 @@ module _ (P : List ℕ) (n : ℕ) (horizon : Float) (w : World) (s : Stays P n h
     outside-by key Landing.Nothing l e = (refl, tt)
     outside-by key (Landing.At i) l e =
         let r : ReadyAt (c₁ .pages) key i = ready-at (c₁ .pages) key i l in
-        let held = given P n parsed (s .fit .cache) .slots i key (r .ready) (r .keyIs) in
+        let held = given P n parsed (s .fit .shared .cache) .slots i key (r .ready) (r .keyIs) in
         let none : missing ≡ ready _ = sym (outside-missing P h n key e) ∙ held in
         let z : _≡_ {A = ℕ} 0 1 = cc in
         absurd (omega arith)
@@ -74,7 +74,7 @@ module _ (P : List ℕ) (n : ℕ) (horizon : Float) (w : World) (s : Stays P n h
     public-is (Cores.got key) = ((λ e. rw (cache-is P n horizon w s h parsed key, e)), outside-is key)
     public-is (loaded key failure bs) = rw (cache-is P n horizon w s h parsed key)
     public-is (settled key) = rw (cache-is P n horizon w s h parsed key, settled-leaves c₁ (w .arena) h key)
-    public-is cleared = rw (lent-is P n (Calls.cacheOf w) (s .fit .cache) (s .long) (entry-of-pack P n horizon w s))
+    public-is cleared = rw (lent-is P n (Calls.cacheOf w) (s .fit .shared .cache) (s .long) (entry-of-pack P n horizon w s))
     public-is (updated m p heading) = λ ok. rw (cache-is P n horizon w s h parsed (record { row = 0; col = 0 }), ok)
     public-is (predicted m reach samples behind) = rw (cache-is P n horizon w s h parsed (m .tile .key))
 

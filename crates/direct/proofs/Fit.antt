@@ -1,5 +1,5 @@
--- Under the premises: what the cache holds is the pack's, the header that was read is the pack's, and what the engine was made with stays. By the
--- ways that a call goes.
+-- Under the premises: what the cache holds is the pack's and the header that was read is the pack's (`SharedFits`, of the shared part alone, whichever
+-- follower a call is made on: `shared-after`), and a follower keeps the horizon that it was made with (`reach-after`). By the ways that a call goes.
 use Prim.Native.Nat.{ℕ, zero, suc, _+_, _<_, _≤_}
 use mathlib.Core.Path.{_≡_, refl, sym, ap, _∙_}
 use mathlib.Core.Bool.{Bool, true, false, not, cond}
@@ -22,7 +22,6 @@ use Rattle.cache.specs.Lookups.{touched}
 use Rattle.cache.specs.State.{fresh, cleared, pendingFits}
 use Rattle.cache.specs.declared.Cache.{Cache}
 use Rattle.cache.specs.declared.Pending.{Pending}
-use Rattle.cache.specs.declared.Pending.the-variants as Pending
 use Rattle.cache.specs.Loads as Loads
 use Rattle.cache.specs.Loads.{forgot, told}
 use Rattle.cache_lists.specs.Claims.{Parsed}
@@ -35,18 +34,18 @@ use Rattle.engine.specs.Follow as Followers
 use Rattle.engine.specs.Fixes.{isSamePlace}
 use Rattle.engine.specs.declared.Fix.{Fix}
 use Rattle.engine.specs.declared.Follower.{Follower}
-use Rattle.engine.specs.State.{refused, unchanged, engineOk, forgotten}
+use Rattle.engine.specs.State.{unchanged, engineOk, forgotten}
 use Rattle.engine.specs.Deliver.{After, withPending, sectorOf, arrived, loadFailed, loaded}
 use Rattle.engine.specs.Calls as Engines
 use Rattle.engine.specs.declared.Changed.{Changed}
 use Rattle.engine.specs.declared.Engine.{Engine}
 use Rattle.engine.specs.declared.Phase.{Phase}
 use Rattle.engine.specs.declared.Phase.the-variants as Phase
+use Rattle.engine.specs.declared.Shared.{Shared}
 use Rattle.engine.specs.declared.Status.{Status}
-use Rattle.engine.specs.declared.Status.the-variants as Status
 use Rattle.engine.specs.declared.Stepped.{Stepped}
 use Rattle.engine_states.proofs.RefusedSame.{step-open}
-use Rattle.direct.specs.Lists.{withCache, World, Call, fix, lost, reset, step, deliver, stepFrom, read, onCache, nearby, current, update, predict, cacheOf, numberOfTaken, numberOfStatus, exec, start}
+use Rattle.direct.specs.Lists.{World, Call, fix, lost, reset, step, deliver, stepFrom, read, onCache, nearby, current, update, predict, cacheOf, numberOfTaken, numberOfStatus, exec, start}
 use Rattle.direct.specs.Direct.{headerOf, packAfter}
 use Rattle.direct.specs.Claims.{toldOf, openRead, FairBytes, FairLent, Fair}
 use Rattle.direct.proofs.Ways as Ways
@@ -54,7 +53,7 @@ use Rattle.direct.proofs.Ways.{Brings, brought, Lends, lends-is}
 use Rattle.direct.proofs.Changes.{step-keeps, deliver-keeps, update-keeps, predict-keeps}
 use Rattle.direct.proofs.Safe.{inv-pending}
 use Rattle.direct.proofs.Beside as Sides
-use Rattle.direct.proofs.Beside.{Beside, Heads, Left, step-beside, deliver-left}
+use Rattle.direct.proofs.Beside.{Beside, Heads, step-beside, deliver-left}
 
 -- ---- a sector of 512 bytes is those bytes
 
@@ -93,10 +92,18 @@ HeaderFits P Phase.Failed h = Unit
 abbrev pub KeptOver : List ℕ → ℕ → Cache → List ℕ → Type 0
 KeptOver P n c arena = Kept P (headerOf P) n c arena
 
+-- what is shared, against the pack
+pub record SharedFits (P : List ℕ) (n : ℕ) (s : Shared) (arena : List ℕ) : Type 0 where
+  pub cache : KeptOver P n (s .cache) arena
+  pub header : HeaderFits P (s .phase) (s .header)
+
+-- one follower's: the horizon that it was made with
+abbrev pub Reaches : Float → Follower → Type 0
+Reaches horizon f = f .«horizon_m» ≡ min horizon (whole 10000)
+
 pub record Fit (P : List ℕ) (n : ℕ) (horizon : Float) (w : World) : Type 0 where
-  pub cache : KeptOver P n (w .engine .shared .cache) (w .arena)
-  pub header : HeaderFits P (w .engine .shared .phase) (w .engine .shared .header)
-  pub reach : w .engine .follower .«horizon_m» ≡ min horizon (whole 10000)
+  pub shared : SharedFits P n (w .engine .shared) (w .arena)
+  pub reach : Reaches horizon (w .engine .follower)
 
 fixed-reach : (f : Follower) (x : Fix) → Followers.fixed f x .«horizon_m» ≡ f .«horizon_m»
 unfolding Followers.fixed
@@ -172,59 +179,41 @@ module _ (P : List ℕ) (n : ℕ) where
 
   -- ---- a step, a delivery, the lent-pack form
 
-  module _ (horizon : Float) (e : Engine) (arena : List ℕ) (f : Fit P n horizon (record { engine = e; arena = arena })) where
-    pub fit-stepped : Fit P n horizon (record { engine = Engines.step e arena .engine; arena = arena })
-    fit-stepped =
+  module _ (e : Engine) (arena : List ℕ) (f : SharedFits P n (e .shared) arena) where
+    pub shared-stepped : SharedFits P n (Engines.step e arena .engine .shared) arena
+    shared-stepped =
         let b : Beside e (Engines.step e arena .engine) = step-beside e arena in
-        record { cache = kept-stepped e arena (f .cache); header = rw (b .phase, b .header) (f .header); reach = b .horizon ∙ f .reach }
+        record { cache = kept-stepped e arena (f .cache); header = rw (b .phase, b .header) (f .header) }
 
-    pub fit-delivered : (failure : ℕ) (bs : List ℕ) → (numberOfStatus (Engines.deliver e arena failure bs .answer) ≡ 0 → failure ≡ 0 → FairBytes P (openRead e) bs)
-        → Fit P n horizon (record { engine = Engines.deliver e arena failure bs .engine; arena = Engines.deliver e arena failure bs .arena })
-    fit-delivered failure bs fair =
-        let l : Left e failure bs (Engines.deliver e arena failure bs .answer) (Engines.deliver e arena failure bs .engine) = deliver-left e failure bs arena in
-        record {
-          cache = kept-delivered e arena failure bs (f .cache) (f .header) fair;
-          header = heads-fit e arena failure bs (f .cache) (f .header) fair (l .heads) refl;
-          reach = l .follower .horizon ∙ f .reach;
-        }
+    shared-delivered : (failure : ℕ) (bs : List ℕ) → (numberOfStatus (Engines.deliver e arena failure bs .answer) ≡ 0 → failure ≡ 0 → FairBytes P (openRead e) bs)
+        → SharedFits P n (Engines.deliver e arena failure bs .engine .shared) (Engines.deliver e arena failure bs .arena)
+    shared-delivered failure bs fair = record {
+      cache = kept-delivered e arena failure bs (f .cache) (f .header) fair;
+      header = heads-fit e arena failure bs (f .cache) (f .header) fair (deliver-left e failure bs arena .heads) refl;
+    }
 
   -- the lent-pack form
-  fit-lent : (horizon : Float) (e : Engine) (arena Q : List ℕ) {r : After} → Lends e arena Q r → FairLent P (Engines.step e arena .answer) Q
-      → Fit P n horizon (record { engine = e; arena = arena }) → Fit P n horizon (record { engine = r .engine; arena = r .arena })
-  fit-lent horizon e arena Q (Ways.plain t) fair f = fit-stepped horizon e arena f
-  fit-lent horizon e arena Q (Ways.asks offset len failure bs a bytes) fair f =
-      fit-delivered horizon (Engines.step e arena .engine) arena (fit-stepped horizon e arena f) failure bs
+  shared-lent : (e : Engine) (arena Q : List ℕ) {r : After} → Lends e arena Q r → FairLent P (Engines.step e arena .answer) Q
+      → SharedFits P n (e .shared) arena → SharedFits P n (r .engine .shared) (r .arena)
+  shared-lent e arena Q (Ways.plain t) fair f = shared-stepped e arena f
+  shared-lent e arena Q (Ways.asks offset len failure bs a bytes) fair f =
+      shared-delivered (Engines.step e arena .engine) arena (shared-stepped e arena f) failure bs
       (λ z y. rw (step-open e arena a) (bytes P (rw a at fair) y))
 
-  -- ---- fixes
+  -- ---- fixes leave it
 
-  either-fit : (horizon : Float) (arena : List ℕ) (t : Bool) (x y : Changed) → Fit P n horizon (record { engine = x .engine; arena = arena })
-      → Fit P n horizon (record { engine = y .engine; arena = arena }) → Fit P n horizon (record { engine = cond t x y .engine; arena = arena })
-  either-fit horizon arena true x y p q = p
-  either-fit horizon arena false x y p q = q
+  either-shared : (arena : List ℕ) (t : Bool) (x y : Changed) → SharedFits P n (x .engine .shared) arena → SharedFits P n (y .engine .shared) arena
+      → SharedFits P n (cond t x y .engine .shared) arena
+  either-shared arena true x y p q = p
+  either-shared arena false x y p q = q
 
-  fit-follows : (horizon : Float) (e : Engine) (arena : List ℕ) (g : Follower) → g .«horizon_m» ≡ e .follower .«horizon_m»
-      → Fit P n horizon (record { engine = e; arena = arena })
-      → Fit P n horizon (record { engine = record { shared = e .shared; follower = g }; arena = arena })
-  fit-follows horizon e arena g same f = record { cache = f .cache; header = f .header; reach = same ∙ f .reach }
-
-  fit-fix : (horizon : Float) (e : Engine) (arena : List ℕ) (x : Fix) → Fit P n horizon (record { engine = e; arena = arena })
-      → Fit P n horizon (record { engine = Engines.fix e arena x .engine; arena = arena })
+  shared-fix : (e : Engine) (arena : List ℕ) (x : Fix) → SharedFits P n (e .shared) arena → SharedFits P n (Engines.fix e arena x .engine .shared) arena
   unfolding Engines.fix
-  fit-fix horizon e arena x f =
-      either-fit horizon arena (engineOk e (length arena)) _ _
-      (either-fit horizon arena (isPoint (x .lat) (x .lon)) _ _ (fit-follows horizon e arena (Followers.fixed (e .follower) x) (fixed-reach (e .follower) x) f) f) f
+  shared-fix e arena x f = either-shared arena (engineOk e (length arena)) _ _ (either-shared arena (isPoint (x .lat) (x .lon)) _ _ f f) f
 
-  fit-lost : (horizon : Float) (e : Engine) (arena : List ℕ) → Fit P n horizon (record { engine = e; arena = arena })
-      → Fit P n horizon (record { engine = Engines.lost e arena .engine; arena = arena })
-  unfolding Engines.lost Followers.lost
-  fit-lost horizon e arena f = either-fit horizon arena (engineOk e (length arena)) _ _ (fit-follows horizon e arena (Followers.lost (e .follower)) refl f) f
-
-  -- ---- direct calls
-
-  fit-cache : (horizon : Float) (w : World) (c : Cache) (arena : List ℕ) → KeptOver P n c arena → Fit P n horizon w
-      → Fit P n horizon (record { engine = withCache (w .engine) c; arena = arena })
-  fit-cache horizon w c arena k f = record { cache = k; header = f .header; reach = f .reach }
+  shared-lost : (e : Engine) (arena : List ℕ) → SharedFits P n (e .shared) arena → SharedFits P n (Engines.lost e arena .engine .shared) arena
+  unfolding Engines.lost
+  shared-lost e arena f = either-shared arena (engineOk e (length arena)) _ _ f f
 
 -- ---- a reset: nothing is held of the pack before
 
@@ -235,40 +224,85 @@ cleared-fits P Q n c arena k =
     let e : KeptOver Q n (fresh n) arena = kept-fresh Q (headerOf Q) n arena (rw (k .count) at (k .inv .pages .small)) in
     record { inv = inv-cleared c (k .inv); count = k .count; slots = e .slots; ring = e .ring; load = tt }
 
-fit-reset : (P Q : List ℕ) (n : ℕ) (horizon : Float) (w : World) → Fit P n horizon w
-    → Fit (packAfter P (reset Q) (toldOf w (reset Q))) n horizon (exec (reset Q) w .world)
-unfolding exec Engines.reset forgotten Followers.reset
-fit-reset P Q n horizon w f = by (engineOk (w .engine) (length (w .arena)))
+shared-reset : (P Q : List ℕ) (n : ℕ) (w : World) → SharedFits P n (w .engine .shared) (w .arena)
+    → SharedFits (packAfter P (reset Q) (toldOf w (reset Q))) n (exec (reset Q) w .world .engine .shared) (w .arena)
+unfolding exec Engines.reset forgotten
+shared-reset P Q n w f = by (engineOk (w .engine) (length (w .arena)))
   where
     left : Bool → Changed
     left t = cond t (forgotten (w .engine)) (unchanged (w .engine) 12)
 
-    by : (t : Bool) → Fit (cond (not (eqb (numberOfTaken (left t .answer)) 0)) P Q) n horizon (record { engine = left t .engine; arena = w .arena })
-    by true = record { cache = cleared-fits P Q n (w .engine .shared .cache) (w .arena) (f .cache); header = tt; reach = f .reach }
+    by : (t : Bool) → SharedFits (cond (not (eqb (numberOfTaken (left t .answer)) 0)) P Q) n (left t .engine .shared) (w .arena)
+    by true = record { cache = cleared-fits P Q n (w .engine .shared .cache) (w .arena) (f .cache); header = tt }
     by false = f
 
--- ---- a call
+-- ---- what is shared, after a call on any follower
+
+pub shared-after : (P : List ℕ) (n : ℕ) (w : World) (c : Call) → SharedFits P n (w .engine .shared) (w .arena) → Fair P w c
+    → SharedFits (packAfter P c (toldOf w c)) n (exec c w .world .engine .shared) (exec c w .world .arena)
+unfolding exec
+shared-after P n w (fix x) f fair = shared-fix P n (w .engine) (w .arena) x f
+shared-after P n w lost f fair = shared-lost P n (w .engine) (w .arena) f
+shared-after P n w (reset Q) f fair = shared-reset P Q n w f
+shared-after P n w step f fair = shared-stepped P n (w .engine) (w .arena) f
+shared-after P n w (deliver failure bs) f fair = shared-delivered P n (w .engine) (w .arena) f failure bs fair
+shared-after P n w (stepFrom Q) f fair = shared-lent P n (w .engine) (w .arena) Q (lends-is (w .engine) (w .arena) Q) fair f
+shared-after P n w (read r) f fair = f
+shared-after P n w (onCache c) f fair = record { cache = kept-call P n (cacheOf w) c (f .cache) fair; header = f .header }
+shared-after P n w (nearby h p) f fair = f
+shared-after P n w (current m) f fair = f
+shared-after P n w (update m h p heading) f fair = record {
+  cache = update-keeps (KeptOver P n) (touches P n) m (w .engine .shared .cache) (w .arena) h p heading (f .cache);
+  header = f .header;
+}
+shared-after P n w (predict h m reach samples behind) f fair = record {
+  cache = predict-keeps (KeptOver P n) (touches P n) (w .engine .shared .cache) (w .arena) h m reach samples behind (f .cache);
+  header = f .header;
+}
+
+-- ---- a follower's horizon, after a call on it
+
+module _ (horizon : Float) where
+  either-reach : (t : Bool) (x y : Changed) → Reaches horizon (x .engine .follower) → Reaches horizon (y .engine .follower)
+      → Reaches horizon (cond t x y .engine .follower)
+  either-reach true x y p q = p
+  either-reach false x y p q = q
+
+  step-reach : (e : Engine) (arena : List ℕ) → Reaches horizon (e .follower) → Reaches horizon (Engines.step e arena .engine .follower)
+  step-reach e arena r = step-beside e arena .horizon ∙ r
+
+  lent-reach : (e : Engine) (arena Q : List ℕ) {a : After} → Lends e arena Q a → Reaches horizon (e .follower) → Reaches horizon (a .engine .follower)
+  lent-reach e arena Q (Ways.plain t) r = step-reach e arena r
+  lent-reach e arena Q (Ways.asks offset len failure bs a bytes) r =
+      deliver-left (Engines.step e arena .engine) failure bs arena .follower .horizon ∙ step-reach e arena r
+
+  pub reach-after : (w : World) (c : Call) → Reaches horizon (w .engine .follower) → Reaches horizon (exec c w .world .engine .follower)
+  unfolding exec Engines.fix Engines.lost Engines.reset forgotten Followers.lost Followers.reset
+  reach-after w (fix x) r =
+      either-reach (engineOk (w .engine) (length (w .arena))) _ _
+      (either-reach (isPoint (x .lat) (x .lon)) _ _ (fixed-reach (w .engine .follower) x ∙ r) r) r
+  reach-after w lost r = either-reach (engineOk (w .engine) (length (w .arena))) _ _ r r
+  reach-after w (reset Q) r = either-reach (engineOk (w .engine) (length (w .arena))) _ _ r r
+  reach-after w step r = step-reach (w .engine) (w .arena) r
+  reach-after w (deliver failure bs) r = deliver-left (w .engine) failure bs (w .arena) .follower .horizon ∙ r
+  reach-after w (stepFrom Q) r = lent-reach (w .engine) (w .arena) Q (lends-is (w .engine) (w .arena) Q) r
+  reach-after w (read x) r = r
+  reach-after w (onCache c) r = r
+  reach-after w (nearby h p) r = r
+  reach-after w (current m) r = r
+  reach-after w (update m h p heading) r = r
+  reach-after w (predict h m reach samples behind) r = r
+
+-- ---- an engine of one follower
 
 pub fit-after : (P : List ℕ) (n : ℕ) (horizon : Float) (w : World) (c : Call) → Fit P n horizon w → Fair P w c
     → Fit (packAfter P c (toldOf w c)) n horizon (exec c w .world)
-unfolding exec
-fit-after P n horizon w (fix x) f fair = fit-fix P n horizon (w .engine) (w .arena) x f
-fit-after P n horizon w lost f fair = fit-lost P n horizon (w .engine) (w .arena) f
-fit-after P n horizon w (reset Q) f fair = fit-reset P Q n horizon w f
-fit-after P n horizon w step f fair = fit-stepped P n horizon (w .engine) (w .arena) f
-fit-after P n horizon w (deliver failure bs) f fair = fit-delivered P n horizon (w .engine) (w .arena) f failure bs fair
-fit-after P n horizon w (stepFrom Q) f fair = fit-lent P n horizon (w .engine) (w .arena) Q (lends-is (w .engine) (w .arena) Q) fair f
-fit-after P n horizon w (read r) f fair = f
-fit-after P n horizon w (onCache c) f fair = fit-cache P n horizon w _ _ (kept-call P n (cacheOf w) c (f .cache) fair) f
-fit-after P n horizon w (nearby h p) f fair = f
-fit-after P n horizon w (current m) f fair = f
-fit-after P n horizon w (update m h p heading) f fair =
-    fit-cache P n horizon w _ (w .arena)
-    (update-keeps (KeptOver P n) (touches P n) m (w .engine .shared .cache) (w .arena) h p heading (f .cache)) f
-fit-after P n horizon w (predict h m reach samples behind) f fair =
-    fit-cache P n horizon w _ (w .arena)
-    (predict-keeps (KeptOver P n) (touches P n) (w .engine .shared .cache) (w .arena) h m reach samples behind (f .cache)) f
+fit-after P n horizon w c f fair = record { shared = shared-after P n w c (f .shared) fair; reach = reach-after horizon w c (f .reach) }
+
+pub fit-stepped : (P : List ℕ) (n : ℕ) (horizon : Float) (e : Engine) (arena : List ℕ) → Fit P n horizon (record { engine = e; arena = arena })
+    → Fit P n horizon (record { engine = Engines.step e arena .engine; arena = arena })
+fit-stepped P n horizon e arena f = record { shared = shared-stepped P n e arena (f .shared); reach = step-reach horizon e arena (f .reach) }
 
 pub fit-start : (P : List ℕ) (n : ℕ) (horizon : Float) (arena : List ℕ) → n ≤ 96 → Fit P n horizon (start n horizon arena)
 unfolding Followers.fresh
-fit-start P n horizon arena few = record { cache = kept-fresh P (headerOf P) n arena few; header = tt; reach = refl }
+fit-start P n horizon arena few = record { shared = record { cache = kept-fresh P (headerOf P) n arena few; header = tt }; reach = refl }

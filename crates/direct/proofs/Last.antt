@@ -237,7 +237,7 @@ module _ (e : Engine) (arena : List ℕ) where
 
 -- ---- a call
 
-module _ (at : Lookup) (n : ℕ) (horizon : Float) (answers : Answers n at) (P : List ℕ) (w : World) (d : Direct) (l : Linked d (w .engine)) (fit : Fit P n horizon w)
+module _ (at : Lookup) (n : ℕ) (horizon : Float) (answers : Answers n at) (P : List ℕ) (w : World) (d : Direct) (l : Linked d (isFetching (w .engine)) (w .engine .follower)) (fit : Fit P n horizon w)
     (is : lastOf d ≡ w .engine .follower .ahead .matched) where
   abbrev e₁ : Engine
   e₁ = w .engine
@@ -281,7 +281,7 @@ module _ (at : Lookup) (n : ℕ) (horizon : Float) (answers : Answers n at) (P :
   step-last : taskRemembers (taskOf e₁) e₁ (w .arena) ≡ false → lastOf (next Calls.step) ≡ exec Calls.step w .world .engine .follower .ahead .matched
   unfolding directExec worked exec shown
   step-last z =
-      turn-last (stepShown e₁ (w .arena)) (Engines.step e₁ (w .arena) .engine) _ (step-turn at n horizon P w d l fit answers)
+      turn-last (stepShown e₁ (w .arena)) (Engines.step e₁ (w .arena) .engine) _ (step-turn at n horizon P w d l (fit .shared) (fit .reach) answers)
       (step-leaves e₁ (w .arena) z) (none-step e₁ (w .arena))
 
   lent-leaves : (Q : List ℕ) {r : After} → Lends e₁ (w .arena) Q r → taskRemembers (taskOf e₁) e₁ (w .arena) ≡ false
@@ -298,7 +298,7 @@ module _ (at : Lookup) (n : ℕ) (horizon : Float) (answers : Answers n at) (P :
   unfolding directExec worked exec shown
   lent-last Q z =
       let goes = lends-is e₁ (w .arena) Q in
-      turn-last (stepShown e₁ (w .arena)) (Engines.stepFrom e₁ (w .arena) Q .engine) _ (lent-turn at n horizon P w d l fit answers Q goes)
+      turn-last (stepShown e₁ (w .arena)) (Engines.stepFrom e₁ (w .arena) Q .engine) _ (lent-turn at n horizon P w d l (fit .shared) (fit .reach) answers Q goes)
       (lent-leaves Q goes z) (none-step e₁ (w .arena))
 
   -- a call that changes neither
@@ -382,13 +382,13 @@ module _ (at : Lookup) (n : ℕ) (horizon : Float) (answers : Answers n at) (P :
 -- ---- a list
 
 module _ (at : Lookup) (n : ℕ) (horizon : Float) (answers : Answers n at) where
-  list-last : (cs : List Call) (P : List ℕ) (w : World) (d : Direct) → Fit P n horizon w → Linked d (w .engine)
+  list-last : (cs : List Call) (P : List ℕ) (w : World) (d : Direct) → Fit P n horizon w → Linked d (isFetching (w .engine)) (w .engine .follower)
       → lastOf d ≡ w .engine .follower .ahead .matched → AllFair P cs w → Along NoMemory cs w
       → lastOf (directAfter at (madeOf n horizon) P cs (tolds cs w) d) ≡ after cs w .engine .follower .ahead .matched
   unfolding AllFair Along tolds after directAfter
   list-last [] P w d fit l is fair none = is
   list-last (c ∷ cs) P w d fit l is fair none =
-      let a : Alike at n horizon P w d l c = turn-alike at n horizon P w d l fit answers c (fair .0) in
+      let a : Alike at n horizon P w d l c = turn-alike at n horizon P w d l (fit .shared) (fit .reach) answers c (fair .0) in
       list-last cs (packAfter P c (toldOf w c)) (exec c w .world) (directExec at (madeOf n horizon) P c (toldOf w c) d .direct)
       (fit-after P n horizon w c fit (fair .0)) (a .linked) (call-last at n horizon answers P w d l fit is c (none .0)) (fair .1) (none .1)
 

@@ -1,5 +1,6 @@
--- The direct engine beside the engine, call by call: what it holds, with what waits done, is what the engine sees and matches, and nothing waits where no
--- fetch is open (`Linked`). Each call shows what the direct engine works out of it (`turn-linked`).
+-- The direct engine beside a follower, call by call: what it holds, with what waits done, is what the follower sees and matches, and nothing waits where no
+-- fetch is open (`Linked`). Each call shows what the direct engine works out of it (`turn-alike`). What is shared is asked for by itself (`SharedFits`), and of
+-- another follower over it whose turn the call was not the link stands (`others-linked`).
 use Prim.Native.Nat.{ℕ}
 use mathlib.Core.Path.{_≡_, refl, sym, ap, subst, _∙_}
 use mathlib.Core.Bool.{Bool, true, false, _&&_, not, cond, true≢false}
@@ -59,32 +60,33 @@ use Rattle.engine.specs.declared.Stepped.{Stepped}
 use Rattle.direct.specs.Lists as Calls
 use Rattle.direct.specs.Lists.{World, Call, numberOfTaken, number, exec}
 use Rattle.direct.specs.Finished.{Shown, nothing, updated, predicted, isMatch, isRoad, Task, none, offMap, match, road, openTask, taskOf, matchOf, roadAt, taskShown, stepShown, updateShown, predictShown, shown}
-use Rattle.direct.specs.Direct.{Told, Lookup, Held, fixed, lostHeld, Worked, idle, orUnanswered, stepWorked, updateWorked, predictWorked, worked, Waiting, aFix, aLoss, Direct, acted, applied, queued, settled, cleared, turned, directExec}
+use Rattle.direct.specs.Direct.{Told, Lookup, Held, fixed, lostHeld, Worked, idle, orUnanswered, stepWorked, updateWorked, predictWorked, worked, Waiting, aFix, aLoss, Direct, acted, applied, queued, settled, cleared, turned, packAfter, directExec}
 use Rattle.direct.specs.Claims.{isFetching, toldOf, madeOf, Answers, Fair}
 use Rattle.direct.proofs.Ways as Ways
 use Rattle.direct.proofs.Ways.{Same, Steps, step-is, isFetch, Lends, lends-is}
 use Rattle.direct.proofs.Beside.{same-self, same-then, Beside, steps-beside, deliver-left}
-use Rattle.direct.proofs.Fit.{Fit}
+use Rattle.direct.proofs.Fit.{SharedFits, Reaches, shared-after, reach-after}
 use Rattle.direct.proofs.Agreed.{look-agrees}
 use Rattle.direct.proofs.Seen.{toldBy, Agrees, idle-worked, steps-agree}
 
-pub record Linked (d : Direct) (e : Engine) : Type 0 where
-  pub sight : applied (d .waiting) (d .held) .sight ≡ e .follower .sight
-  pub matcher : applied (d .waiting) (d .held) .matcher ≡ e .follower .matcher
-  pub none : isFetching e ≡ false → d .waiting ≡ []
+-- of one follower; `fetching`: whether the shared fetch is open
+pub record Linked (d : Direct) (fetching : Bool) (f : Follower) : Type 0 where
+  pub sight : applied (d .waiting) (d .held) .sight ≡ f .sight
+  pub matcher : applied (d .waiting) (d .held) .matcher ≡ f .matcher
+  pub none : fetching ≡ false → d .waiting ≡ []
 
 -- ---- what waits
 
 -- once no fetch is open nothing waits
-settles : (d : Direct) (e : Engine) → applied (d .waiting) (d .held) .sight ≡ e .follower .sight
-    → applied (d .waiting) (d .held) .matcher ≡ e .follower .matcher
-    → Linked (settled (isFetching e) d) e
+settles : (d : Direct) (fetching : Bool) (f : Follower) → applied (d .waiting) (d .held) .sight ≡ f .sight
+    → applied (d .waiting) (d .held) .matcher ≡ f .matcher → Linked (settled fetching d) fetching f
 unfolding applied
-settles d e s m = by (isFetching e) refl
-  where
-    by : (t : Bool) → isFetching e ≡ t → Linked (settled t d) e
-    by true q = record { sight = s; matcher = m; none = λ r. absurd (true≢false (sym q ∙ r)) }
-    by false q = record { sight = s; matcher = m; none = λ r. refl }
+settles d true f s m = record { sight = s; matcher = m; none = λ r. absurd (true≢false r) }
+settles d false f s m = record { sight = s; matcher = m; none = λ r. refl }
+
+-- a call that is another follower's: told that it finished nothing here, and whether a fetch is open after it
+pub others-linked : (d : Direct) (before after : Bool) (f : Follower) → Linked d before f → Linked (settled after d) after f
+others-linked d before after f l = settles d after f (l .sight) (l .matcher)
 
 applied-more : (xs : List Waiting) (x : Waiting) (d : Held) → applied (xs ++ (x ∷ [])) d ≡ acted x (applied xs d)
 unfolding applied
@@ -120,14 +122,13 @@ pub lost-follows : (d : Held) (g : Follower) → d .sight ≡ g .sight → Follo
 unfolding Followers.lost
 lost-follows d g s = record { sight = ap Fixes.lost s; matcher = refl }
 
--- what a fix or a loss leaves: refused, or taken by the engine and by the direct one
-received-linked : (d : Direct) (e : Engine) (x : Waiting) (g : Follower) (t : Bool) → Linked d e → Follows (acted x (applied (d .waiting) (d .held))) g
-    → let n : Engine = cond t e (record { shared = e .shared; follower = g }) in Linked (settled (isFetching n) (cond t d (queued d x))) n
-received-linked d e x g true l f = settles d e (l .sight) (l .matcher)
-received-linked d e x g false l f =
-    settles (queued d x) (record { shared = e .shared; follower = g })
-    (ap (λ (y : Held). y .sight) (applied-more (d .waiting) x (d .held)) ∙ f .sight)
-    (ap (λ (y : Held). y .matcher) (applied-more (d .waiting) x (d .held)) ∙ f .matcher)
+-- what a fix or a loss that was taken leaves
+received-linked : (d : Direct) (fetching : Bool) (f : Follower) (x : Waiting) (g : Follower) → Linked d fetching f
+    → Follows (acted x (applied (d .waiting) (d .held))) g → Linked (settled fetching (queued d x)) fetching g
+received-linked d fetching f x g l follows =
+    settles (queued d x) fetching g
+    (ap (λ (y : Held). y .sight) (applied-more (d .waiting) x (d .held)) ∙ follows .sight)
+    (ap (λ (y : Held). y .matcher) (applied-more (d .waiting) x (d .held)) ∙ follows .matcher)
 
 -- ---- a step that works at nothing
 
@@ -250,13 +251,13 @@ only-twelve at m h p heading k = let r = Gather.runOver at m h p heading in by (
 
 -- ---- a call, and the direct engine's turn
 
-module _ (at : Lookup) (n : ℕ) (horizon : Float) (P : List ℕ) (w : World) (d : Direct) (l : Linked d (w .engine)) where
+module _ (at : Lookup) (n : ℕ) (horizon : Float) (P : List ℕ) (w : World) (d : Direct) (l : Linked d (isFetching (w .engine)) (w .engine .follower)) where
   abbrev e₁ : Engine
   e₁ = w .engine
 
   pub record Alike (c : Call) : Type 0 where
     pub shown : directExec at (madeOf n horizon) P c (toldOf w c) d .shown ≡ shown w c
-    pub linked : Linked (directExec at (madeOf n horizon) P c (toldOf w c) d .direct) (exec c w .world .engine)
+    pub linked : Linked (directExec at (madeOf n horizon) P c (toldOf w c) d .direct) (isFetching (exec c w .world .engine)) (exec c w .world .engine .follower)
 
   fix-alike : (f : Fix) → Alike (Calls.fix f)
   unfolding directExec exec shown Engines.fix
@@ -269,10 +270,11 @@ module _ (at : Lookup) (n : ℕ) (horizon : Float) (P : List ℕ) (w : World) (d
       follows = fixed-follows (applied (d .waiting) (d .held)) (e₁ .follower) f (l .sight) (l .matcher)
 
       linked : (s t : Bool)
-          → Linked (settled (isFetching (left s t .engine)) (cond (not (eqb (numberOfTaken (left s t .answer)) 0)) d (queued d (aFix f)))) (left s t .engine)
-      linked true true = received-linked d e₁ (aFix f) (Followers.fixed (e₁ .follower) f) false l follows
-      linked true false = settles d e₁ (l .sight) (l .matcher)
-      linked false t = settles d e₁ (l .sight) (l .matcher)
+          → Linked (settled (isFetching (left s t .engine)) (cond (not (eqb (numberOfTaken (left s t .answer)) 0)) d (queued d (aFix f))))
+          (isFetching (left s t .engine)) (left s t .engine .follower)
+      linked true true = received-linked d (isFetching e₁) (e₁ .follower) (aFix f) (Followers.fixed (e₁ .follower) f) l follows
+      linked true false = others-linked d _ (isFetching e₁) (e₁ .follower) l
+      linked false t = others-linked d _ (isFetching e₁) (e₁ .follower) l
 
   lost-alike : Alike Calls.lost
   unfolding directExec exec shown Engines.lost
@@ -281,9 +283,12 @@ module _ (at : Lookup) (n : ℕ) (horizon : Float) (P : List ℕ) (w : World) (d
       left : Bool → Changed
       left t = cond t (followed e₁ (Followers.lost (e₁ .follower))) (unchanged e₁ 12)
 
-      linked : (t : Bool) → Linked (settled (isFetching (left t .engine)) (cond (not (eqb (numberOfTaken (left t .answer)) 0)) d (queued d aLoss))) (left t .engine)
-      linked true = received-linked d e₁ aLoss (Followers.lost (e₁ .follower)) false l (lost-follows (applied (d .waiting) (d .held)) (e₁ .follower) (l .sight))
-      linked false = settles d e₁ (l .sight) (l .matcher)
+      linked : (t : Bool) → Linked (settled (isFetching (left t .engine)) (cond (not (eqb (numberOfTaken (left t .answer)) 0)) d (queued d aLoss)))
+          (isFetching (left t .engine)) (left t .engine .follower)
+      linked true =
+          received-linked d (isFetching e₁) (e₁ .follower) aLoss (Followers.lost (e₁ .follower)) l
+          (lost-follows (applied (d .waiting) (d .held)) (e₁ .follower) (l .sight))
+      linked false = others-linked d _ (isFetching e₁) (e₁ .follower) l
 
   reset-alike : (Q : List ℕ) → Alike (Calls.reset Q)
   unfolding directExec exec shown Engines.reset forgotten Followers.reset applied
@@ -295,13 +300,13 @@ module _ (at : Lookup) (n : ℕ) (horizon : Float) (P : List ℕ) (w : World) (d
       told : Bool → Told
       told t = record { refused = not (eqb (numberOfTaken (left t .answer)) 0); fetching = isFetching (left t .engine); match = false; road = false }
 
-      linked : (t : Bool) → Linked (cleared (told t) d .direct) (left t .engine)
+      linked : (t : Bool) → Linked (cleared (told t) d .direct) (isFetching (left t .engine)) (left t .engine .follower)
       linked true = record { sight = l .sight; matcher = refl; none = λ r. refl }
-      linked false = settles d e₁ (l .sight) (l .matcher)
+      linked false = others-linked d _ (isFetching e₁) (e₁ .follower) l
 
   -- a call that shows nothing, and leaves what is seen and matched
-  quiet : (m : Engine) → Same (e₁ .follower) (m .follower) → Linked (settled (isFetching m) d) m
-  quiet m s = settles d m (l .sight ∙ sym (s .sight)) (l .matcher ∙ sym (s .matcher))
+  quiet : (m : Engine) → Same (e₁ .follower) (m .follower) → Linked (settled (isFetching m) d) (isFetching m) (m .follower)
+  quiet m s = settles d (isFetching m) (m .follower) (l .sight ∙ sym (s .sight)) (l .matcher ∙ sym (s .matcher))
 
   -- ---- a step
 
@@ -310,19 +315,20 @@ module _ (at : Lookup) (n : ℕ) (horizon : Float) (P : List ℕ) (w : World) (d
     pub shown : (refused : Bool) → turned (toldBy refused (isFetching m) s) d
         (stepWorked at (madeOf n horizon) P (toldBy refused (isFetching m) s) (d .held)) .shown ≡ s
     pub linked : (refused : Bool)
-        → Linked (turned (toldBy refused (isFetching m) s) d (stepWorked at (madeOf n horizon) P (toldBy refused (isFetching m) s) (d .held)) .direct) m
+        → Linked (turned (toldBy refused (isFetching m) s) d (stepWorked at (madeOf n horizon) P (toldBy refused (isFetching m) s) (d .held)) .direct)
+        (isFetching m) (m .follower)
 
   nothing-turn : (m : Engine) → Same (e₁ .follower) (m .follower) → StepTurn nothing m
   nothing-turn m s = record {
     shown = λ refused. ap (λ (x : Worked). x .shown) (idle-worked at n horizon P (toldBy refused (isFetching m) nothing) (d .held) refl refl);
-    linked = λ refused. subst (λ (x : Worked). Linked (turned (toldBy refused (isFetching m) nothing) d x .direct) m)
+    linked = λ refused. subst (λ (x : Worked). Linked (turned (toldBy refused (isFetching m) nothing) d x .direct) (isFetching m) (m .follower))
         (sym (idle-worked at n horizon P (toldBy refused (isFetching m) nothing) (d .held) refl refl)) (quiet m s);
   }
 
   quiet-turn : (s : Shown) (m : Engine) → s ≡ nothing → Same (e₁ .follower) (m .follower) → StepTurn s m
   quiet-turn s m q f = subst (λ (x : Shown). StepTurn x m) (sym q) (nothing-turn m f)
 
-  module _ (fit : Fit P n horizon w) (answers : Answers n at) where
+  module _ (fits : SharedFits P n (e₁ .shared) (w .arena)) (asMade : Reaches horizon (e₁ .follower)) (answers : Answers n at) where
     -- where it works at something, nothing waits
     module _ (b : Busy e₁) where
       waits-none : d .waiting ≡ []
@@ -337,25 +343,25 @@ module _ (at : Lookup) (n : ℕ) (horizon : Float) (P : List ℕ) (w : World) (d
       matcher-is = sym (ap (λ (xs : List Waiting). applied xs (d .held) .matcher) waits-none) ∙ l .matcher
 
       parsed : Parsed P (e₁ .shared .header)
-      parsed = rw (b .ready) at (fit .header)
+      parsed = rw (b .ready) at (fits .header)
 
       busy-turn : (x : Task) (s : Stepped) → Steps e₁ (w .arena) x s → Beside e₁ (s .engine) → StepTurn (taskShown x e₁ (w .arena) (s .engine)) (s .engine)
       unfolding applied
       busy-turn x s goes beside = record {
         shown = λ refused. subst (λ (y : Held). stepWorked at (madeOf n horizon) P (told refused) y .shown ≡ taskShown x e₁ (w .arena)
             (s .engine)) here (agrees refused .shown);
-        linked = λ refused. settles _ (s .engine) (after-sight refused) (after-matcher refused);
+        linked = λ refused. settles _ (isFetching (s .engine)) (s .engine .follower) (after-sight refused) (after-matcher refused);
       }
         where
           told : Bool → Told
           told refused = toldBy refused (isFetching (s .engine)) (taskShown x e₁ (w .arena) (s .engine))
 
-          agrees : (refused : Bool) → Agrees at n horizon P e₁ (w .arena) (sym (parsed .header)) (fit .reach) (fit .cache .count)
-              (look-agrees P n (e₁ .shared .cache) (w .arena) (e₁ .shared .header) parsed (fit .cache) at answers) (d .held .last) refused (isFetching (s .engine))
+          agrees : (refused : Bool) → Agrees at n horizon P e₁ (w .arena) (sym (parsed .header)) asMade (fits .cache .count)
+              (look-agrees P n (e₁ .shared .cache) (w .arena) (e₁ .shared .header) parsed (fits .cache) at answers) (d .held .last) refused (isFetching (s .engine))
               (taskShown x e₁ (w .arena) (s .engine)) (s .engine .follower .matcher)
           agrees refused =
-              steps-agree at n horizon P e₁ (w .arena) (sym (parsed .header)) (fit .reach) (fit .cache .count)
-              (look-agrees P n (e₁ .shared .cache) (w .arena) (e₁ .shared .header) parsed (fit .cache) at answers) (d .held .last) refused
+              steps-agree at n horizon P e₁ (w .arena) (sym (parsed .header)) asMade (fits .cache .count)
+              (look-agrees P n (e₁ .shared .cache) (w .arena) (e₁ .shared .header) parsed (fits .cache) at answers) (d .held .last) refused
               (isFetching (s .engine)) goes
 
           here : heldOf (e₁ .follower) (d .held .last) ≡ d .held
@@ -421,7 +427,7 @@ module _ (at : Lookup) (n : ℕ) (horizon : Float) (P : List ℕ) (w : World) (d
 
         same : MatchRelied.isFinished (v .answer) ≡ true → Gather.updateOver (at P) m h p heading ≡ v
         same fin = update-agrees (look (e₁ .shared .cache) (w .arena) (h .tile)) (at P)
-            (look-agrees P n (e₁ .shared .cache) (w .arena) h parsed (fit .cache) at answers) m h p heading fin
+            (look-agrees P n (e₁ .shared .cache) (w .arena) h parsed (fits .cache) at answers) m h p heading fin
 
         -- worked out, once 8 was tested
         works : Shown
@@ -455,9 +461,9 @@ module _ (at : Lookup) (n : ℕ) (horizon : Float) (P : List ℕ) (w : World) (d
 
         same : RoadRelied.isFinished (v .answer) ≡ true → Predict.predictOver (at P) n h m reach samples behind ≡ v
         same fin =
-            ap (λ (k : ℕ). Predict.predictOver (at P) k h m reach samples behind) (sym (fit .cache .count))
+            ap (λ (k : ℕ). Predict.predictOver (at P) k h m reach samples behind) (sym (fits .cache .count))
             ∙ predict-agrees (look (e₁ .shared .cache) (w .arena) (h .tile)) (at P)
-            (look-agrees P n (e₁ .shared .cache) (w .arena) h parsed (fit .cache) at answers) (e₁ .shared .cache .pages .count) h m reach samples behind fin
+            (look-agrees P n (e₁ .shared .cache) (w .arena) h parsed (fits .cache) at answers) (e₁ .shared .cache .pages .count) h m reach samples behind fin
 
         -- worked out, once 9 was tested
         works : Shown
@@ -500,13 +506,34 @@ module _ (at : Lookup) (n : ℕ) (horizon : Float) (P : List ℕ) (w : World) (d
     turn-alike (Calls.reset Q) fair = reset-alike Q
     turn-alike Calls.step fair = step-alike
     turn-alike (Calls.deliver failure bs) fair =
-        record { shown = refl; linked = quiet _ (deliver-left e₁ failure bs (w .arena) .follower) }
+        record { shown = refl; linked = quiet (exec (Calls.deliver failure bs) w .world .engine) (deliver-left e₁ failure bs (w .arena) .follower) }
     turn-alike (Calls.stepFrom Q) fair = lent-alike Q
     turn-alike (Calls.read r) fair = record { shown = refl; linked = quiet e₁ (same-self (e₁ .follower)) }
-    turn-alike (Calls.onCache c) fair = record { shown = refl; linked = quiet _ (same-self (e₁ .follower)) }
+    turn-alike (Calls.onCache c) fair = record { shown = refl; linked = quiet (exec (Calls.onCache c) w .world .engine) (same-self (e₁ .follower)) }
     turn-alike (Calls.nearby h p) fair = record { shown = refl; linked = quiet e₁ (same-self (e₁ .follower)) }
     turn-alike (Calls.current m) fair = record { shown = refl; linked = quiet e₁ (same-self (e₁ .follower)) }
     turn-alike (Calls.update m h p heading) fair =
-        record { shown = update-shows m h p heading fair; linked = quiet _ (same-self (e₁ .follower)) }
+        record { shown = update-shows m h p heading fair; linked = quiet (exec (Calls.update m h p heading) w .world .engine) (same-self (e₁ .follower)) }
     turn-alike (Calls.predict h m reach samples behind) fair =
-        record { shown = predict-shows h m reach samples behind fair; linked = quiet _ (same-self (e₁ .follower)) }
+        record {
+          shown = predict-shows h m reach samples behind fair;
+          linked = quiet (exec (Calls.predict h m reach samples behind) w .world .engine) (same-self (e₁ .follower));
+        }
+
+    -- ---- the whole turn of one follower
+
+    -- what it shows, and its link; what is shared, and its horizon; and the link of any other follower over what is shared
+    pub record Turn (c : Call) : Type 0 where
+      pub alike : Alike c
+      pub shared : SharedFits (packAfter P c (toldOf w c)) n (exec c w .world .engine .shared) (exec c w .world .arena)
+      pub reach : Reaches horizon (exec c w .world .engine .follower)
+      pub others : (x : Direct) (g : Follower) → Linked x (isFetching e₁) g
+          → Linked (settled (isFetching (exec c w .world .engine)) x) (isFetching (exec c w .world .engine)) g
+
+    pub turn : (c : Call) → Fair P w c → Turn c
+    turn c fair = record {
+      alike = turn-alike c fair;
+      shared = shared-after P n w c fits fair;
+      reach = reach-after horizon w c asMade;
+      others = λ x g. others-linked x (isFetching e₁) (isFetching (exec c w .world .engine)) g;
+    }

@@ -194,13 +194,13 @@ module _ (P : List ℕ) (n : ℕ) (horizon : Float) (w : World) (s : Stays P n h
 
   module _ (is-ready : e₁ .shared .phase ≡ Phase.Ready) where
     parsed : Parsed P h₁
-    parsed = rw is-ready at (s .fit .header)
+    parsed = rw is-ready at (s .fit .shared .header)
 
     fresh-look : (key : TileKey) → look c₁ (w .arena) (h₁ .tile) key ≡ stale → ⊥
-    fresh-look = not-stale P h₁ n c₁ (w .arena) (given P n parsed (s .fit .cache)) (parsed-rules P n parsed) (s .long)
+    fresh-look = not-stale P h₁ n c₁ (w .arena) (given P n parsed (s .fit .shared .cache)) (parsed-rules P n parsed) (s .long)
 
     agrees : Agree (look c₁ (w .arena) (h₁ .tile)) (directly n P)
-    agrees = look-agrees P n c₁ (w .arena) h₁ parsed (s .fit .cache) (directly n) (λ Q key z. refl)
+    agrees = look-agrees P n c₁ (w .arena) h₁ parsed (s .fit .shared .cache) (directly n) (λ Q key z. refl)
 
     -- a match found at the cache's look lies in a tile of the pack
     found-direct : (f : Matched) → FoundIn (look c₁ (w .arena) (h₁ .tile)) h₁ f → FoundIn (directly n P) (headerOf P) f
@@ -301,7 +301,7 @@ module _ (P : List ℕ) (n : ℕ) (horizon : Float) (w : World) (s : Stays P n h
   steps-number (Ways.opens p offset len o f r) z = omega arith
   steps-number (Ways.spoils key i r q p) z =
       let at : readyAt (c₁ .pages) key ≡ Found.At i = rw q at (next-is c₁ key) in
-      let passed = kept-passes P h₁ n key c₁ (w .arena) (given P n (parsed r) (s .fit .cache)) (parsed-rules P n (parsed r)) (s .long) i at in
+      let passed = kept-passes P h₁ n key c₁ (w .arena) (given P n (parsed r) (s .fit .shared .cache)) (parsed-rules P n (parsed r)) (s .long) i at in
       true≢false (sym passed ∙ p)
   steps-number (Ways.arrives key k r q f) z = omega arith
   steps-number (Ways.rests f q d idle) z = omega arith

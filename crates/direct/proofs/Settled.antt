@@ -159,7 +159,7 @@ module _ (P : List ℕ) (n : ℕ) (horizon : Float) (w : World) (fit : Fit P n h
       let s = w .engine .shared in
       let parts : Ok s (w .engine .follower) (length (w .arena)) = apart (w .engine) (length (w .arena)) ok in
       let both : (arenaOk (s .cache) (length (w .arena)) && headerOk s) ≡ true = and-right (stateOk (s .cache)) _ (parts .shared) in
-      rw (fit .cache .count) at (leb-true (s .cache .pages .count * 8192) (length (w .arena)) (and-left _ (headerOk s) both))
+      rw (fit .shared .cache .count) at (leb-true (s .cache .pages .count * 8192) (length (w .arena)) (and-left _ (headerOk s) both))
 
   never-again : isAgain (stepShown (w .engine) (w .arena)) ≡ false
   unfolding stepShown
@@ -192,7 +192,7 @@ module _ (at : Lookup) (n : ℕ) (horizon : Float) (answers : Answers n at) wher
     h₁ = headerOf P
 
     header-is : e₁ .shared .phase ≡ Phase.Ready → e₁ .shared .header ≡ h₁
-    header-is r = let q = rw r at (fit .header) in sym (q .header)
+    header-is r = let q = rw r at (fit .shared .header) in sym (q .header)
 
     beside : Beside e₁ n₁
     beside = step-beside e₁ (w .arena)
@@ -218,7 +218,7 @@ module _ (at : Lookup) (n : ℕ) (horizon : Float) (answers : Answers n at) wher
         let d : Direct = record { held = p .held; waiting = [] } in
         let r : Recalls at n horizon answers (retold at made (eventsOf s₁) (record { pack = P; held = p .held })) P (record { engine = n₁; arena = w .arena })
         = turn-recalls at n horizon answers P w (p .held) fit f s₁ n₁ (w .arena)
-        (step-turn at n horizon P w d (linked at n horizon answers P w (p .held) fit f) fit answers) in
+        (step-turn at n horizon P w d (linked at n horizon answers P w (p .held) fit f) (fit .shared) (fit .reach) answers) in
         let past : p ≡ record { pack = P; held = p .held } = λ i. record { pack = t .pack i; held = p .held } in
         let same : told (eventsOf s₁) p ≡ retold at made (eventsOf s₁) (record { pack = P; held = p .held })
         = told-same at made s₁ z (never-again P n horizon w fit able) p ∙ ap (retold at made (eventsOf s₁)) past in
@@ -425,7 +425,7 @@ module _ (at : Lookup) (n : ℕ) (horizon : Float) (answers : Answers n at) wher
       stepWorked at (madeOf n horizon) P (toldBy false (isFetching (Engines.step (w .engine) (w .arena) .engine)) s) (seenBy w) .shown ≡ s
   shown-by P w fit =
       step-turn at n horizon P w (record { held = seenBy w; waiting = [] })
-      (linked at n horizon answers P w (seenBy w) fit (record { sight = refl; matcher = refl })) fit answers .shown false
+      (linked at n horizon answers P w (seenBy w) fit (record { sight = refl; matcher = refl })) (fit .shared) (fit .reach) answers .shown false
 
   -- neither a match nor a road
   neither : (P : List ℕ) (w : World) → Fit P n horizon w → isMatch (stepShown (w .engine) (w .arena)) ≡ false → isRoad (stepShown (w .engine) (w .arena)) ≡ false

@@ -190,7 +190,7 @@ module _ (at : Lookup) (n : ℕ) (horizon : Float) (answers : Answers n at) wher
     abbrev d₁ : Direct
     d₁ = record { held = h; waiting = [] }
 
-    pub linked : Linked d₁ e₁
+    pub linked : Linked d₁ (isFetching e₁) (e₁ .follower)
     unfolding applied
     linked = record { sight = follows .sight; matcher = follows .matcher; none = λ r. refl }
 
@@ -206,7 +206,7 @@ module _ (at : Lookup) (n : ℕ) (horizon : Float) (answers : Answers n at) wher
         let f : Follows (stepWorked at (madeOf n horizon) P (toldBy false (isFetching m) s) h .held) (m .follower) = holds (isFetching m) _ (t .linked false) in
         record { pack = r .pack; held = record { sight = r .sight ∙ f .sight; matcher = r .matcher ∙ f .matcher } }
       where
-        holds : (fetching : Bool) (x : Held) → Linked (settled fetching (record { held = x; waiting = [] })) m → Follows x (m .follower)
+        holds : (fetching : Bool) (x : Held) → Linked (settled fetching (record { held = x; waiting = [] })) (isFetching m) (m .follower) → Follows x (m .follower)
         holds true x l = record { sight = l .sight; matcher = l .matcher }
         holds false x l = record { sight = l .sight; matcher = l .matcher }
 
@@ -257,9 +257,9 @@ module _ (at : Lookup) (n : ℕ) (horizon : Float) (answers : Answers n at) wher
     call-recalls (Calls.fix f) = fix-recalls f
     call-recalls Calls.lost = lost-recalls
     call-recalls (Calls.reset Q) = reset-recalls Q
-    call-recalls Calls.step = turn-recalls _ _ (w .arena) (step-turn at n horizon P w d₁ linked fit answers)
+    call-recalls Calls.step = turn-recalls _ _ (w .arena) (step-turn at n horizon P w d₁ linked (fit .shared) (fit .reach) answers)
     call-recalls (Calls.deliver failure bs) = same-recalls _ _ (deliver-left e₁ failure bs (w .arena) .follower)
-    call-recalls (Calls.stepFrom Q) = turn-recalls _ _ _ (lent-turn at n horizon P w d₁ linked fit answers Q (lends-is e₁ (w .arena) Q))
+    call-recalls (Calls.stepFrom Q) = turn-recalls _ _ _ (lent-turn at n horizon P w d₁ linked (fit .shared) (fit .reach) answers Q (lends-is e₁ (w .arena) Q))
     call-recalls (Calls.read r) = record { pack = refl; held = follows }
     call-recalls (Calls.onCache c) = record { pack = refl; held = follows }
     call-recalls (Calls.nearby x p) = record { pack = refl; held = follows }
@@ -355,9 +355,9 @@ module _ (at : Lookup) (n : ℕ) (horizon : Float) (answers : Answers n at) wher
       let x : Told = toldBy false (isFetching (Engines.step (v .engine) (v .arena) .engine)) s in
       let y : Told = toldBy false (isFetching (Engines.step (w .engine) (w .arena) .engine)) t in
       let one : stepWorked at (madeOf n horizon) P x h .shown ≡ s
-      = step-turn at n horizon P v (record { held = h; waiting = [] }) (linked at n horizon answers P v h f a) f answers .shown false in
+      = step-turn at n horizon P v (record { held = h; waiting = [] }) (linked at n horizon answers P v h f a) (f .shared) (f .reach) answers .shown false in
       let two : stepWorked at (madeOf n horizon) P y h .shown ≡ t
-      = step-turn at n horizon P w (record { held = h; waiting = [] }) (linked at n horizon answers P w h g b) g answers .shown false in
+      = step-turn at n horizon P w (record { held = h; waiting = [] }) (linked at n horizon answers P w h g b) (g .shared) (g .reach) answers .shown false in
       record {
         matches = λ p q. sym (ap matcherOf two) ∙ match-told at (madeOf n horizon) P h x y p q ∙ ap matcherOf one;
         all = λ p q. sym two ∙ ap (λ (z : Worked). z .shown) (same-told at (madeOf n horizon) P h x y p q) ∙ one;
@@ -372,7 +372,7 @@ module _ (at : Lookup) (n : ℕ) (horizon : Float) (answers : Answers n at) wher
       → directExec at (madeOf n horizon) P c (toldOf w c) (record { held = seenBy w; waiting = [] }) .shown ≡ shown w c
   alike P w f c fair =
       turn-alike at n horizon P w (record { held = seenBy w; waiting = [] })
-      (linked at n horizon answers P w (seenBy w) f (record { sight = refl; matcher = refl })) f answers c fair .shown
+      (linked at n horizon answers P w (seenBy w) f (record { sight = refl; matcher = refl })) (f .shared) (f .reach) answers c fair .shown
 
   -- a call, where a step finishes equally
   pub calls-same : (P : List ℕ) (v w : World) → Fit P n horizon v → Fit P n horizon w
