@@ -70,8 +70,8 @@ use Rattle.direct.specs.Lists.{World, Call, withCache, cacheOf, numberOf
 use Rattle.direct.specs.Finished.{Shown, taskShown, taskOf, stepShown, updateShown, predictShown, shown}
 use Rattle.direct.specs.Direct.{headerOf, packAfter}
 use Rattle.direct.specs.Claims.{toldOf, Fair, AllFair, Blamed, Open}
-use Rattle.direct.proofs.Ways as Ways
-use Rattle.direct.proofs.Ways.{Delivers, brought, Lends, entry-is, step-is, deliver-is, lends-is}
+use Rattle.engine_states.proofs.Ways as Ways
+use Rattle.engine_states.proofs.Ways.{Delivers, brought, Lends, entry-is, step-is, deliver-is, lends-is}
 use Rattle.direct.proofs.Changes.{update-keeps, predict-keeps}
 use Rattle.direct.proofs.Safe.{written-after}
 use Rattle.direct.proofs.Beside.{deliver-left}

@@ -40,8 +40,8 @@ use Rattle.engine.specs.declared.Status.the-variants as Status
 use Rattle.engine.specs.declared.Stepped.{Stepped}
 use Rattle.direct.specs.Finished.{Task, matchOf, roadAt}
 use Rattle.direct.specs.Claims.{openRead}
-use Rattle.direct.proofs.Ways as Ways
-use Rattle.direct.proofs.Ways.{Same, Rests, Steps, brought, Delivers, step-is, deliver-is}
+use Rattle.engine_states.proofs.Ways as Ways
+use Rattle.engine_states.proofs.Ways.{Same, Rests, Steps, brought, Delivers, step-is, deliver-is}
 
 -- ---- followers
 

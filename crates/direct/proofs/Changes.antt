@@ -54,8 +54,8 @@ use Rattle.engine.specs.declared.Engine.{Engine}
 use Rattle.engine.specs.declared.Stepped.{Stepped}
 use Rattle.direct.specs.Lists.{numberOfStatus}
 use Rattle.direct.specs.Finished.{Task, matchOf, roadAt}
-use Rattle.direct.proofs.Ways as Ways
-use Rattle.direct.proofs.Ways.{Steps, Delivers, Brings, brought, step-is, deliver-is}
+use Rattle.engine_states.proofs.Ways as Ways
+use Rattle.engine_states.proofs.Ways.{Steps, Delivers, Brings, brought, step-is, deliver-is}
 
 module _ (Q : Cache → List ℕ → Type 0) (touches : (c : Cache) (arena : List ℕ) (i : ℕ) → Q c arena → Q (touched c i) arena) where
   -- ---- lookups

@@ -62,8 +62,8 @@ use Rattle.direct.specs.Finished.{Shown, Road, Task, taskOf, matchOf, ro
 use Rattle.direct.specs.Direct.{headerOf, forgotten, noRoad}
 use Rattle.direct.specs.Story.{after}
 use Rattle.direct.specs.Settled.{AllCleared, isSettled, Settles, isResting}
-use Rattle.direct.proofs.Ways as Ways
-use Rattle.direct.proofs.Ways.{Same, Rests, OffGrid, Works, Steps, step-is, Lends, lends-is}
+use Rattle.engine_states.proofs.Ways as Ways
+use Rattle.engine_states.proofs.Ways.{Same, Rests, OffGrid, Works, Steps, step-is, Lends, lends-is}
 use Rattle.direct.proofs.Beside.{steps-beside, deliver-left}
 use Rattle.direct.proofs.Opened.{isAgain}
 

@@ -43,13 +43,14 @@ use Rattle.engine.specs.declared.Phase.{Phase}
 use Rattle.engine.specs.declared.Phase.the-variants as Phase
 use Rattle.engine.specs.declared.Shared.{Shared}
 use Rattle.engine.specs.declared.Status.{Status}
+use Rattle.engine.specs.declared.Status.the-variants as Status
 use Rattle.engine.specs.declared.Stepped.{Stepped}
 use Rattle.engine_states.proofs.RefusedSame.{step-open}
 use Rattle.direct.specs.Lists.{World, Call, fix, lost, reset, step, deliver, stepFrom, read, onCache, nearby, current, update, predict, cacheOf, numberOfTaken, numberOfStatus, exec, start}
 use Rattle.direct.specs.Direct.{headerOf, packAfter}
 use Rattle.direct.specs.Claims.{toldOf, openRead, FairBytes, FairLent, Fair}
-use Rattle.direct.proofs.Ways as Ways
-use Rattle.direct.proofs.Ways.{Brings, brought, Lends, lends-is}
+use Rattle.engine_states.proofs.Ways as Ways
+use Rattle.engine_states.proofs.Ways.{Brings, brought, Yields, Lends, lends-is}
 use Rattle.direct.proofs.Changes.{step-keeps, deliver-keeps, update-keeps, predict-keeps}
 use Rattle.direct.proofs.Safe.{inv-pending}
 use Rattle.direct.proofs.Beside as Sides
@@ -192,13 +193,19 @@ module _ (P : List ℕ) (n : ℕ) where
       header = heads-fit e arena failure bs (f .cache) (f .header) fair (deliver-left e failure bs arena .heads) refl;
     }
 
+  -- what a lent pack yields is the pack's where the lent one is
+  yields-fair : (offset len : ℕ) (Q : List ℕ) {failure : ℕ} {bs : List ℕ} → Yields Q offset len failure bs → FairLent P (Status.Fetch offset len) Q → failure ≡ 0
+      → FairBytes P (Status.Fetch offset len) bs
+  yields-fair offset len Q (Ways.bytes there) fair z = λ size. fair there
+  yields-fair offset len Q Ways.past fair z = absurd (omega arith)
+
   -- the lent-pack form
   shared-lent : (e : Engine) (arena Q : List ℕ) {r : After} → Lends e arena Q r → FairLent P (Engines.step e arena .answer) Q
       → SharedFits P n (e .shared) arena → SharedFits P n (r .engine .shared) (r .arena)
   shared-lent e arena Q (Ways.plain t) fair f = shared-stepped e arena f
-  shared-lent e arena Q (Ways.asks offset len failure bs a bytes) fair f =
+  shared-lent e arena Q (Ways.asks offset len failure bs a yields) fair f =
       shared-delivered (Engines.step e arena .engine) arena (shared-stepped e arena f) failure bs
-      (λ z y. rw (step-open e arena a) (bytes P (rw a at fair) y))
+      (λ z y. rw (step-open e arena a) (yields-fair offset len Q yields (rw a at fair) y))
 
   -- ---- fixes leave it
 
@@ -273,7 +280,7 @@ module _ (horizon : Float) where
 
   lent-reach : (e : Engine) (arena Q : List ℕ) {a : After} → Lends e arena Q a → Reaches horizon (e .follower) → Reaches horizon (a .engine .follower)
   lent-reach e arena Q (Ways.plain t) r = step-reach e arena r
-  lent-reach e arena Q (Ways.asks offset len failure bs a bytes) r =
+  lent-reach e arena Q (Ways.asks offset len failure bs a yields) r =
       deliver-left (Engines.step e arena .engine) failure bs arena .follower .horizon ∙ step-reach e arena r
 
   pub reach-after : (w : World) (c : Call) → Reaches horizon (w .engine .follower) → Reaches horizon (exec c w .world .engine .follower)

@@ -51,8 +51,8 @@ use Rattle.direct.specs.Direct.{Made, Told, Lookup, headerOf, directly, 
 use Rattle.direct.specs.Claims.{isFetching, toldOf, tolds, Fair, AllFair, madeOf, Answers}
 use Rattle.direct.specs.Story.{after}
 use Rattle.direct.specs.Last.{directAfter, lastOf, taskRemembers, NoMemory, Tells, AllLast}
-use Rattle.direct.proofs.Ways as Ways
-use Rattle.direct.proofs.Ways.{Steps, Lends, step-is, lends-is}
+use Rattle.engine_states.proofs.Ways as Ways
+use Rattle.engine_states.proofs.Ways.{Steps, Lends, step-is, lends-is}
 use Rattle.direct.proofs.Beside.{match-asks, deliver-left}
 use Rattle.direct.proofs.Fit.{Fit, fit-after, fit-start}
 use Rattle.direct.proofs.Seen.{toldBy, made-current}

@@ -62,8 +62,8 @@ use Rattle.direct.specs.Lists.{World, Call, numberOfTaken, number, exec}
 use Rattle.direct.specs.Finished.{Shown, nothing, updated, predicted, isMatch, isRoad, Task, none, offMap, match, road, openTask, taskOf, matchOf, roadAt, taskShown, stepShown, updateShown, predictShown, shown}
 use Rattle.direct.specs.Direct.{Told, Lookup, Held, fixed, lostHeld, Worked, idle, orUnanswered, stepWorked, updateWorked, predictWorked, worked, Waiting, aFix, aLoss, Direct, acted, applied, queued, settled, cleared, turned, packAfter, directExec}
 use Rattle.direct.specs.Claims.{isFetching, toldOf, madeOf, Answers, Fair}
-use Rattle.direct.proofs.Ways as Ways
-use Rattle.direct.proofs.Ways.{Same, Steps, step-is, isFetch, Lends, lends-is}
+use Rattle.engine_states.proofs.Ways as Ways
+use Rattle.engine_states.proofs.Ways.{Same, Steps, step-is, isFetch, Lends, lends-is}
 use Rattle.direct.proofs.Beside.{same-self, same-then, Beside, steps-beside, deliver-left}
 use Rattle.direct.proofs.Fit.{SharedFits, Reaches, shared-after, reach-after}
 use Rattle.direct.proofs.Agreed.{look-agrees}

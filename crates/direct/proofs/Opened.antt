@@ -74,8 +74,8 @@ use Rattle.direct.specs.Finished as Shows
 use Rattle.direct.specs.Finished.{Shown, Task, matchOf, roadAt, matchShown, roadShown, taskShown}
 use Rattle.direct.specs.Direct.{headerOf, directly}
 use Rattle.direct.specs.Claims.{isOpen, openRead}
-use Rattle.direct.proofs.Ways as Ways
-use Rattle.direct.proofs.Ways.{open-fits, Steps}
+use Rattle.engine_states.proofs.Ways as Ways
+use Rattle.engine_states.proofs.Ways.{open-fits, Steps}
 use Rattle.direct.proofs.Beside.{match-asks, road-asks, match-holds}
 use Rattle.direct.proofs.Fit.{Fit}
 use Rattle.direct.proofs.Agreed.{look-agrees}

@@ -51,8 +51,8 @@ use Rattle.direct.specs.Finished.{roadOf, Road, Shown, Task, taskOf, mat
 use Rattle.direct.specs.Claims.{shows}
 use Rattle.direct.specs.Story.{after}
 use Rattle.direct.specs.Published.{FinishedRoad, FinishedMatch, AtLimit, Publishes, kept, finished, byLost, byReset, atLimit, lentAtLimit, AllPublished, Among, blank, memoryOf, Read, isBlank, wasFinished, isMemory, AllRead, AllReadDirect}
-use Rattle.direct.proofs.Ways as Ways
-use Rattle.direct.proofs.Ways.{Works, Steps, Lends, step-is, lends-is}
+use Rattle.engine_states.proofs.Ways as Ways
+use Rattle.engine_states.proofs.Ways.{Works, Steps, Lends, step-is, lends-is}
 use Rattle.direct.proofs.Beside.{deliver-left, match-asks, road-asks}
 use Rattle.direct.proofs.Seen.{made-current}
 use Rattle.direct.proofs.Linked.{Silent, fetch-silent}

@@ -37,8 +37,8 @@ use Rattle.engine_states.proofs.CacheKept.{ok-parts, pending-ok}
 use Rattle.direct.specs.Lists.{World, Call, fix, lost, reset, step, deliver, stepFrom, read, onCache, nearby, current, update, predict, delivered, cacheOf, numberOfStatus, number, exec, Along}
 use Rattle.direct.specs.Finished.{Task, none, offMap, match, road, taskOf}
 use Rattle.direct.specs.Claims.{openRead, taskHands, HandedOut, readsOf, lentReads, reads, SameFor, LentOnly, HasLen, TakesOnly, Safe}
-use Rattle.direct.proofs.Ways as Ways
-use Rattle.direct.proofs.Ways.{Delivers, brought, isFetch, Lends, deliver-is, lends-is}
+use Rattle.engine_states.proofs.Ways as Ways
+use Rattle.engine_states.proofs.Ways.{Delivers, brought, isFetch, Lends, deliver-is, lends-is}
 use Rattle.direct.proofs.Changes.{step-keeps, deliver-keeps, update-keeps, predict-keeps}
 use Rattle.direct.proofs.Found.{match-hands, road-hands}
 

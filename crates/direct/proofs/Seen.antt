@@ -56,8 +56,8 @@ use Rattle.direct.specs.Finished.{Shown, nothing, isMatch, isRoad, roadO
 use Rattle.direct.specs.Finished as Shows
 use Rattle.direct.specs.Direct.{Made, Told, Lookup, headerOf, Held, withMatcher, Worked, idle, matchWorked, roadWorked, emptyWorked, currentWorked, keyWorked, fixWorked, stepWorkedBy, stepWorked, matchHeld, roadHeld}
 use Rattle.direct.specs.Claims.{madeOf}
-use Rattle.direct.proofs.Ways as Ways
-use Rattle.direct.proofs.Ways.{OffGrid, Works, Steps}
+use Rattle.engine_states.proofs.Ways as Ways
+use Rattle.engine_states.proofs.Ways.{OffGrid, Works, Steps}
 use Rattle.direct.proofs.Beside.{match-asks, road-asks, match-holds}
 
 -- what is told of a call that shows s

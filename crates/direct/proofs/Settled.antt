@@ -49,8 +49,8 @@ use Rattle.direct.specs.Claims.{isFetching, toldOf, Fair, AllFair, madeO
 use Rattle.direct.specs.Story as Story
 use Rattle.direct.specs.Story.{Event, taken, eventsOf, events, story, after, SameFinish}
 use Rattle.direct.specs.Settled.{isSettled, Settles, AllRested, withoutCleared, AllSettled}
-use Rattle.direct.proofs.Ways as Ways
-use Rattle.direct.proofs.Ways.{Lends, lends-is}
+use Rattle.engine_states.proofs.Ways as Ways
+use Rattle.engine_states.proofs.Ways.{Lends, lends-is}
 use Rattle.direct.proofs.Safe.{written-after}
 use Rattle.direct.proofs.Beside.{Beside, step-beside, deliver-left}
 use Rattle.direct.proofs.Fit.{Fit, fit-after, fit-start}

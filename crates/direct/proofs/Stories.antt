@@ -38,7 +38,7 @@ use Rattle.direct.specs.Direct.{Made, Told, Lookup, headerOf, directly, 
 use Rattle.direct.specs.Claims.{isFetching, toldOf, Fair, AllFair, madeOf, Answers}
 use Rattle.direct.specs.Story as Story
 use Rattle.direct.specs.Story.{Event, taken, eventsOf, events, story, after, matcherOf, SameFinish, AllStories}
-use Rattle.direct.proofs.Ways.{Same, lends-is}
+use Rattle.engine_states.proofs.Ways.{Same, lends-is}
 use Rattle.direct.proofs.Beside.{deliver-left}
 use Rattle.direct.proofs.Fit.{Fit, fit-after, fit-start}
 use Rattle.direct.proofs.Seen.{toldBy}

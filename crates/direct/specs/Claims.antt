@@ -2,7 +2,7 @@
 -- and there are no others. `AllSafe` is claimed with none.
 use Prim.Native.Nat.{ℕ, _+_, _*_, _≤_}
 use mathlib.Core.Path.{_≡_}
-use mathlib.Core.Bool.{Bool, true, false, _&&_, not}
+use mathlib.Core.Bool.{Bool, false, _&&_, not}
 use mathlib.Core.List.{List, [], _∷_}
 use lib.Dec.{eqb}
 use lib.Ieee.{Float}
@@ -12,8 +12,6 @@ use Rattle.pack.specs.declared.Header.{Header}
 use Rattle.pack.specs.declared.TileKey.{TileKey}
 use Rattle.geo.specs.declared.Point.{Point}
 use Rattle.cache.specs.declared.Cache.{Cache}
-use Rattle.cache.specs.declared.Pending.{Pending}
-use Rattle.cache.specs.declared.Pending.the-variants as Pending
 use Rattle.cache.specs.declared.look.Landing.the-variants as Landing
 use Rattle.cache.specs.Direct.{Agree, look}
 use Rattle.cache.specs.Lookups.{landsOn, lenAt}
@@ -27,22 +25,16 @@ use Rattle.matcher.specs.State.{countsOk, keyOk}
 use Rattle.matcher.specs.declared.Matcher.{Matcher}
 use Rattle.predict.specs.Predict as Predict
 use Rattle.engine.specs.Fixes.{placeOf}
-use Rattle.engine.specs.Steps.{requestOf}
 use Rattle.engine.specs.Calls as Engines
 use Rattle.engine.specs.declared.Engine.{Engine}
 use Rattle.engine.specs.declared.Status.{Status}
 use Rattle.engine.specs.declared.Status.the-variants as Status
+pub use Rattle.engine_states.specs.Tasks.{isOpen, openRead}
 use Rattle.direct.specs.Lists.{World, Call, fix, lost, reset, step, deliver, stepFrom, read, onCache, nearby, current, update, predict, cacheOf, number, exec, start, Along}
 use Rattle.direct.specs.Finished.{Shown, again, isMatch, isRoad, shown, Task, none, offMap, match, road, taskOf}
 use Rattle.direct.specs.Direct.{Made, Told, Lookup, directly, newDirect, packAfter, directShows}
 
 -- ---- what the direct engine is told
-
-abbrev pub isOpen : Pending → Bool
-isOpen Pending.Nothing = false
-isOpen Pending.Header = true
-isOpen (Pending.Entry key) = true
-isOpen Pending.Chunk = true
 
 abbrev pub isFetching : Engine → Bool
 isFetching e = isOpen (e .shared .cache .pending)
@@ -85,10 +77,6 @@ FairLent P Status.Working Q = Unit
 FairLent P Status.NoPack Q = Unit
 FairLent P Status.OffMap Q = Unit
 FairLent P (Status.Refused n) Q = Unit
-
--- the read that an open fetch asks for, as a step repeats it
-abbrev pub openRead : Engine → Status
-openRead e = requestOf (e .shared) (e .shared .cache .pending)
 
 -- nothing is asked of a call that gives nothing, of a read that failed, nor of a delivery that is refused
 abbrev pub Fair : List ℕ → World → Call → Type 0

@@ -7,40 +7,24 @@ use mathlib.Core.Bool.{Bool, true, false, cond}
 use mathlib.Core.List.{List, []}
 use lib.Dec.{eqb}
 use lib.Ieee.{Float}
-use lib.IntN.{ℤ, pos}
-use lib.ListN.{length, take, replicate}
-use Rattle.pack.specs.Grid.{keyOf}
-use Rattle.pack.specs.declared.Keyed.{Keyed}
-use Rattle.pack.specs.declared.Keyed.the-variants as Keyed
-use Rattle.cache.specs.declared.MaybeKey.{MaybeKey}
-use Rattle.cache.specs.declared.MaybeKey.the-variants as MaybeKey
-use Rattle.cache.specs.declared.Pending.{Pending}
-use Rattle.cache.specs.declared.Pending.the-variants as Pending
+use lib.IntN.{ℤ}
+use lib.ListN.{length, take}
 use Rattle.matcher.specs.declared.Current.{Current}
-use Rattle.matcher.specs.declared.Current.the-variants as Current
-use Rattle.matcher.specs.declared.Matched.{Matched}
 use Rattle.matcher.specs.Calls as Matching
-use Rattle.matcher.specs.Gather as Gather
 use Rattle.matcher.specs.declared.Matcher.{Matcher}
 use Rattle.matcher.specs.declared.Outcome as MatchOutcome
 use Rattle.matcher.specs.declared.Outcome.the-variants as Match
-use Rattle.matcher.specs.declared.Updated.{Updated}
 use Rattle.predict.specs.declared.End.{End}
 use Rattle.predict.specs.Predict as Predict
 use Rattle.predict.specs.declared.Outcome as RoadOutcome
 use Rattle.predict.specs.declared.Outcome.the-variants as Roads
-use Rattle.engine.specs.Fixes.{placeOf}
 use Rattle.engine.specs.Follow.{isMatched}
 use Rattle.engine.specs.declared.Ahead.{Ahead}
-use Rattle.engine.specs.declared.Fix.{Fix}
-use Rattle.engine.specs.declared.Follower.{Follower}
-use Rattle.engine.specs.declared.MaybeFix.{MaybeFix}
-use Rattle.engine.specs.declared.MaybeFix.the-variants as MaybeFix
 use Rattle.engine.specs.State.{engineOk}
 use Rattle.engine.specs.Calls as Engines
 use Rattle.engine.specs.declared.Engine.{Engine}
-use Rattle.engine.specs.declared.Phase.{Phase}
-use Rattle.engine.specs.declared.Phase.the-variants as Phase
+pub use Rattle.engine_states.specs.Tasks.{Task, none, offMap, match, road, roadTask, gridTask, fixTask, needTask, phaseTask, openTask, matchOf, roadAt}
+unfoldable pub use Rattle.engine_states.specs.Tasks.{taskOf}
 use Rattle.direct.specs.Lists.{World, Call, fix, lost, reset, step, deliver, stepFrom, read, onCache, nearby, current, update, predict}
 
 -- ---- what is compared
@@ -92,56 +76,7 @@ pub data Shown : Type 0 where
   -- of the direct engine alone: a lookup without an answer
   unanswered : Shown
 
--- ---- a step
-
--- what a step works at where it needs no read: `engine.rs`, `step`, in its order
-pub data Task : Type 0 where
-  none : Task
-  offMap : Fix → Task
-  match : Fix → Task
-  road : Fix → Matched → Task
-
-abbrev pub roadTask : Current → Fix → Task
-roadTask Current.Nothing f = none
-roadTask (Current.Is found) f = road f found
-
-abbrev pub dueTask : Follower → Fix → Task
-dueTask w f = cond (w .due .matching) (match f) (cond (w .due .road) (roadTask (w .matcher .current) f) none)
-
-abbrev pub gridTask : Keyed → Follower → Fix → Task
-gridTask (Keyed.In key) w f = dueTask w f
-gridTask Keyed.Outside w f = offMap f
-gridTask (Keyed.Refused number) w f = offMap f
-
-abbrev pub fixTask : MaybeFix → Engine → Task
-fixTask MaybeFix.Nothing e = none
-fixTask (MaybeFix.Is f) e = gridTask (keyOf (e .shared .header) (f .lat) (f .lon)) (e .follower) f
-
-abbrev pub needTask : MaybeKey → Engine → Task
-needTask MaybeKey.Nothing e = fixTask (e .follower .sight .fix) e
-needTask (MaybeKey.Key key) e = none
-
-abbrev pub phaseTask : Phase → Engine → Task
-phaseTask Phase.Unread e = none
-phaseTask Phase.Failed e = none
-phaseTask Phase.Ready e = needTask (e .follower .due .need) e
-
-abbrev pub openTask : Pending → Engine → Task
-openTask Pending.Nothing e = phaseTask (e .shared .phase) e
-openTask Pending.Header e = none
-openTask (Pending.Entry key) e = none
-openTask Pending.Chunk e = none
-
-unfoldable pub taskOf : Engine → Task
-taskOf e = openTask (e .shared .cache .pending) e
-
--- the match that a step makes, and the road that it works out
-abbrev pub matchOf : Engine → List ℕ → Fix → Updated
-matchOf e arena f = Gather.updated (e .follower .matcher) (e .shared .cache) arena (e .shared .header) (placeOf f) (e .follower .sight .heading)
-
-abbrev pub roadAt : Engine → List ℕ → Matched → Predict.After
-roadAt e arena found =
-    Predict.predictedIn (e .shared .cache) arena (e .shared .header) found (e .follower .«horizon_m») (replicate 501 (pos 0)) (replicate 11 (pos 0))
+-- ---- a step: what it works at (`taskOf`), the match that it then makes and the road that it works out stand in specs/Tasks of crate engine_states
 
 -- of the engine e, which the step leaves as n
 abbrev pub matchShown : MatchOutcome.Outcome → Engine → Engine → Shown

@@ -153,7 +153,7 @@ module _ (key : TileKey) (l : Loading) where
       by true e = absurd (true≢false (sym (ap isChunk e)))
       by false e = read-key (sameKey (l .key) key) refl e
 
-  next-key : (c : Cache) → nextStep c key ≡ Next.Chunk l → l .key ≡ key
+  pub next-key : (c : Cache) → nextStep c key ≡ Next.Chunk l → l .key ≡ key
   unfolding nextStep
   next-key c e = at-key (landsOn c key) c (next-chunk key l c e) e
 

@@ -5,7 +5,6 @@ use mathlib.Core.Path.{_≡_, refl, sym, ap, subst, _∙_}
 use mathlib.Core.Bool.{Bool, true, false, _&&_, cond, true≢false}
 use mathlib.Core.List.{List, []}
 use mathlib.Core.Logic.{_⊎_, inl, inr}
-use native.Mathlib.Omega.{arith}
 use borrow.Author.Tests.{eqb-true, eqb-false}
 use lib.Dec.{eqb, leb}
 use lib.ListN.{length}
@@ -39,7 +38,7 @@ use Rattle.cache.specs.Loads.{packBytes, fetched, readLen, takes, told, chunkOf
 use Rattle.cache.specs.Calls as Loaded
 use Rattle.cache.specs.declared.Request.{Request}
 use Rattle.cache.specs.declared.Request.the-variants as Request
-use Rattle.cache_lists.proofs.Lookups.{same-key, next-is}
+use Rattle.cache.proofs.FromLaws.{next-chunk}
 use Rattle.matcher.specs.declared.Current.{Current}
 use Rattle.matcher.specs.declared.Current.the-variants as Current
 use Rattle.matcher.specs.declared.Matched.{Matched}
@@ -50,7 +49,7 @@ use Rattle.engine.specs.declared.MaybeFix.the-variants as MaybeFix
 use Rattle.engine.specs.State.{refused, isReady, headerOk, sharedOk, needOk, pendingBy, reloadLimit, engineOk}
 use Rattle.engine.specs.Work as Work
 use Rattle.engine.specs.Work.{counted, ended, matchEnded, matchStep, roadEndedBy, roadStep, roadDueBy, atFix, atFixBy, workedBy, worked, withDue, roadOff}
-use Rattle.engine.specs.Deliver.{After, arrived, over, withPhase, withFailures, sectorOf, headerFailed, headerParsed, headerCame, loaded, partCame, fitsHeader, needCameBy, deliveredBy, delivered}
+use Rattle.engine.specs.Deliver.{After, arrived, over, withPhase, withFailures, sectorOf, headerFailed, headerParsed, headerCame, loaded, fitsHeader, needCameBy, deliveredBy, delivered}
 use Rattle.engine.specs.Steps.{chunkRequest, requestOf, readyBy, startedBy, started, steppedBy, stepped}
 use Rattle.engine.specs.Calls as Engines
 use Rattle.engine.specs.declared.Engine.{Engine}
@@ -62,10 +61,10 @@ use Rattle.engine.specs.declared.Stepped.{Stepped}
 use Rattle.engine.proofs.FetchLaws.{withOpen}
 use Rattle.engine.proofs.NeedLaws.{settled, openedAt, needBy, need-is, part-is}
 use Rattle.engine.proofs.TestedLaws.{state-in, need-in}
-use Rattle.engine_states.proofs.CacheKept.{ok-parts}
+use Rattle.engine_states.proofs.CacheKept.{ok-parts, next-key}
+use Rattle.engine_states.proofs.EngineKept.{same-key}
 use Rattle.engine_states.proofs.KeptParts.{Ok, apart}
-use Rattle.direct.specs.Finished.{Task, none, offMap, match, road, roadTask, gridTask, fixTask, needTask, phaseTask, openTask, taskOf, matchOf, roadAt}
-use Rattle.direct.specs.Claims.{isOpen, openRead, FairBytes, FairLent}
+use Rattle.engine_states.specs.Tasks.{isOpen, openRead, Task, none, offMap, match, road, roadTask, gridTask, fixTask, needTask, phaseTask, openTask, taskOf, matchOf, roadAt}
 
 -- ---- a step
 
@@ -122,8 +121,7 @@ pub data Steps (e : Engine) (arena : List ℕ) : Task → Stepped → Type 0 whe
 -- the chunk that the next step reads is one that may be open
 chunk-fits : (c : Cache) (key : TileKey) (l : Loading) → nextStep c key ≡ Next.Chunk l → pendingFits Pending.Chunk c ≡ true
 chunk-fits c key l q =
-    let r : (c .loading ≡ MaybeLoading.Tile l) × (l .key ≡ key) = rw q at (next-is c key) in
-    ap (λ (x : MaybeLoading). wantsChunkOf x c) (r .0) ∙ ap (λ (k : TileKey). isChunk (nextStep c k)) (r .1) ∙ ap isChunk q
+    ap (λ (x : MaybeLoading). wantsChunkOf x c) (next-chunk key l c q) ∙ ap (λ (k : TileKey). isChunk (nextStep c k)) (next-key key l c q) ∙ ap isChunk q
 
 module _ (e : Engine) (arena : List ℕ) where
   abbrev Goes : Task → Stepped → Type 0
@@ -185,8 +183,7 @@ module _ (e : Engine) (arena : List ℕ) where
       needs-by Next.NoPages q = arrives key Next.NoPages ready q refl
       needs-by Next.Entry q = opens (Pending.Entry key) (entryOf (e .shared .header) key) 8 refl (rw q) refl
       needs-by (Next.Chunk l) q =
-          let r : (e .shared .cache .loading ≡ MaybeLoading.Tile l) × (l .key ≡ key) = rw q at (next-is (e .shared .cache) key) in
-          opens Pending.Chunk (chunkOffset l) (chunkLen l) refl (chunk-fits (e .shared .cache) key l q) (ap chunkRequest (r .0))
+          opens Pending.Chunk (chunkOffset l) (chunkLen l) refl (chunk-fits (e .shared .cache) key l q) (ap chunkRequest (next-chunk key l (e .shared .cache) q))
 
     ready-is : engineOk e (length arena) ≡ true → (x : MaybeKey) → e .follower .due .need ≡ x → Goes (needTask x e) (readyBy x e arena)
     unfolding worked
@@ -336,8 +333,7 @@ module _ (e : Engine) (arena : List ℕ) (ok : engineOk e (length arena) ≡ tru
 
             with-next : (l : Loading) (n : Next) → c₁ .loading ≡ MaybeLoading.Tile l → nextStep c₁ key ≡ n → isChunk n ≡ true → Brings e arena key failure bs
             with-next l (Next.Chunk m) q r t =
-                let s : (c₁ .loading ≡ MaybeLoading.Tile m) × (m .key ≡ key) = rw r at (next-is c₁ key) in
-                brings-by (Next.Chunk m) (chunkOffset m) (chunkLen m) r refl (rw p (ap chunkRequest (s .0))) refl
+                brings-by (Next.Chunk m) (chunkOffset m) (chunkLen m) r refl (rw p (ap chunkRequest (next-chunk key m c₁ r))) refl
             with-next l Next.Entry q r t = absurd (true≢false (sym t))
             with-next l (Next.Ready i) q r t = absurd (true≢false (sym t))
             with-next l Next.Missing q r t = absurd (true≢false (sym t))
@@ -439,11 +435,16 @@ isFetch Status.NoPack = false
 isFetch Status.OffMap = false
 isFetch (Status.Refused number) = false
 
--- its step, where that asks for nothing; else the delivery, of bytes that are fair where the lent pack is
+-- what the lent pack yields for a read: its bytes there, or that it ends before
+pub data Yields (Q : List ℕ) (offset len : ℕ) : ℕ → List ℕ → Type 0 where
+  bytes : offset + len ≤ length Q → Yields Q offset len 0 (packBytes Q offset len)
+  past : Yields Q offset len 2 []
+
+-- its step, where that asks for nothing; else the delivery of what the lent pack yields
 pub data Lends (e : Engine) (arena Q : List ℕ) : After → Type 0 where
   plain : isFetch (Engines.step e arena .answer) ≡ false → Lends e arena Q (over (Engines.step e arena) arena)
   asks : (offset len failure : ℕ) (bs : List ℕ) → Engines.step e arena .answer ≡ Status.Fetch offset len
-      → ((P : List ℕ) → FairLent P (Status.Fetch offset len) Q → failure ≡ 0 → FairBytes P (Status.Fetch offset len) bs)
+      → Yields Q offset len failure bs
       → Lends e arena Q (Engines.deliver (Engines.step e arena .engine) arena failure bs)
 
 module _ (e : Engine) (arena Q : List ℕ) where
@@ -451,8 +452,8 @@ module _ (e : Engine) (arena Q : List ℕ) where
       → Lends e arena Q (Engines.answeredBy x (Engines.step e arena .engine) arena len Q)
   range-is offset len (RangeIs.At at) r q =
       let there : (at ≡ offset) × (offset + len ≤ length Q) = read-at Q offset len r in
-      asks offset len 0 (packBytes Q at len) q (λ P fair z size. rw (there .0) (fair (there .1)))
-  range-is offset len (RangeIs.Refused number) r q = asks offset len 2 [] q (λ P fair z. absurd (omega arith))
+      asks offset len 0 (packBytes Q at len) q (rw (there .0) (bytes (there .1)))
+  range-is offset len (RangeIs.Refused number) r q = asks offset len 2 [] q past
 
   lends-by : (a : Status) → Engines.step e arena .answer ≡ a → Lends e arena Q (Engines.stepFromBy a (Engines.step e arena) arena Q)
   unfolding Engines.answeredFrom
