@@ -32,20 +32,21 @@ use Rattle.cache.specs.Keys.{emptyPlace, readyAt, forgotten}
 use Rattle.cache.specs.Lookups.{landsOn, touched, nextAt, nextStep}
 use Rattle.cache.specs.State.{fresh, cleared, tileLoads, loadsOk, wantsChunkOf, pendingFits, pendingOk, isEntry, isChunk, stateOk}
 use Rattle.cache.specs.Loads.{chunkLen, withdrawn, moved, forgot, withoutRun, dropped, newLoad, readySlot, withReady, readied, further}
-use Rattle.cache_lists.specs.Claims.{LoadsAt, Live, Apart}
+use Rattle.cache_lists.specs.Claims.{LoadsAt, Live, Apart, ShortLoad}
 use Rattle.cache_lists.proofs.Lookups.{key-same}
 use Rattle.cache_lists.proofs.Stores.{getD-same}
 use Rattle.cache_lists.proofs.Live.{LiveIn, none-live, evicted-live, replaced-live, ready-live, MarksIn, none-marked, evicted-marked, replaced-marked, ready-marked}
 
 -- ---- the invariant
 
--- the load has its run, not ready, with the load's key and length, and has not all of it
+-- the load has its run, not ready, with the load's key and length, of 49,152 bytes at most, and has not all of it
 pub record Loads (s : List Slot) (l : Loading) : Type 0 where
   pub run : kindAt s (l .slot) ≡ run
   pub key : slotAt s (l .slot) .key ≡ MaybeKey.Key (l .key)
   pub len : slotAt s (l .slot) .len ≡ l .len
   pub waits : slotAt s (l .slot) .ready ≡ false
   pub below : l .done < l .len
+  pub short : l .len ≤ 49152
 
 abbrev pub LoadIn : List Slot → MaybeLoading → Type 0
 LoadIn s MaybeLoading.Nothing = Unit
@@ -71,6 +72,14 @@ pub record Inv (c : Cache) : Type 0 where
   pub live : LiveIn (c .pages .slots) (c .loading)
   pub load : LoadIn (c .pages .slots) (c .loading)
   pub pending : pendingOk c ≡ true
+
+-- the load's length
+pub inv-short : (c : Cache) → Inv c → ShortLoad (c .loading)
+inv-short c f = by (c .loading) (f .load)
+  where
+    by : (x : MaybeLoading) → LoadIn (c .pages .slots) x → ShortLoad x
+    by MaybeLoading.Nothing l = tt
+    by (MaybeLoading.Tile l) r = r .short
 
 -- ---- it is what number 12 tests
 
@@ -243,18 +252,19 @@ module _ (g : Pages) (s : ℕ) (key : TileKey) (len : ℕ) (f : Sound g) (fits :
   pub replaced-head : slotAt (replaced g s key len .slots) s ≡ headSlot key len
   replaced-head = placed-head (evicted (span len) s g) s key len (omega (arith, sound-evicted (span len) s g f fits .size, span-pos len, f .small))
 
-  loads-new : (offset : ℕ) → 0 < len → Loads (replaced g s key len .slots) (newLoad key s offset len)
-  loads-new offset h = record { run = ap kindOf replaced-head; key = rw replaced-head; len = rw replaced-head; waits = rw replaced-head; below = h }
+  loads-new : (offset : ℕ) → 0 < len → len ≤ 49152 → Loads (replaced g s key len .slots) (newLoad key s offset len)
+  loads-new offset h b =
+      record { run = ap kindOf replaced-head; key = rw replaced-head; len = rw replaced-head; waits = rw replaced-head; below = h; short = b }
 
 -- where no load is
 pub inv-began : (c : Cache) (s : ℕ) (key : TileKey) (offset len : ℕ) → Inv c → c .loading ≡ MaybeLoading.Nothing → s + span len ≤ c .pages .count → 0 < len
-    → Inv (moved c (replaced (c .pages) s key len) (MaybeLoading.Tile (newLoad key s offset len)))
-inv-began c s key offset len f e fits h =
+    → len ≤ 49152 → Inv (moved c (replaced (c .pages) s key len) (MaybeLoading.Tile (newLoad key s offset len)))
+inv-began c s key offset len f e fits h b =
     let sound : Sound (c .pages) = sound-in (c .pages) (f .pages) in
     inv-moved c (replaced (c .pages) s key len) (MaybeLoading.Tile (newLoad key s offset len)) f
     (pages-in (replaced (c .pages) s key len) (sound-replaced (c .pages) s key len sound fits) (replaced-marked (c .pages) s key len sound fits (f .pages .marks)))
     (replaced-live (c .pages) s key offset len sound fits (rw e at (f .live)))
-    (loads-new (c .pages) s key len sound fits offset h)
+    (loads-new (c .pages) s key len sound fits offset h b)
 
 -- a chunk is part of what is left
 chunk-by : (l : Loading) (t : Bool) → ltb (l .len - l .done) 2048 ≡ t → l .done < l .len → l .done + cond t (l .len - l .done) 2048 ≤ l .len
@@ -275,7 +285,8 @@ module _ (c : Cache) (l : Loading) (f : Inv c) (e : c .loading ≡ MaybeLoading.
 
   pub inv-further : (come : ℕ) → come < l .len → Inv (further c l come)
   unfolding further
-  inv-further come h = inv-moved c (c .pages) _ f (f .pages) live (record { run = r .run; key = r .key; len = r .len; waits = r .waits; below = h })
+  inv-further come h =
+      inv-moved c (c .pages) _ f (f .pages) live (record { run = r .run; key = r .key; len = r .len; waits = r .waits; below = h; short = r .short })
 
   below : l .slot < length (c .pages .slots)
   below = omega (arith, first-within (c .pages) l (f .pages) r, f .pages .size, f .pages .small)

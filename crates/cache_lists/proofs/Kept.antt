@@ -139,11 +139,11 @@ module _ (P : List ℕ) (h : Header) (n : ℕ) where
             (waits arena i (pieceSlot s) refl)
 
   pub kept-began : (c : Cache) (arena : List ℕ) (s : ℕ) (key : TileKey) (offset len : ℕ) → Kept c arena → c .loading ≡ MaybeLoading.Nothing → s + span len ≤ c .pages .count → 0 < len
-      → direct P h n key ≡ directTile P h key offset len
+      → len ≤ 49152 → direct P h n key ≡ directTile P h key offset len
       → Kept (moved c (replaced (c .pages) s key len) (MaybeLoading.Tile (newLoad key s offset len))) arena
   unfolding moved
-  kept-began c arena s key offset len f e fits pos d = record {
-    inv = inv-began c s key offset len (f .inv) e fits pos;
+  kept-began c arena s key offset len f e fits pos short d = record {
+    inv = inv-began c s key offset len (f .inv) e fits pos short;
     count = evicted-count (span len) s (c .pages) ∙ f .count;
     slots = replaced-holds (c .pages) s key len (sound-in (c .pages) (f .inv .pages)) fits arena (f .slots);
     ring = f .ring;

@@ -33,9 +33,9 @@ use Rattle.cache.specs.declared.Progress.the-variants as Progress
 use Rattle.cache.specs.Loads.{After, over, refused, fetched, readLen, takes, dropped, chunkLen, stepped}
 use Rattle.tile.specs.Parse.{accepts}
 use Rattle.cache_lists.specs.Lists.{World, Call, capacity, loads, pages, get, fetch, load, loadFrom, clear, found, loaded, exec, Along}
-use Rattle.cache_lists.specs.Claims.{refusedProgress, Settles, Passed, HandedOut, Read, readsOf, reads, bytesOf, TakesOnly, SameAt, SameFor, LentOnly, Written, Safe}
+use Rattle.cache_lists.specs.Claims.{refusedProgress, Settles, Passed, HandedOut, Read, readsOf, reads, bytesOf, TakesOnly, SameAt, SameFor, LentOnly, Written, LeavesShort, Safe}
 use Rattle.cache_lists.proofs.Steps.{Gets, denied, ringed, unknown, handed, get-is, came-loading, came-key, Step, refuses, knows, uses, noPages, fails, lacks, begins, goesOn, readies, spoils, load-is, from-is}
-use Rattle.cache_lists.proofs.Inv.{Inv, inv-apart, inv-cleared, inv-touched, inv-forgot, inv-dropped, dropped-load, inv-began, inv-further, inv-readied}
+use Rattle.cache_lists.proofs.Inv.{Inv, inv-short, inv-apart, inv-cleared, inv-touched, inv-forgot, inv-dropped, dropped-load, inv-began, inv-further, inv-readied}
 use Rattle.cache_lists.proofs.Settled.{Settled, ring-settled, touched-settled, forgot-settled, readied-settled}
 use Rattle.cache_lists.proofs.Chunk.{not-written, put-written, ready-kept}
 
@@ -56,7 +56,7 @@ inv-step {c} {key = key} f (noPages e) = inv-forgot c key f
 inv-step {c} f (fails n) = inv-dropped c f
 inv-step {c} {key = key} f (lacks came s) = inv-forgot (dropped c) key (inv-dropped c f)
 inv-step {c} {h = h} {key = key} {bs = bs} f (begins came offset len slot e s v) =
-    inv-began (dropped c) slot key offset len (inv-dropped c f) (dropped-load c) (victim-is (dropped c .pages) (span len) slot v .within) (located h bs e .0)
+    inv-began (dropped c) slot key offset len (inv-dropped c f) (dropped-load c) (victim-is (dropped c .pages) (span len) slot v .within) (located h bs e .0) s
 inv-step {c} f (goesOn l came b) = inv-further c l f (came-loading came) (l .done + chunkLen l) b
 inv-step {c} f (readies l came b p) = inv-readied c l f (came-loading came)
 inv-step {c} f (spoils l came b p) = inv-forgot (dropped c) (l .key) (inv-dropped c f)
@@ -240,6 +240,12 @@ settled-call w (fetch h key) f = tt
 settled-call w (load h key failure bs) f = λ e. settled-step f (load-is (w .cache) (w .arena) h key failure bs) cc
 settled-call w (loadFrom h key pack) f = λ e. settled-step f (from-is (w .cache) (w .arena) h key pack .goes) cc
 settled-call w clear f = tt
+
+-- after each call of a list the load is short
+pub short-along : (cs : List Call) (w : World) → Inv (w .cache) → Along LeavesShort cs w
+unfolding Along
+short-along [] w f = tt
+short-along (c ∷ cs) w f = let g : Inv (exec c w .world .cache) = inv-call w c f in (inv-short (exec c w .world .cache) g, short-along cs (exec c w .world) g)
 
 pub safe-along : (cs : List Call) (w : World) → Inv (w .cache) → Along Safe cs w
 unfolding Along

@@ -95,7 +95,7 @@ module _ (P : List ℕ) (h : Header) (n : ℕ) (key : TileKey) where
       kept-step (begins came offset len slot e s v) =
           let d : Kept P h n (dropped c) arena = kept-dropped P h n c arena k in
           let fits : slot + span len ≤ dropped c .pages .count = victim-is (dropped c .pages) (span len) slot v .within in
-          kept-began P h n (dropped c) arena slot key offset len d (dropped-load c) fits (located h bs e .0)
+          kept-began P h n (dropped c) arena slot key offset len d (dropped-load c) fits (located h bs e .0) s
           (by-entry came ∙ rw e (at-tile P h n key offset len s (omega (arith, d .count))))
       kept-step (goesOn l came b) =
           kept-further P h n c arena l bs k (came-loading came) (came-holds came) (came .size) (chunk-fair came .0) (chunk-fair came .1) b

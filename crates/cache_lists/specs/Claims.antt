@@ -138,6 +138,14 @@ abbrev pub KeptBytes : World → Call → Type 0
 KeptBytes w c =
     (i : ℕ) → slotAt (w .cache .pages .slots) i .ready ≡ true → runBytes (exec c w .world .arena) i (lenAt (w .cache) i) ≡ runBytes (w .arena) i (lenAt (w .cache) i)
 
+-- the unfinished load is of a tile of 49,152 bytes at most (document 01: a longer one is Missing), so of 24 chunks at most
+abbrev pub ShortLoad : MaybeLoading → Type 0
+ShortLoad MaybeLoading.Nothing = Unit
+ShortLoad (MaybeLoading.Tile l) = l .len ≤ 49152
+
+abbrev pub LeavesShort : World → Call → Type 0
+LeavesShort w c = ShortLoad (exec c w .world .cache .loading)
+
 -- every run is live: none is left behind that is neither ready nor being loaded
 abbrev pub AllLive : Cache → Type 0
 AllLive c = (h : ℕ) → kindAt (c .pages .slots) h ≡ run → Live c h
@@ -227,6 +235,10 @@ Open w c = number (exec c w .answer) ≡ 12 → ⊥
 -- whatever is delivered or given
 abbrev pub AlwaysSafe : Type 0
 AlwaysSafe = (n : ℕ) → n ≤ 96 → (arena : List ℕ) (cs : List Call) → Along Safe cs (start n arena)
+
+-- and the load's length likewise
+abbrev pub AlwaysShort : Type 0
+AlwaysShort = (n : ℕ) → n ≤ 96 → (arena : List ℕ) (cs : List Call) → Along LeavesShort cs (start n arena)
 
 -- of one pack, whichever reads fail and whatever is evicted
 abbrev pub AlwaysSame : Type 0

@@ -10,8 +10,8 @@ use Rattle.engine.specs.Follow as Followers
 use Rattle.engine.specs.Calls as Engines
 use Rattle.direct.specs.Lists.{World, Call, exec, start}
 use Rattle.direct.specs.Direct.{Lookup, directly, Direct, newDirect, applied, packAfter, directExec, directShows}
-use Rattle.direct.specs.Claims.{isFetching, toldOf, tolds, shows, AllFair, madeOf, Answers, AllSame, AllDirect, AllSafe, AllOpen}
-use Rattle.direct.proofs.Safe.{safe-along}
+use Rattle.direct.specs.Claims.{isFetching, toldOf, tolds, shows, AllFair, madeOf, Answers, AllSame, AllDirect, AllSafe, AllShort, AllOpen}
+use Rattle.direct.proofs.Safe.{safe-along, short-along}
 use Rattle.direct.proofs.Fit.{SharedFits, Reaches, Fit, fit-start}
 use Rattle.direct.proofs.Linked.{Linked, Turn, turn}
 use Rattle.direct.proofs.Sound.{start-sound}
@@ -25,6 +25,9 @@ new-start arena horizon = refl
 
 pub all-safe : AllSafe
 all-safe n few horizon arena cs = safe-along cs (start n horizon arena) (inv-fresh n few)
+
+pub all-short : AllShort
+all-short n few horizon arena cs = short-along cs (start n horizon arena) (inv-fresh n few)
 
 -- ---- finished matches and roads
 

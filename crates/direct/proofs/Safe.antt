@@ -19,7 +19,7 @@ use Rattle.cache.specs.declared.Progress.{Progress}
 use Rattle.cache.specs.declared.Progress.the-variants as Progress
 use Rattle.cache_lists.specs.Claims.{SameAt, Written}
 use Rattle.cache_lists.proofs.Steps.{load-is}
-use Rattle.cache_lists.proofs.Inv.{Inv, inv-ok, inv-apart, inv-cleared, inv-touched, inv-forgot}
+use Rattle.cache_lists.proofs.Inv.{Inv, inv-short, inv-ok, inv-apart, inv-cleared, inv-touched, inv-forgot}
 use Rattle.cache_lists.proofs.Safe as CacheSafe
 use Rattle.cache_lists.proofs.Safe.{inv-step, inv-call, handed-call, one-read, takes-call, written-call, written-step}
 use Rattle.cache_lists.proofs.Chunk.{not-written}
@@ -36,7 +36,7 @@ use Rattle.engine.specs.declared.Stepped.{Stepped}
 use Rattle.engine_states.proofs.CacheKept.{ok-parts, pending-ok}
 use Rattle.direct.specs.Lists.{World, Call, fix, lost, reset, step, deliver, stepFrom, read, onCache, nearby, current, update, predict, delivered, cacheOf, numberOfStatus, number, exec, Along}
 use Rattle.direct.specs.Finished.{Task, none, offMap, match, road, taskOf}
-use Rattle.direct.specs.Claims.{openRead, taskHands, HandedOut, readsOf, lentReads, reads, SameFor, LentOnly, HasLen, TakesOnly, Safe}
+use Rattle.direct.specs.Claims.{openRead, taskHands, HandedOut, readsOf, lentReads, reads, SameFor, LentOnly, HasLen, TakesOnly, LeavesShort, Safe}
 use Rattle.engine_states.proofs.Ways as Ways
 use Rattle.engine_states.proofs.Ways.{Delivers, brought, isFetch, Lends, deliver-is, lends-is}
 use Rattle.direct.proofs.Changes.{step-keeps, deliver-keeps, update-keeps, predict-keeps}
@@ -321,6 +321,13 @@ written-after w (update m h p heading) = not-written _ (w .arena)
 written-after w (predict h m horizon samples behind) = not-written _ (w .arena)
 
 -- ---- a list
+
+pub short-along : (cs : List Call) (w : World) → Inv (w .engine .shared .cache) → Along LeavesShort cs w
+unfolding Along
+short-along [] w f = tt
+short-along (c ∷ cs) w f =
+    let g : Inv (exec c w .world .engine .shared .cache) = inv-after w c f in
+    (inv-short (exec c w .world .engine .shared .cache) g, short-along cs (exec c w .world) g)
 
 pub safe-along : (cs : List Call) (w : World) → Inv (w .engine .shared .cache) → Along Safe cs w
 unfolding Along

@@ -17,7 +17,7 @@ use Rattle.cache.specs.Direct.{Agree, look}
 use Rattle.cache.specs.Lookups.{landsOn, lenAt}
 use Rattle.cache_lists.specs.Lists as CacheCalls
 use Rattle.cache_lists.specs.Claims as Cached
-use Rattle.cache_lists.specs.Claims.{Parsed, Apart, AllLive, Passed, Written, Read}
+use Rattle.cache_lists.specs.Claims.{Parsed, Apart, AllLive, Passed, Written, ShortLoad, Read}
 use Rattle.matcher.specs.declared.Heading.{Heading}
 use Rattle.matcher.specs.declared.Matched.{Matched}
 use Rattle.matcher.specs.Gather as Gather
@@ -252,6 +252,13 @@ pub record Safe (w : World) (c : Call) : Type 0 where
 -- whatever is delivered or given
 abbrev pub AllSafe : Type 0
 AllSafe = (n : ℕ) → n ≤ 96 → (horizon : Float) (arena : List ℕ) (cs : List Call) → Along Safe cs (start n horizon arena)
+
+-- the unfinished load is of 49,152 bytes at most after each call
+abbrev pub LeavesShort : World → Call → Type 0
+LeavesShort w c = ShortLoad (exec c w .world .engine .shared .cache .loading)
+
+abbrev pub AllShort : Type 0
+AllShort = (n : ℕ) → n ≤ 96 → (horizon : Float) (arena : List ℕ) (cs : List Call) → Along LeavesShort cs (start n horizon arena)
 
 -- ---- 3: number 12 and the start's 6 and 10
 
