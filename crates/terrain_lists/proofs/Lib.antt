@@ -4,3 +4,6 @@ pub mod Numbers
 pub mod CacheTyped
 pub mod MatchTyped
 pub mod RoadTyped
+pub mod FollowerTyped
+pub mod EngineTyped
+pub mod Kept
