@@ -21,6 +21,7 @@ use Rattle.cache.specs.declared.look.Landing.the-variants as Landing
 use Rattle.cache.specs.Lookups.{landsOn, runBytes, passes, lenAt, touched, gotReady, gotAt, got, nextAt, nextStep}
 use Rattle.cache.specs.Keys.{readyAt}
 use Rattle.cache.specs.Direct.{Look, ready, missing, absent, stale, lookAt, look, looked, Aged}
+use Rattle.cache.specs.Uses.{usesOf, usedAt, withUses}
 
 -- ---- the most recently used changes no lookup
 
@@ -153,3 +154,18 @@ module _ (arena : List ℕ) (first len : ℕ) (key : TileKey) (size : ℕ) (e : 
   pub passes-accepted : accepts (runBytes arena first len) key size ≡ true
   unfolding passes
   passes-accepted = and-right (leb (first * 8192 + len) (length arena)) (accepts (runBytes arena first len) key size) e
+
+-- ---- clock and ages beside the cache
+
+-- a state that differs at most in clock and ages is the first with the other's
+pub aged-uses : (c d : Cache) → Aged c d → withUses c (usesOf d) ≡ d
+aged-uses c d a = rw (← a .slots, ← a .count, ← a .missing, ← a .loading, ← a .pending, ← a .loads)
+
+pub touched-uses : (c : Cache) (i : ℕ) → usesOf (touched c i) ≡ usedAt (usesOf c) i
+unfolding touched
+touched-uses c i = refl
+
+-- what a lookup lands on does not go by clock and ages
+pub aged-lands : (c d : Cache) (key : TileKey) → Aged c d → landsOn d key ≡ landsOn c key
+unfolding landsOn readyAt
+aged-lands c d key a = rw (a .slots, a .count, a .missing)

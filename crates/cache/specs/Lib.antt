@@ -16,5 +16,7 @@ pub mod Loads
 -- The lookups of one call that makes many, and a lookup as a definition reads it.
 pub mod Ages
 pub mod Reader
+-- What the lookups of one match change, beside the cache.
+pub mod Uses
 -- The number of each answer.
 pub mod Numbers

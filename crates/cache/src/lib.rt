@@ -10,7 +10,7 @@
 // read of the tile's directory entry, then chunks of 2,048 bytes, one a step, a few milliseconds of a card's time; the tile is checked (CRC
 // and structure) when its last chunk arrives.
 //
-// `runs`, `victim`, `evict` and `begin` have the page runs; `keys`, `look` and `ages` the lookups (`ages` those of one call that makes many);
+// `runs`, `victim`, `evict` and `begin` have the page runs; `keys`, `look`, `uses` and `ages` the lookups (`uses` those of a match, `ages` those of a call that makes many);
 // `state` number 12; `next` and `step` a load's step; `load` the calls that bring tiles in.
 pub mod ages;
 mod begin;
@@ -22,6 +22,7 @@ pub mod next;
 pub mod runs;
 pub mod state;
 pub mod step;
+pub mod uses;
 pub mod victim;
 
 use pack::Header;
@@ -243,6 +244,12 @@ pub enum Progress {
 pub struct Loaded {
     pub answer: Progress,
     pub cache: Cache,
+}
+
+// The clock and the age of each page, as the lookups of one match leave them.
+pub struct Aging {
+    pub clock: u32,
+    pub used: [u32; crate::MAX_PAGES],
 }
 
 // The clock, the age of each page, and which runs were checked, by their first page.

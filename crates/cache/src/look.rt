@@ -121,3 +121,22 @@ pub fn got(c: Cache, arena: &[u8], size: u32, key: TileKey) -> Got
         }
     }
 }
+
+// What a lookup answers, with clock and ages left to the caller (`uses`), so that no state is copied.
+pub fn found(c: Cache, arena: &[u8], size: u32, key: TileKey) -> Lookup
+    ensures { λ r. ⌜ r ≡ Lookups.got c (now (arena .entry)) size key .answer ⌝ }
+{
+    match lands_on(c, key) {
+        Landing::Missing => Lookup::Missing,
+        Landing::Nothing => Lookup::Absent,
+        Landing::At(i) => {
+            let g = c.pages;
+            let s = crate::runs::slot_at(g, i);
+            let len = s.len as usize;
+            if passes(arena, i, len, key, size) {
+                return Lookup::Ready(i, len);
+            }
+            Lookup::Refused(12)
+        }
+    }
+}
