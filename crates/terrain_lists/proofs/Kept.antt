@@ -111,7 +111,7 @@ typed-kept (Direct.predict h m horizon samples behind) w g t = record {
 pub start-typed : (n : ℕ) → n ≤ 96 → (horizon : Float) → Single horizon → (arena : List ℕ) → Bytes arena → TypedWorld (start n horizon arena)
 start-typed n few horizon h arena a = record { engine = new-typed n horizon (omega (arith, few)) h; arena = a }
 
-along-typed : (cs : List Call) (w : World) → AllTyped cs → TypedWorld w → Along (λ (w : World) (c : Call). TypedWorld w) cs w × TypedWorld (left cs w)
+pub along-typed : (cs : List Call) (w : World) → AllTyped cs → TypedWorld w → Along (λ (w : World) (c : Call). TypedWorld w) cs w × TypedWorld (left cs w)
 unfolding AllTyped Along left
 along-typed [] w g t = (tt, t)
 along-typed (c ∷ cs) w g t =

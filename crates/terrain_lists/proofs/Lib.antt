@@ -7,3 +7,5 @@ pub mod RoadTyped
 pub mod FollowerTyped
 pub mod EngineTyped
 pub mod Kept
+pub mod Agreed
+pub mod Lists
