@@ -9,3 +9,4 @@ pub mod EngineTyped
 pub mod Kept
 pub mod Agreed
 pub mod Lists
+pub mod PartsKeep
