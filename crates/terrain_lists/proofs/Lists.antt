@@ -2,61 +2,31 @@
 -- one call by one, in worlds whose engine is within its types.
 use Prim.Native.Nat.{ℕ, _*_, _≤_}
 use mathlib.Core.Path.{_≡_, refl, sym, ap, subst, _∙_}
-use mathlib.Core.Bool.{Bool, true, false, _&&_, cond}
+use mathlib.Core.Bool.{true}
 use mathlib.Core.List.{List, [], _∷_, _++_}
 use native.Mathlib.Omega.{arith}
-use lib.Dec.{leb}
 use lib.Ieee.{Float}
 use lib.ListN.{length}
 use Rattle.engine.specs.Calls as Engines
 use Rattle.terrain.specs.Host as Host
-use Rattle.terrain.specs.Roads as Roads
 use Rattle.terrain.specs.Typed.{Single}
 use Rattle.terrain.specs.Words.{accepted}
 use Rattle.terrain.proofs.BackLaws.{accepted-words}
 use Rattle.direct.specs.Claims.{Safe, Open, AllFair, tolds, shows, madeOf}
 use Rattle.direct.specs.Direct.{directly, newDirect, directShows}
-use Rattle.direct.specs.Lists as Direct
 use Rattle.direct.specs.Lists.{World, Call, exec, start, Along}
 use Rattle.direct.proofs.Claim.{all-safe, all-direct, all-open}
-use Rattle.terrain_lists.specs.Calls as Calls
-use Rattle.terrain_lists.specs.Calls.{HostWorld, HostCall, HostAnswer, HostDone, hostExec, callsOf, hostTold, Bytes, Given, left, AllTyped, AllGiven, callsIn, hostLeft, hostAnswers, hostTolds, wordsOf, hostStart, pagesIn}
+use Rattle.terrain_lists.specs.Calls.{HostWorld, HostCall, HostAnswer, HostDone, hostExec, Meant, call, atInterface, meant, callsBy, callsOf, hostTold, Bytes, GivenBy, left, AllTyped, AllGiven, callsIn, hostLeft, hostAnswers, hostTolds, wordsOf, hostStart, pagesIn}
 use Rattle.terrain_lists.specs.Claims.{TypedWorld, HostAlong, OwnTwelves, SameList, WordsList}
 use Rattle.terrain_lists.proofs.Agreed.{agreed, twelve-own}
 use Rattle.terrain_lists.proofs.Kept.{along-typed, start-typed}
 
 -- ---- the arguments
 
-one-or-none : (b : Bool) (c : Call) → AllTyped (c ∷ []) → AllTyped (cond b (c ∷ []) [])
+given-typed : (m : Meant) → GivenBy m → AllTyped (callsBy m)
 unfolding AllTyped
-one-or-none true c g = g
-one-or-none false c g = tt
-
-given-typed : (c : HostCall) → Given c → AllTyped (callsOf c)
-unfolding AllTyped callsOf
-given-typed (Calls.fix lat lon at) g = (g, tt)
-given-typed Calls.lost g = (tt, tt)
-given-typed (Calls.reset P) g = (tt, tt)
-given-typed Calls.step g = (tt, tt)
-given-typed (Calls.deliver failure bs) g = (g, tt)
-given-typed (Calls.stepFrom Q) g = (g, tt)
-given-typed Calls.ahead g = (tt, tt)
-given-typed Calls.header g = (tt, tt)
-given-typed Calls.heading g = (tt, tt)
-given-typed Calls.loads g = (tt, tt)
-given-typed Calls.steps g = (tt, tt)
-given-typed Calls.cacheCapacity g = (tt, tt)
-given-typed Calls.cacheLoads g = (tt, tt)
-given-typed (Calls.cachePages h key) g = (tt, tt)
-given-typed (Calls.cacheGet h key) g = (tt, tt)
-given-typed Calls.cacheClear g = (tt, tt)
-given-typed (Calls.cacheFetch h key) g = (tt, tt)
-given-typed (Calls.cacheLoad h key failure bs) g = (g, tt)
-given-typed (Calls.cacheLoadFrom h key Q) g = (g, tt)
-given-typed (Calls.nearby h p) g = (tt, tt)
-given-typed (Calls.current ms) g = one-or-none (Roads.isMatcher ms) _ (tt, tt)
-given-typed (Calls.update ms h p way) g = one-or-none (Roads.isMatcher ms && leb (way .known) 1) _ (tt, tt)
-given-typed (Calls.predict h begin horizon samples behind) g = one-or-none (Roads.isGiven begin) _ (tt, tt)
+given-typed (call c) g = (g, tt)
+given-typed (atInterface a) g = tt
 
 -- ---- the lists
 
@@ -67,13 +37,13 @@ left-append (x ∷ xs) ys w = left-append xs ys (exec x w .world)
 
 same-list : (cs : List HostCall) (w : World) → AllGiven cs → TypedWorld w → SameList cs (wordsOf w) w
 unfolding AllGiven callsIn hostLeft hostAnswers hostTolds HostAlong OwnTwelves left
-same-list [] w g t = record { left = refl; answers = refl; accepted = accepted-words (w .engine) (t .engine); twelves = tt }
+same-list [] w g t = record { world = refl; answers = refl; accepted = accepted-words (w .engine) (t .engine); twelves = tt }
 same-list (c ∷ cs) w g t =
     let next : World = left (callsOf c) w in
     let done : hostExec c (wordsOf w) ≡ record { world = wordsOf next; answer = hostTold c w } = agreed w t c in
-    let rest : SameList cs (wordsOf next) next = same-list cs next (g .1) (along-typed (callsOf c) w (given-typed c (g .0)) t .1) in
+    let rest : SameList cs (wordsOf next) next = same-list cs next (g .1) (along-typed (callsOf c) w (given-typed (meant c) (g .0)) t .1) in
     record {
-      left = ap (λ (d : HostDone). hostLeft cs (d .world)) done ∙ rest .left ∙ ap wordsOf (sym (left-append (callsOf c) (callsIn cs) w));
+      world = ap (λ (d : HostDone). hostLeft cs (d .world)) done ∙ rest .world ∙ ap wordsOf (sym (left-append (callsOf c) (callsIn cs) w));
       answers = ap (λ (d : HostDone). d .answer ∷ hostAnswers cs (d .world)) done ∙ ap (λ (more : List HostAnswer). hostTold c w ∷ more) (rest .answers);
       accepted = (accepted-words (w .engine) (t .engine),
           subst (λ (d : HostDone). HostAlong (λ (x : HostWorld). accepted (x .words) ≡ true) cs (d .world)) (sym done) (rest .accepted));

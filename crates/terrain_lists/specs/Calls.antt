@@ -1,5 +1,5 @@
 -- The functions of include/terrain.h on an engine's words as data, each with its arguments, and what a list of them does to the words and the arena: by the definitions that their contracts name
--- (Host, Parts and Roads of crate terrain), and no others. Each call gets the words and the arena that the last one left. Beside each call the call of demand 3 that it is (`callsOf`).
+-- (Host, Parts and Roads of crate terrain), and no others. Each call gets the words and the arena that the last one left. Beside each call the call of demand 3 that it is (`meant`).
 -- `terrain_new` and `terrain_matcher_reset` take no state and make one, and `terrain_from_e7` takes none: they are no calls of a list.
 use Prim.Native.Nat.{ℕ, _/_, min}
 use mathlib.Core.Bool.{Bool, true, false, _&&_, cond}
@@ -150,33 +150,49 @@ hostExec (predict h start horizon samples behind) v =
 
 -- ---- the call of demand 3 that it is
 
--- none where it is refused at the interface, before there is a call: words that are no matcher's, a heading that is neither none nor degrees, a match that is none
-unfoldable pub callsOf : HostCall → List Call
-callsOf (fix lat lon at) = Direct.fix (Host.fixOf lat lon at) ∷ []
-callsOf lost = Direct.lost ∷ []
-callsOf (reset P) = Direct.reset P ∷ []
-callsOf step = Direct.step ∷ []
-callsOf (deliver failure bs) = Direct.deliver failure bs ∷ []
-callsOf (stepFrom Q) = Direct.stepFrom Q ∷ []
-callsOf ahead = Direct.read itsAhead ∷ []
-callsOf header = Direct.read itsHeader ∷ []
-callsOf heading = Direct.read itsHeading ∷ []
-callsOf loads = Direct.read itsLoads ∷ []
-callsOf steps = Direct.read itsSteps ∷ []
-callsOf cacheCapacity = Direct.onCache Cached.capacity ∷ []
-callsOf cacheLoads = Direct.onCache Cached.loads ∷ []
-callsOf (cachePages h key) = Direct.onCache (Cached.pages (headerOf h) (keyOf key)) ∷ []
-callsOf (cacheGet h key) = Direct.onCache (Cached.get (headerOf h) (keyOf key)) ∷ []
-callsOf cacheClear = Direct.onCache Cached.clear ∷ []
-callsOf (cacheFetch h key) = Direct.onCache (Cached.fetch (headerOf h) (keyOf key)) ∷ []
-callsOf (cacheLoad h key failure bs) = Direct.onCache (Cached.load (headerOf h) (keyOf key) failure bs) ∷ []
-callsOf (cacheLoadFrom h key Q) = Direct.onCache (Cached.loadFrom (headerOf h) (keyOf key) Q) ∷ []
-callsOf (nearby h p) = Direct.nearby (headerOf h) (pointOf p) ∷ []
-callsOf (current ms) = cond (Roads.isMatcher ms) (Direct.current (matcherOf ms 0) ∷ []) []
-callsOf (update ms h p way) =
-    cond (Roads.isMatcher ms && leb (way .known) 1) (Direct.update (matcherOf ms 0) (headerOf h) (pointOf p) (Roads.headingOf way) ∷ []) []
-callsOf (predict h start horizon samples behind) =
-    cond (Roads.isGiven start) (Direct.predict (headerOf h) (Roads.given start) horizon samples behind ∷ []) []
+-- or, where it is refused at the interface before there is a call, its answer: 12, and what was lent stays as it was
+pub data Meant : Type 0 where
+  call : Call → Meant
+  atInterface : HostAnswer → Meant
+
+-- at the interface: words that are no matcher's, a heading that is neither none nor degrees, a match that is none
+unfoldable pub meant : HostCall → Meant
+meant (fix lat lon at) = call (Direct.fix (Host.fixOf lat lon at))
+meant lost = call Direct.lost
+meant (reset P) = call (Direct.reset P)
+meant step = call Direct.step
+meant (deliver failure bs) = call (Direct.deliver failure bs)
+meant (stepFrom Q) = call (Direct.stepFrom Q)
+meant ahead = call (Direct.read itsAhead)
+meant header = call (Direct.read itsHeader)
+meant heading = call (Direct.read itsHeading)
+meant loads = call (Direct.read itsLoads)
+meant steps = call (Direct.read itsSteps)
+meant cacheCapacity = call (Direct.onCache Cached.capacity)
+meant cacheLoads = call (Direct.onCache Cached.loads)
+meant (cachePages h key) = call (Direct.onCache (Cached.pages (headerOf h) (keyOf key)))
+meant (cacheGet h key) = call (Direct.onCache (Cached.get (headerOf h) (keyOf key)))
+meant cacheClear = call (Direct.onCache Cached.clear)
+meant (cacheFetch h key) = call (Direct.onCache (Cached.fetch (headerOf h) (keyOf key)))
+meant (cacheLoad h key failure bs) = call (Direct.onCache (Cached.load (headerOf h) (keyOf key) failure bs))
+meant (cacheLoadFrom h key Q) = call (Direct.onCache (Cached.loadFrom (headerOf h) (keyOf key) Q))
+meant (nearby h p) = call (Direct.nearby (headerOf h) (pointOf p))
+meant (current ms) =
+    cond (Roads.isMatcher ms) (call (Direct.current (matcherOf ms 0))) (atInterface (currentRead (record { number = 12; matched = Host.unmatched })))
+meant (update ms h p way) =
+    cond (Roads.isMatcher ms && leb (way .known) 1) (call (Direct.update (matcherOf ms 0) (headerOf h) (pointOf p) (Roads.headingOf way)))
+    (atInterface (updated (Roads.noMatch 12 3 noKey) ms))
+meant (predict h start horizon samples behind) =
+    cond (Roads.isGiven start) (call (Direct.predict (headerOf h) (Roads.given start) horizon samples behind))
+    (atInterface (predicted (Roads.noRoad 12 3 noKey) samples behind))
+
+abbrev pub callsBy : Meant → List Call
+callsBy (call c) = c ∷ []
+callsBy (atInterface a) = []
+
+-- one call, or none
+abbrev pub callsOf : HostCall → List Call
+callsOf c = callsBy (meant c)
 
 -- ---- its answer, as C is told it
 
@@ -219,39 +235,13 @@ told (Direct.current m) w = answerTold (exec (Direct.current m) w .answer)
 told (Direct.update m h p way) w = answerTold (exec (Direct.update m h p way) w .answer)
 told (Direct.predict h m horizon samples behind) w = answerTold (exec (Direct.predict h m horizon samples behind) w .answer)
 
--- refused at the interface: 12, and what was lent stays as it was
-abbrev pub refused : HostCall → HostAnswer
-refused (current ms) = currentRead (record { number = 12; matched = Host.unmatched })
-refused (update ms h p way) = updated (Roads.noMatch 12 3 noKey) ms
-refused (predict h start horizon samples behind) = predicted (Roads.noRoad 12 3 noKey) samples behind
-refused (fix lat lon at) = numbered 12
-refused lost = numbered 12
-refused (reset P) = numbered 12
-refused step = numbered 12
-refused (deliver failure bs) = numbered 12
-refused (stepFrom Q) = numbered 12
-refused ahead = numbered 12
-refused header = numbered 12
-refused heading = numbered 12
-refused loads = numbered 12
-refused steps = numbered 12
-refused cacheCapacity = numbered 12
-refused cacheLoads = numbered 12
-refused (cachePages h key) = numbered 12
-refused (cacheGet h key) = numbered 12
-refused cacheClear = numbered 12
-refused (cacheFetch h key) = numbered 12
-refused (cacheLoad h key failure bs) = numbered 12
-refused (cacheLoadFrom h key Q) = numbered 12
-refused (nearby h p) = numbered 12
-
-abbrev pub toldBy : List Call → HostCall → World → HostAnswer
-toldBy [] c w = refused c
-toldBy (x ∷ xs) c w = told x w
+abbrev pub toldBy : Meant → World → HostAnswer
+toldBy (call c) w = told c w
+toldBy (atInterface a) w = a
 
 -- what a call through C is to answer in a world
 abbrev pub hostTold : HostCall → World → HostAnswer
-hostTold c w = toldBy (callsOf c) c w
+hostTold c w = toldBy (meant c) w
 
 -- ---- within their types
 
@@ -283,31 +273,13 @@ TypedCall (Direct.current m) = Unit
 TypedCall (Direct.update m h p way) = Unit
 TypedCall (Direct.predict h m horizon samples behind) = Unit
 
+abbrev pub GivenBy : Meant → Type 0
+GivenBy (call c) = TypedCall c
+GivenBy (atInterface a) = Unit
+
 -- what the C types say of those arguments: `int32_t` of a fix, `uint8_t` of bytes, `uint16_t` of a key. Nothing rests on what they say of the others
 abbrev pub Given : HostCall → Type 0
-Given (fix lat lon at) = Signed lat × Signed lon
-Given (deliver failure bs) = Bytes bs
-Given (stepFrom Q) = Bytes Q
-Given (cacheLoad h key failure bs) = TypedKey (keyOf key) × Bytes bs
-Given (cacheLoadFrom h key Q) = TypedKey (keyOf key) × Bytes Q
-Given lost = Unit
-Given (reset P) = Unit
-Given step = Unit
-Given ahead = Unit
-Given header = Unit
-Given heading = Unit
-Given loads = Unit
-Given steps = Unit
-Given cacheCapacity = Unit
-Given cacheLoads = Unit
-Given (cachePages h key) = Unit
-Given (cacheGet h key) = Unit
-Given cacheClear = Unit
-Given (cacheFetch h key) = Unit
-Given (nearby h p) = Unit
-Given (current ms) = Unit
-Given (update ms h p way) = Unit
-Given (predict h start horizon samples behind) = Unit
+Given c = GivenBy (meant c)
 
 -- ---- lists
 

@@ -8,8 +8,7 @@ use lib.Ieee.{Float}
 use Rattle.terrain.specs.Typed.{Single, Typed}
 use Rattle.terrain.specs.Words.{accepted}
 use Rattle.direct.specs.Lists.{World, Call, exec, number, start, Along}
-use Rattle.terrain_lists.specs.Calls as Calls
-use Rattle.terrain_lists.specs.Calls.{HostWorld, HostCall, HostAnswer, numbered, stepped, roadRead, headerRead, headingRead, countRead, counted, lookedUp, requested, progressed, nearRead, currentRead, updated, predicted, hostExec, callsOf, hostTold, Bytes, TypedCall, left, AllTyped, AllGiven, callsIn, hostLeft, hostAnswers, hostTolds, wordsOf, hostStart, pagesIn}
+use Rattle.terrain_lists.specs.Calls.{HostWorld, HostCall, HostAnswer, numbered, stepped, roadRead, headerRead, headingRead, countRead, counted, lookedUp, requested, progressed, nearRead, currentRead, updated, predicted, hostExec, Meant, call, atInterface, meant, callsOf, hostTold, Bytes, TypedCall, left, AllTyped, AllGiven, callsIn, hostLeft, hostAnswers, hostTolds, wordsOf, hostStart, pagesIn}
 
 -- ---- within their types
 
@@ -52,18 +51,18 @@ isTwelve (updated u ms) = eqb (u .outcome) 3 && eqb (u .number) 12
 isTwelve (predicted p samples behind) = eqb (p .outcome) 3 && eqb (p .number) 12
 
 -- the call of demand 3 is itself refused with 12; or there is none, since it is refused at the interface
-abbrev pub OwnTwelve : List Call → World → Type 0
-OwnTwelve [] w = Unit
-OwnTwelve (c ∷ cs) w = number (exec c w .answer) ≡ 12
+abbrev pub OwnTwelve : Meant → World → Type 0
+OwnTwelve (call c) w = number (exec c w .answer) ≡ 12
+OwnTwelve (atInterface a) w = Unit
 
 unfoldable pub OwnTwelves : List HostCall → World → Type 0
 OwnTwelves [] w = Unit
-OwnTwelves (c ∷ cs) w = (isTwelve (hostTold c w) ≡ true → OwnTwelve (callsOf c) w) × OwnTwelves cs (left (callsOf c) w)
+OwnTwelves (c ∷ cs) w = (isTwelve (hostTold c w) ≡ true → OwnTwelve (meant c) w) × OwnTwelves cs (left (callsOf c) w)
 
 -- calls through C from words v beside demand 3's calls from a world w: they leave its engine's words and its arena, answer what its calls answer, meet accepted words alone, and answer 12 only
 -- at the interface or where the call itself is refused with 12
 pub record SameList (cs : List HostCall) (v : HostWorld) (w : World) : Type 0 where
-  pub left : hostLeft cs v ≡ wordsOf (left (callsIn cs) w)
+  pub world : hostLeft cs v ≡ wordsOf (left (callsIn cs) w)
   pub answers : hostAnswers cs v ≡ hostTolds cs w
   pub accepted : HostAlong (λ (x : HostWorld). accepted (x .words) ≡ true) cs v
   pub twelves : OwnTwelves cs w
