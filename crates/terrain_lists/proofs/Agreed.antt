@@ -1,17 +1,15 @@
 -- One call through C, on the words of an engine within its types, is the call of demand 3 on that engine, and leaves the words of what that leaves (`agreed`). The idea: such words are accepted,
 -- and the engine that is read from them is the one whose words they are. A refusal with 12 is one at the interface or the call's own (`twelve-own`).
 use Prim.Native.Nat.{ℕ}
-use mathlib.Core.Path.{_≡_, refl, sym, ap, _∙_}
-use mathlib.Core.Bool.{Bool, true, false, _&&_, cond, true≢false}
-use mathlib.Core.List.{List, [], _∷_}
+use mathlib.Core.Path.{_≡_, refl, sym}
+use mathlib.Core.Bool.{Bool, true, false, true≢false}
+use mathlib.Core.List.{List}
 use borrow.Author.Tests.{eqb-true}
 use lib.Dec.{eqb, leb}
 use lib.Ieee.{Float}
 use lib.IntN.{ℤ}
-use Rattle.pack.proofs.Laws.{and-right}
 use Rattle.cache.specs.declared.Clearing.{Clearing}
 use Rattle.cache.specs.declared.Clearing.the-variants as Clearing
-use Rattle.cache.specs.declared.Count as CacheCount
 use Rattle.cache.specs.declared.Count.the-variants as CacheCount′
 use Rattle.cache.specs.declared.Lookup.{Lookup}
 use Rattle.cache.specs.declared.Lookup.the-variants as Lookup
@@ -22,16 +20,12 @@ use Rattle.cache.specs.declared.Request.the-variants as Request
 use Rattle.cache_lists.specs.Claims as CacheClaims
 use Rattle.cache_lists.specs.Lists as Cached
 use Rattle.matcher.specs.Calls as Matching
-use Rattle.matcher.specs.Numbers as Matchers
-use Rattle.matcher.specs.Numbers.{numberOfAnswer, numberOfCurrentRead}
+use Rattle.matcher.specs.Numbers.{numberOfAnswer}
 use Rattle.matcher.specs.declared.Answer as Near
 use Rattle.matcher.specs.declared.Answer.the-variants as Near′
 use Rattle.matcher.specs.declared.CurrentRead.{CurrentRead}
 use Rattle.matcher.specs.declared.CurrentRead.the-variants as CurrentRead
-use Rattle.matcher.specs.declared.Outcome as Matched
 use Rattle.matcher.specs.declared.Outcome.the-variants as Matched′
-use Rattle.predict.specs.Numbers as Roads′
-use Rattle.predict.specs.declared.Outcome as Road
 use Rattle.predict.specs.declared.Outcome.the-variants as Road′
 use Rattle.engine.specs.Calls as Engines
 use Rattle.engine.specs.declared.Count.{Count}
@@ -45,7 +39,6 @@ use Rattle.engine.specs.declared.Status.the-variants as Status
 use Rattle.engine.specs.declared.Taken.{Taken}
 use Rattle.engine.specs.declared.Taken.the-variants as Taken
 use Rattle.terrain.specs.Host as Host
-use Rattle.terrain.specs.Parts as Parts
 use Rattle.terrain.specs.Roads as Roads
 use Rattle.terrain.specs.Words.{words, engineOf, accepted}
 use Rattle.terrain.specs.declared.host.MatchTold.{MatchTold}
@@ -55,9 +48,9 @@ use Rattle.terrain.specs.declared.records.TerrainPoint.{TerrainPoint}
 use Rattle.terrain.specs.declared.roads.TerrainHeading.{TerrainHeading}
 use Rattle.terrain.proofs.BackLaws.{engine-words, accepted-words}
 use Rattle.direct.specs.Lists as Direct
-use Rattle.direct.specs.Lists.{World, Call, Answer, exec, number, numberOfTaken, numberOfStatus, numberOfKnown, numberOfHeadingRead, numberOfCount}
+use Rattle.direct.specs.Lists.{World, Call, Answer, exec, number, numberOfKnown}
 use Rattle.terrain_lists.specs.Calls as Calls
-use Rattle.terrain_lists.specs.Calls.{HostWorld, HostCall, HostDone, hostExec, Meant, call, atInterface, meant, callsOf, answerTold, cacheTold, told, toldBy, hostTold, left, wordsOf}
+use Rattle.terrain_lists.specs.Calls.{HostCall, hostExec, Meant, call, atInterface, meant, callsOf, answerTold, cacheTold, told, toldBy, hostTold, left, wordsOf}
 use Rattle.terrain_lists.specs.Claims.{TypedWorld, isTwelve, OwnTwelve}
 
 -- ---- a call

@@ -1,13 +1,13 @@
 -- What the cache's calls leave stays within its types, over an arena that stays bytes (`stepped-typed`, `load-typed`, `load-from-typed`, `got-typed`, `looked-typed`, `cleared-typed`). The
 -- idea: a new key is one that was given or is held already, a new length is at most 49,152, and a new run begins on one of at most 96 pages.
-use Prim.Native.Nat.{ℕ, zero, suc, _+_, _-_, _*_, _%_, _<_, _≤_}
-use mathlib.Core.Path.{_≡_, refl, sym, ap, subst, _∙_}
+use Prim.Native.Nat.{ℕ, zero, suc, _+_, _-_, _*_, _<_, _≤_}
+use mathlib.Core.Path.{_≡_, refl, subst, _∙_}
 use mathlib.Core.Bool.{Bool, true, false, cond}
 use mathlib.Core.List.{List, [], _∷_, _++_}
 use native.Mathlib.Omega.{arith}
-use borrow.Author.Tests.{ltb-true, ltb-false, leb-true}
+use borrow.Author.Tests.{ltb-false}
 use lib.Dec.{eqb, ltb, leb}
-use lib.ListN.{length, getD, set, take, drop, replicate, length-set, length-replicate}
+use lib.ListN.{length, set, take, drop, replicate, length-set, length-replicate}
 use lib.Seq.{paste}
 use Rattle.pack.specs.Grid.{inGrid, locateOf, read}
 use Rattle.pack.specs.declared.Header.{Header}
@@ -19,12 +19,11 @@ use Rattle.pack.specs.declared.TileKey.{TileKey}
 use Rattle.cache.specs.Begin.{replaced, begunAt}
 use Rattle.cache.specs.Calls as Calls
 use Rattle.cache.specs.Direct.{looked}
-use Rattle.cache.specs.Evict.{fill, headOf, wholeOf, roomOf, clearAt, evictedPage, evicted, pieceSlot, headSlot, placed}
+use Rattle.cache.specs.Evict.{headOf, wholeOf, roomOf, clearAt, evictedPage, evicted, pieceSlot, headSlot, placed}
 use Rattle.cache.specs.Keys.{emptyPlace, forgotten}
-use Rattle.cache.specs.Loads.{After, over, done, more, refused, chunkLen, withdrawn, moved, forgot, withoutRun, dropped, newLoad, beganAt, began, located, entryStep, put, readySlot, withReady, readied, ended, further, chunkStep, stepped, packBytes, takes}
+use Rattle.cache.specs.Loads.{After, done, refused, chunkLen, withdrawn, moved, forgot, withoutRun, dropped, newLoad, beganAt, began, located, entryStep, put, readySlot, readied, ended, further, chunkStep, stepped, packBytes, takes}
 use Rattle.cache.specs.Lookups.{landsOn, passes, lenAt, touched, gotReady, gotAt, got, nextStep}
 use Rattle.cache.specs.Runs.{emptySlot, slotAt, kindAt, span}
-use Rattle.cache.specs.State as State
 use Rattle.cache.specs.State.{fresh, cleared, lentOk, cacheOk}
 use Rattle.cache.specs.Victim.{victim, victimIn}
 use Rattle.cache.proofs.FromLaws.{next-chunk}
@@ -54,7 +53,7 @@ use Rattle.cache.specs.declared.victim.Found.{Found}
 use Rattle.cache.specs.declared.victim.Found.the-variants as Found
 use Rattle.terrain.specs.Typed.{Word, Byte, Short, TypedKey, TypedMaybe, TypedSlot, TypedPages, TypedRing, TypedLoading, TypedPending, TypedCache}
 use Rattle.terrain_lists.specs.Calls.{Bytes}
-use Rattle.terrain_lists.proofs.Everywhere.{All, all-none, all-cons, all-set, all-drop, all-take, all-append, all-replicate, all-fill, beyond, length-fill}
+use Rattle.terrain_lists.proofs.Everywhere.{All, all-set, all-drop, all-take, all-append, all-replicate, all-fill, beyond, length-fill}
 
 -- ---- bytes
 

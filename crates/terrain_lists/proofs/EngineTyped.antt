@@ -1,16 +1,15 @@
 -- Each of the engine's calls leaves an engine within its types, and the arena bytes (`fix-typed`, `lost-typed`, `reset-typed`, `step-typed`, `deliver-typed`, `step-from-typed`). The idea: a key
 -- that is needed lies in the grid of a header within its types; a header is read of bytes.
-use Prim.Native.Nat.{ℕ, _+_, _<_, _≤_}
-use mathlib.Core.Path.{_≡_, refl, sym, ap, subst, _∙_}
+use Prim.Native.Nat.{ℕ, _+_, _<_}
+use mathlib.Core.Path.{_≡_, refl}
 use mathlib.Core.Bool.{Bool, true, false, _&&_, cond}
 use mathlib.Core.List.{List, [], _∷_}
 use native.Mathlib.Omega.{arith}
 use borrow.Author.Tests.{ltb-true}
 use lib.Dec.{eqb, ltb}
 use lib.Ieee.{Float}
-use lib.IntN.{ℤ, pos}
+use lib.IntN.{pos}
 use lib.ListN.{length, set, replicate, length-replicate}
-use Rattle.num.specs.Fold.{upTo}
 use Rattle.num.proofs.FoldLaws.{up-keeps}
 use Rattle.pack.specs.Bytes.{byteAt, i32At}
 use Rattle.pack.specs.Grid.{isPoint, inGrid, keyOf, read}
@@ -32,7 +31,6 @@ use Rattle.cache.specs.Keys.{sameKey}
 use Rattle.cache.specs.State.{fresh}
 use Rattle.cache.specs.Loads.{packBytes}
 use Rattle.cache.specs.declared.Cache.{Cache}
-use Rattle.cache.specs.declared.Loaded.{Loaded}
 use Rattle.cache.specs.declared.MaybeKey.{MaybeKey}
 use Rattle.cache.specs.declared.MaybeKey.the-variants as MaybeKey
 use Rattle.cache.specs.declared.MaybeLoading.{MaybeLoading}
@@ -42,11 +40,10 @@ use Rattle.cache.specs.declared.Pending.the-variants as Pending
 use Rattle.cache.specs.declared.Progress.{Progress}
 use Rattle.cache.specs.declared.Progress.the-variants as Progress
 use Rattle.matcher.specs.Gather as Gather
-use Rattle.matcher.specs.Gather.{Run, runOver, updateOver, updated}
+use Rattle.matcher.specs.Gather.{Run, runOver, updated}
 use Rattle.matcher.specs.declared.Current.{Current}
 use Rattle.matcher.specs.declared.Current.the-variants as Current
 use Rattle.matcher.specs.declared.Matched.{Matched}
-use Rattle.matcher.specs.declared.Matcher.{Matcher}
 use Rattle.matcher.specs.declared.Outcome as MatchOutcome
 use Rattle.matcher.specs.declared.Outcome.the-variants as Found
 use Rattle.matcher.specs.declared.Updated.{Updated}
@@ -59,10 +56,10 @@ use Rattle.predict.specs.declared.Outcome.the-variants as Road
 use Rattle.cache.specs.Reader.{plain}
 use Rattle.engine.specs.Calls as Calls
 use Rattle.engine.specs.Deliver as Deliver
-use Rattle.engine.specs.Deliver.{After, over, withPhase, failing, sectorOf, headerFailed, headerParsed, headerCame, needless, arrived, loadFailed, loadedBy, partCame, fitsHeader, needCameBy, deliveredBy, delivered}
+use Rattle.engine.specs.Deliver.{After, withPhase, failing, sectorOf, headerFailed, headerParsed, headerCame, needless, arrived, loadFailed, loadedBy, partCame, fitsHeader, needCameBy, deliveredBy, delivered}
 use Rattle.engine.specs.Fixes.{placeOf}
 use Rattle.engine.specs.Follow as Followers
-use Rattle.engine.specs.State.{unread, forgotten, refused, engineOk}
+use Rattle.engine.specs.State.{unread, forgotten, engineOk}
 use Rattle.engine.specs.Steps.{opened, awaitsRead, pendingFor, needStep, readyBy, startedBy, started, steppedBy, stepped}
 use Rattle.engine.specs.Work.{withDue, counted, matchEndedBy, matchStep, roadEndedBy, withHeights, roadStep, roadOff, roadDueBy, atFixBy, atFix, workedBy, worked}
 use Rattle.engine.specs.declared.Changed.{Changed}

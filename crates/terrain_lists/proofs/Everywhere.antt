@@ -1,7 +1,7 @@
 -- What holds of every element of a list, and of what stands past its end: kept by storing, cutting, joining and filling. The idea: the element past the end has it too, so that no bound is
 -- asked for; within a bound it is all that the types say (`within`, `beyond`).
 use Prim.Native.Nat.{ℕ, zero, suc, _+_, _<_, _≤_}
-use mathlib.Core.Path.{_≡_, sym, subst, ap, _∙_}
+use mathlib.Core.Path.{_≡_, sym, subst, _∙_}
 use mathlib.Core.Logic.{⊎-elim}
 use mathlib.Core.List.{List, [], _∷_, _++_}
 use native.Mathlib.Omega.{arith}

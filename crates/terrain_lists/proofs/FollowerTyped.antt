@@ -1,8 +1,8 @@
 -- What the engine holds beside the cache stays within its types: the fixes and the heading (`seen-typed`), what is due, and the road that is published or emptied. The idea: a heading is a bearing
 -- or the one before, and a road's numbers are its match's and its prediction's.
 use Prim.Native.Nat.{ℕ, _+_, _-_, _<_, _≤_}
-use mathlib.Core.Path.{_≡_, refl, sym, ap, subst, _∙_}
-use mathlib.Core.Bool.{Bool, true, false, _||_, cond}
+use mathlib.Core.Path.{_≡_, refl, _∙_}
+use mathlib.Core.Bool.{Bool, true, false, cond}
 use mathlib.Core.List.{List, _++_}
 use native.Mathlib.Omega.{arith}
 use borrow.Author.Tests.{ltb-true}
@@ -10,13 +10,11 @@ use lib.Dec.{ltb}
 use lib.IntN.{ℤ, pos}
 use lib.Ieee.{Float, binary32}
 use lib.Ieee.Fits.{mul-fits}
-use lib.ListN.{length, getD, set, take, drop, replicate, length-append, length-take, length-drop, length-set, length-replicate}
-use Rattle.num.specs.Order.{min}
+use lib.ListN.{length, getD, take, drop, replicate, length-append, length-take, length-drop, length-set, length-replicate}
 use Rattle.pack.specs.declared.TileKey.{TileKey}
 use Rattle.angle.specs.Cosine.{lonScaleUm}
 use Rattle.geo.specs.Flat.{whole, metresOf}
 use Rattle.geo.specs.declared.Point.{Point}
-use Rattle.cache.specs.declared.MaybeKey.the-variants as MaybeKey
 use Rattle.cache.specs.declared.victim.Found.{Found}
 use Rattle.cache.specs.declared.victim.Found.the-variants as Found
 use Rattle.matcher.specs.Calls as Matching
@@ -34,7 +32,7 @@ use Rattle.engine.specs.Fixes.{noPoint, shifted, push, movedFrom, placeOf, cour
 use Rattle.engine.specs.Follow as Followers
 use Rattle.engine.specs.Publish.{nothingAhead, forgotten, withoutMatch, withMatch}
 use Rattle.engine.specs.State.{reloadLimit}
-use Rattle.engine.specs.Work.{withDue, withAhead, withMatcher, counted, isMatched, emptied, matchingOff, offMap, asking, mayAsk, isOther, isTime, matchDone, matchedBy, matched, matchAsks, noRoad, roadDone, published, roadAsks, matchingOn, rematch, withHeights}
+use Rattle.engine.specs.Work.{withDue, withAhead, withMatcher, counted, isMatched, emptied, offMap, asking, mayAsk, matchDone, matchedBy, matched, matchAsks, noRoad, roadDone, published, roadAsks, rematch, withHeights}
 use Rattle.engine.specs.declared.Ahead.{Ahead}
 use Rattle.engine.specs.declared.Due.{Due}
 use Rattle.engine.specs.declared.Fix.{Fix}

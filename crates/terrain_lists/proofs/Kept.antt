@@ -1,10 +1,8 @@
 -- Every call of demand 3 leaves an engine within its types, over an arena of bytes (`typed-kept`); so does every list of them from a fresh engine (`typed-always`).
 use Prim.Native.Nat.{ℕ, _≤_}
-use mathlib.Core.Path.{_≡_, refl, sym, subst}
 use mathlib.Core.Bool.{Bool, true, false, _&&_, cond}
 use mathlib.Core.List.{List, [], _∷_}
 use native.Mathlib.Omega.{arith}
-use lib.Dec.{eqb}
 use lib.Ieee.{Float}
 use lib.IntN.{ℤ}
 use lib.ListN.{length}
@@ -25,10 +23,10 @@ use Rattle.matcher.specs.declared.Updated.{Updated}
 use Rattle.predict.specs.Predict as Predict
 use Rattle.predict.specs.Predict.{predictOver, predictedIn}
 use Rattle.engine.specs.declared.Engine.{Engine}
-use Rattle.terrain.specs.Typed.{Word, Single, TypedCache, Typed}
+use Rattle.terrain.specs.Typed.{Single, TypedCache, Typed}
 use Rattle.direct.specs.Lists as Direct
 use Rattle.direct.specs.Lists.{World, Call, exec, start, Along}
-use Rattle.terrain_lists.specs.Calls.{Bytes, TypedCached, TypedCall, left, AllTyped}
+use Rattle.terrain_lists.specs.Calls.{Bytes, TypedCached, left, AllTyped}
 use Rattle.terrain_lists.specs.Claims.{TypedWorld, TypedKept, TypedAlways}
 use Rattle.terrain_lists.proofs.CacheTyped.{TypedAfter, load-typed, load-from-typed, get-typed, clear-typed}
 use Rattle.terrain_lists.proofs.EngineTyped.{Leaves, new-typed, fix-typed, lost-typed, reset-typed, step-typed, deliver-typed, step-from-typed, after-match, after-road}

@@ -1,22 +1,20 @@
 -- A list of calls through C is a list of demand 3 (`words-list`), so that what is proved of those holds of these (`host-safe`, `host-direct`, `host-open`). The idea: induction over the list,
 -- one call by one, in worlds whose engine is within its types.
-use Prim.Native.Nat.{ℕ, _*_, _≤_}
+use Prim.Native.Nat.{ℕ, _≤_}
 use mathlib.Core.Path.{_≡_, refl, sym, ap, subst, _∙_}
 use mathlib.Core.Bool.{true}
 use mathlib.Core.List.{List, [], _∷_, _++_}
 use native.Mathlib.Omega.{arith}
 use lib.Ieee.{Float}
-use lib.ListN.{length}
 use Rattle.engine.specs.Calls as Engines
 use Rattle.terrain.specs.Host as Host
-use Rattle.terrain.specs.Typed.{Single}
 use Rattle.terrain.specs.Words.{accepted}
 use Rattle.terrain.proofs.BackLaws.{accepted-words}
 use Rattle.direct.specs.Claims.{Safe, Open, AllFair, tolds, shows, madeOf}
 use Rattle.direct.specs.Direct.{directly, newDirect, directShows}
 use Rattle.direct.specs.Lists.{World, Call, exec, start, Along}
 use Rattle.direct.proofs.Claim.{all-safe, all-direct, all-open}
-use Rattle.terrain_lists.specs.Calls.{HostWorld, HostCall, HostAnswer, HostDone, hostExec, Meant, call, atInterface, meant, callsBy, callsOf, hostTold, Bytes, GivenBy, left, AllTyped, AllGiven, callsIn, hostLeft, hostAnswers, hostTolds, wordsOf, hostStart, pagesIn}
+use Rattle.terrain_lists.specs.Calls.{HostWorld, HostCall, HostAnswer, HostDone, hostExec, Meant, call, atInterface, meant, callsBy, callsOf, hostTold, GivenBy, left, AllTyped, AllGiven, callsIn, hostLeft, hostAnswers, hostTolds, wordsOf, hostStart, pagesIn}
 use Rattle.terrain_lists.specs.Claims.{TypedWorld, HostAlong, OwnTwelves, SameList, WordsList}
 use Rattle.terrain_lists.proofs.Agreed.{agreed, twelve-own}
 use Rattle.terrain_lists.proofs.Kept.{along-typed, start-typed}

@@ -7,13 +7,12 @@ use mathlib.Core.List.{List}
 use native.Mathlib.Omega.{arith}
 use lib.Dec.{ltb}
 use lib.IntN.{ℤ, pos, negsuc, _+ℤ_, _-ℤ_}
-use lib.Ieee.{Float, binary32, add, sub, mul, div, lt, le, ofInt, toSigned}
+use lib.Ieee.{Float, binary32, add, mul, lt, le, ofInt, toSigned}
 use lib.Ieee.Casts.{toUnsigned-lt}
 use lib.Ieee.Fits.{cond-fits, add-fits, mul-fits, sub-fits, div-fits}
-use lib.ListN.{getD, set, drop, replicate}
+use lib.ListN.{drop}
 use lib.Signed.{ltZ}
 use borrow.Author.Tests.{ltb-true}
-use Rattle.num.specs.Order as Order
 use Rattle.num.proofs.FoldLaws.{up-keeps}
 use Rattle.pack.specs.declared.Header.{Header}
 use Rattle.pack.specs.declared.TileKey.{TileKey}
@@ -21,8 +20,7 @@ use Rattle.pack.proofs.Laws.{u16-below}
 use Rattle.pack.proofs.Signed.{up, dn, lt-false}
 use Rattle.tile.specs.Layout as Layout
 use Rattle.tile.specs.declared.Edge.{Edge}
-use Rattle.tile.specs.declared.TileId.{TileId}
-use Rattle.geo.specs.Flat.{whole, metresOf, lengthOf, fractionOf, projectOf}
+use Rattle.geo.specs.Flat.{whole, metresOf, fractionOf, projectOf}
 use Rattle.geo.specs.declared.Metres.{Metres}
 use Rattle.geo.specs.declared.Point.{Point}
 use Rattle.geo.specs.declared.Projected.{Projected}
@@ -38,10 +36,10 @@ use Rattle.cache.specs.declared.victim.Found.the-variants as Found
 use Rattle.matcher.specs.Calls as Calls
 use Rattle.matcher.specs.Choose.{leastOf, sameEdge, keptAt, beaten, contestedBy, contested, held, keptBy, chosenBy, pastBy, pastNode}
 use Rattle.matcher.specs.Gather.{Run, lookStep, keyStep, runStep, noRun, runTo, matchingBy, queryOf, runOver, updateOver}
-use Rattle.matcher.specs.Keeping.{noCandidate, noneKept, candidateIn, replaced, dearestOf, insert}
+use Rattle.matcher.specs.Keeping.{noCandidate, noneKept, candidateIn, dearestOf, insert}
 use Rattle.matcher.specs.Near.{keyAt, nearOf}
-use Rattle.matcher.specs.Scan.{origin, rejected, isCloser, nearestAfter, segmentStep, scanned, scan, pointOf, alongStep, alongTo}
-use Rattle.matcher.specs.Score.{heldHeight, height, heightAt, matchedAt, candidateAt}
+use Rattle.matcher.specs.Scan.{origin, rejected, isCloser, segmentStep, scanned, pointOf, alongStep, alongTo}
+use Rattle.matcher.specs.Score.{heldHeight, height, candidateAt}
 use Rattle.matcher.specs.Settle.{confidence, direction, sameRun, runFrom, ridden, settled, more, missed, matchedBy, matched}
 use Rattle.matcher.specs.Tile.{keptWith, edgeStep, search}
 use Rattle.matcher.specs.declared.Candidate.{Candidate}

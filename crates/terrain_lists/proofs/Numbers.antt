@@ -1,20 +1,14 @@
 -- Numbers within their types: what the operations give is a single float, what is read of bytes has its bits, a key of the grid has 16, and a held height 32.
-use Prim.Native.Nat.{ℕ, zero, suc, _+_, _-_, _*_, _/_, _%_, _^_, _<_, _≤_, compare}
-use mathlib.Core.Path.{_≡_, refl, sym, subst}
+use Prim.Native.Nat.{ℕ, zero, suc, _+_, _-_, _*_, _/_, _^_, _<_, _≤_, compare}
+use mathlib.Core.Path.{_≡_, refl}
 use mathlib.Core.Bool.{Bool, true, false, _&&_, cond}
-use mathlib.Core.List.{List}
 use native.Mathlib.Omega.{arith}
-use native.Mathlib.Nat.{lt-of-le-of-lt, le-trans}
-use lib.Dec.{T, ltb}
+use lib.Dec.{ltb}
 use lib.IntN.{ℤ, pos, negsuc}
-use lib.Ieee.{Float, nan, inf, fin, binary32, fits, isNan, lt, eq, ofInt, ofBits, add, mul, units, odd, size, nearest, up, down, low}
-use lib.Ieee.Bits.{ofBits-fits}
-use lib.Ieee.Casts.{toUnsigned-lt, toSigned-in}
-use lib.Ieee.Fits.{odd-fits, cond-fits, nan-fits, inf-fits, add-fits, mul-fits, sub-fits, div-fits, ofInt-fits, round-fits, nearest-le, kept-lt}
-use lib.ListN.{getD}
-use lib.Signed.{mag}
+use lib.Ieee.{Float, nan, inf, fin, binary32, isNan, lt, eq, mul, units, odd, size, nearest, up, down}
+use lib.Ieee.Fits.{odd-fits, cond-fits, nan-fits, inf-fits, add-fits, ofInt-fits, round-fits, nearest-le, kept-lt}
 use borrow.Author.Tests.{ltb-true, ltb-false}
-use Rattle.num.specs.Cast.{low16, signed16, lowBits}
+use Rattle.num.specs.Cast.{low16, lowBits}
 use Rattle.num.specs.Order as Order
 use Rattle.num.specs.Root.{squareRoot, nearRoot, wholeRoot, square}
 use Rattle.angle.specs.Bearing as Bearing
@@ -26,7 +20,7 @@ use Rattle.pack.specs.Grid.{inGrid}
 use Rattle.pack.specs.declared.Header.{Header}
 use Rattle.pack.specs.declared.TileKey.{TileKey}
 use Rattle.pack.proofs.Laws.{row-below, col-below}
-use Rattle.terrain.specs.Typed.{Short, Signed, Height, Single, TypedKey, TypedHeader}
+use Rattle.terrain.specs.Typed.{Signed, Height, Single, TypedKey, TypedHeader}
 
 -- ---- floats
 

@@ -2,13 +2,13 @@
 -- `predict-keeps`; those of the engine's calls are crate terrain's KeepLaws). A road that is refused with 10 has moved clock and ages, as document 01 says. The idea: where words are no engine's it is
 -- so by definition; else the library's own refused call leaves the cache, and the words of an engine with its own cache are the engine's words.
 use Prim.Native.Nat.{ℕ, _+_}
-use mathlib.Core.Path.{_≡_, refl, sym, ap, subst, _∙_}
+use mathlib.Core.Path.{_≡_, refl, ap, _∙_}
 use mathlib.Core.Bool.{Bool, true, false, _&&_, not, cond}
 use mathlib.Core.Logic.{_≢_}
 use mathlib.Core.List.{List, []}
 use native.Mathlib.Omega.{arith}
-use borrow.Author.Tests.{eqb-true, eq-eqb}
-use lib.Dec.{eqb, ltb, leb}
+use borrow.Author.Tests.{eq-eqb}
+use lib.Dec.{eqb, ltb}
 use lib.Ieee.{Float}
 use lib.IntN.{ℤ, pos}
 use lib.ListN.{length}
@@ -23,7 +23,6 @@ use Rattle.geo.specs.declared.Point.{Point}
 use Rattle.cache.specs.Begin.{begun}
 use Rattle.cache.specs.Calls as Caches
 use Rattle.cache.specs.Direct.{Look, ready, missing, absent, stale, look, looked}
-use Rattle.cache.specs.Loads as Loads
 use Rattle.cache.specs.Loads.{After, over, done, refused, chunkLen, dropped, beganAt, began, located, entryStep, chunkStep, stepped, packBytes, takes}
 use Rattle.cache.specs.Lookups.{landsOn, passes, lenAt, touched, gotReady, gotAt, got, nextStep}
 use Rattle.cache.specs.Reader.{Reader, plain}
@@ -34,7 +33,6 @@ use Rattle.cache.specs.declared.Clearing.{Clearing}
 use Rattle.cache.specs.declared.Clearing.the-variants as Clearing
 use Rattle.cache.specs.declared.Got.{Got}
 use Rattle.cache.specs.declared.Loaded.{Loaded}
-use Rattle.cache.specs.declared.Loading.{Loading}
 use Rattle.cache.specs.declared.Lookup.{Lookup}
 use Rattle.cache.specs.declared.Lookup.the-variants as Lookup
 use Rattle.cache.specs.declared.Pages.{Pages}
@@ -88,7 +86,7 @@ use Rattle.predict.specs.declared.ridden.Behind.{Behind}
 use Rattle.terrain.specs.Parts as Parts
 use Rattle.terrain.specs.Parts.{cacheOf, after}
 use Rattle.terrain.specs.Roads as Roads
-use Rattle.terrain.specs.Words.{accepted, sameWords, matcherOf, matcherWords}
+use Rattle.terrain.specs.Words.{accepted, matcherOf, matcherWords}
 use Rattle.terrain.specs.declared.host.MatchTold.{MatchTold}
 use Rattle.terrain.specs.declared.roads.TerrainHeading.{TerrainHeading}
 use Rattle.terrain.proofs.PartLaws.{after-kept}

@@ -1,7 +1,7 @@
 -- A road's heights and figures stay within their types, over any reader (`forecast-typed`): every height that is written is held to 16 bits or cut to them, and every distance is 0, the horizon,
 -- the metres ridden or a result of a float operation. The idea: a walk leaves its track alone but along an edge.
 use Prim.Native.Nat.{ℕ, zero, suc, _+_, _-_, _<_}
-use mathlib.Core.Path.{_≡_, refl, sym, ap, subst, _∙_}
+use mathlib.Core.Path.{_≡_, refl, sym, subst, _∙_}
 use mathlib.Core.Bool.{Bool, true, false, _&&_, not, cond}
 use mathlib.Core.List.{List}
 use native.Mathlib.Omega.{arith}
@@ -31,17 +31,16 @@ use Rattle.predict.specs.Meets.{meet, budget}
 use Rattle.predict.specs.Outgoing.{lastOf}
 use Rattle.predict.specs.Start.{firstOf, place}
 use Rattle.predict.specs.Predict as Start
-use Rattle.predict.specs.Predict.{walkFrom, prediction, outcomeBy, outcome, Forecast, forecastOf, tripOf, roadOver, startLook, directedOver, forecastOver}
+use Rattle.predict.specs.Predict.{walkFrom, prediction, outcomeBy, Forecast, forecastOf, tripOf, roadOver, startLook, directedOver, forecastOver}
 use Rattle.predict.specs.Ridden.{Backs, Written, backStep, backNext, backsTo, backs, lastSample, noMark, ridden}
 use Rattle.predict.specs.Samples.{Pushed, sampleAt, heightAt, pushFrom, pushed}
 use Rattle.predict.specs.Start.{startOk}
 use Rattle.predict.specs.Vertex as Vertex
 use Rattle.predict.specs.Vertex.{Along, stepOf, passed, advanced, vertexStep, vertices, toEnd}
 use Rattle.predict.specs.Walk.{withEnding, moved, reached, taken, onRoad, throughEdge, withEntry, entered, isRound, turned, incomingOf}
-use Rattle.predict.specs.Walk.{nextLook, Run, takenBy, decidedOver, onwardBy, onwardOver, waysOver, crossedOver, goesOn, legOf, along}
+use Rattle.predict.specs.Walk.{nextLook, Run, takenBy, decidedOver, onwardBy, waysOver, crossedOver, goesOn, legOf, along}
 use Rattle.predict.specs.Walk.{driven, edgeLook, edgeStep, walkTo, walkOver}
 use Rattle.predict.specs.declared.Decision.{Decision}
-use Rattle.predict.specs.declared.End.the-variants as End
 use Rattle.predict.specs.declared.Ending.{Ending}
 use Rattle.predict.specs.declared.Ending.the-variants as Ending
 use Rattle.predict.specs.declared.Mark.{Mark}

@@ -2,9 +2,9 @@
 -- (Host, Parts and Roads of crate terrain), and no others. Each call gets the words and the arena that the last one left. Beside each call the call of demand 3 that it is (`meant`).
 -- `terrain_new` and `terrain_matcher_reset` take no state and make one, and `terrain_from_e7` takes none: they are no calls of a list.
 use Prim.Native.Nat.{ℕ, _/_, min}
-use mathlib.Core.Bool.{Bool, true, false, _&&_, cond}
+use mathlib.Core.Bool.{_&&_, cond}
 use mathlib.Core.List.{List, [], _∷_, _++_}
-use lib.Dec.{eqb, leb}
+use lib.Dec.{leb}
 use lib.IntN.{ℤ}
 use lib.Ieee.{Float}
 use lib.ListN.{length, getD}
