@@ -2,7 +2,7 @@
 -- load that has its run, no run that is neither ready nor the load's, an open fetch that the state makes. It has in it what number 12 tests
 -- (`inv-ok`), a fresh cache has it, and each change of the state keeps it. So live runs lie within the pages and apart (`inv-apart`).
 use Prim.Native.Nat.{ℕ, _+_, _-_, _<_, _≤_}
-use mathlib.Core.Path.{_≡_, refl, sym, ap, _∙_}
+use mathlib.Core.Path.{_≡_, refl, ap, _∙_}
 use mathlib.Core.Bool.{Bool, true, false, cond}
 use mathlib.Core.List.{List}
 use mathlib.Core.Logic.{inl, ⊎-elim}
@@ -28,14 +28,15 @@ use Rattle.cache.specs.declared.Pending.{Pending}
 use Rattle.cache.specs.declared.Pending.the-variants as Pending
 use Rattle.cache.specs.declared.look.Landing.{Landing}
 use Rattle.cache.specs.declared.look.Landing.the-variants as Landing
-use Rattle.cache.specs.Keys.{emptyPlace, readyAt, forgotten}
+use Rattle.cache.specs.declared.next.Next.the-variants as Next
+use Rattle.cache.specs.Keys.{emptyPlace, isReady, readyAt, forgotten}
 use Rattle.cache.specs.Lookups.{landsOn, touched, nextAt, nextStep}
 use Rattle.cache.specs.State.{fresh, cleared, tileLoads, loadsOk, wantsChunkOf, pendingFits, pendingOk, isEntry, isChunk, stateOk}
 use Rattle.cache.specs.Loads.{chunkLen, withdrawn, moved, forgot, withoutRun, dropped, newLoad, readySlot, withReady, readied, further}
 use Rattle.cache_lists.specs.Claims.{LoadsAt, Live, Apart, ShortLoad}
-use Rattle.cache_lists.proofs.Lookups.{key-same}
+use Rattle.cache_lists.proofs.Lookups.{key-same, lowest-found, chunk-unready}
 use Rattle.cache_lists.proofs.Stores.{getD-same}
-use Rattle.cache_lists.proofs.Live.{LiveIn, none-live, evicted-live, replaced-live, ready-live, MarksIn, none-marked, evicted-marked, replaced-marked, ready-marked}
+use Rattle.cache_lists.proofs.Live.{LiveIn, none-live, evicted-live, replaced-live, ready-live, MarksIn, none-marked, evicted-marked, replaced-marked, ready-marked, SlotReady, OnceIn, Fewer, Freshly, none-once, fewer-once, either-fewer, evicted-fewer, replaced-fewer, ready-once, ready-freshly}
 
 -- ---- the invariant
 
@@ -52,18 +53,19 @@ abbrev pub LoadIn : List Slot → MaybeLoading → Type 0
 LoadIn s MaybeLoading.Nothing = Unit
 LoadIn s (MaybeLoading.Tile l) = Loads s l
 
--- well-formed, and a page that is marked ready starts a run. Number 12 doesn't ask the latter, and no call leaves anything else
+-- well-formed, a page that is marked ready starts a run, and a key has one ready run. Number 12 doesn't ask the last two, and no call leaves anything else
 pub record InvPages (g : Pages) : Type 0 where
   pub size : length (g .slots) ≡ 96
   pub small : g .count ≤ 96
   pub good : Good (g .slots) (g .count)
   pub marks : MarksIn (g .slots)
+  pub once : OnceIn (g .slots)
 
 pub sound-in : (g : Pages) → InvPages g → Sound g
 sound-in g f = record { size = f .size; small = f .small; good = f .good }
 
-pages-in : (g : Pages) → Sound g → MarksIn (g .slots) → InvPages g
-pages-in g f m = record { size = f .size; small = f .small; good = f .good; marks = m }
+pages-in : (g : Pages) → Sound g → MarksIn (g .slots) → OnceIn (g .slots) → InvPages g
+pages-in g f m o = record { size = f .size; small = f .small; good = f .good; marks = m; once = o }
 
 pub record Inv (c : Cache) : Type 0 where
   pub pages : InvPages (c .pages)
@@ -119,6 +121,7 @@ pages-empty used count clock h = record {
   small = h;
   good = λ (p : ℕ). let z : slotAt (replicate 96 emptySlot) p ≡ emptySlot = getD-same 96 p emptySlot in rw z tt;
   marks = none-marked;
+  once = none-once;
 }
 
 pub inv-fresh : (n : ℕ) → n ≤ 96 → Inv (fresh n)
@@ -169,7 +172,7 @@ touched-fits c i Pending.Chunk = touched-chunk c i (c .loading)
 pub inv-touched : (c : Cache) (i : ℕ) → Inv c → Inv (touched c i)
 unfolding touched
 inv-touched c i f = record {
-  pages = record { size = f .pages .size; small = f .pages .small; good = f .pages .good; marks = f .pages .marks };
+  pages = record { size = f .pages .size; small = f .pages .small; good = f .pages .good; marks = f .pages .marks; once = f .pages .once };
   places = f .places;
   ring = f .ring;
   live = f .live;
@@ -227,6 +230,7 @@ module _ (g : Pages) where
       let s : Sound g = sound-in g f in
       let b : l .slot + 1 ≤ g .count = first-within l f r in
       pages-in (evicted 1 (l .slot) g) (sound-evicted 1 (l .slot) g s b) (evicted-marked 1 (l .slot) g s b (f .marks))
+      (fewer-once (g .slots) (evicted 1 (l .slot) g .slots) (evicted-fewer 1 (l .slot) g s b) (f .once))
 
   live-without : (x : MaybeLoading) → InvPages g → LoadIn (g .slots) x → LiveIn (g .slots) x → LiveIn (withoutRun x g .slots) MaybeLoading.Nothing
   live-without MaybeLoading.Nothing f r a = a
@@ -243,6 +247,11 @@ inv-dropped c f =
     (pages-without (c .pages) (c .loading) (f .pages) (f .load))
     (live-without (c .pages) (c .loading) (f .pages) (f .load) (f .live))
     tt
+
+-- what is ready then was ready before
+pub dropped-fewer : (c : Cache) → Inv c → Fewer (c .pages .slots) (dropped c .pages .slots)
+unfolding dropped moved
+dropped-fewer c f h r = either-fewer (slotAt (c .pages .slots) h) _ (without-either (c .pages) (c .loading) (f .pages) (f .load) h) r
 
 pub dropped-load : (c : Cache) → dropped c .loading ≡ MaybeLoading.Nothing
 unfolding dropped moved
@@ -262,7 +271,8 @@ pub inv-began : (c : Cache) (s : ℕ) (key : TileKey) (offset len : ℕ) → Inv
 inv-began c s key offset len f e fits h b =
     let sound : Sound (c .pages) = sound-in (c .pages) (f .pages) in
     inv-moved c (replaced (c .pages) s key len) (MaybeLoading.Tile (newLoad key s offset len)) f
-    (pages-in (replaced (c .pages) s key len) (sound-replaced (c .pages) s key len sound fits) (replaced-marked (c .pages) s key len sound fits (f .pages .marks)))
+    (pages-in (replaced (c .pages) s key len) (sound-replaced (c .pages) s key len sound fits) (replaced-marked (c .pages) s key len sound fits (f .pages .marks))
+    (fewer-once (c .pages .slots) (replaced (c .pages) s key len .slots) (replaced-fewer (c .pages) s key len sound fits) (f .pages .once)))
     (replaced-live (c .pages) s key offset len sound fits (rw e at (f .live)))
     (loads-new (c .pages) s key len sound fits offset h b)
 
@@ -297,14 +307,29 @@ module _ (c : Cache) (l : Loading) (f : Inv c) (e : c .loading ≡ MaybeLoading.
       (omega (arith, first-within (c .pages) l (f .pages) r))
       (r .run) (r .run) refl
 
-  pub inv-readied : Inv (readied c l)
+  -- the key of a load that goes on is not ready
+  unready : nextStep c (l .key) ≡ Next.Chunk l → (i : ℕ) → SlotReady (slotAt (c .pages .slots) i) (l .key) → ⊥
+  unfolding readyAt isReady
+  unready q i ready =
+      let run : kindAt (c .pages .slots) i ≡ run = ready-run (c .pages) (f .pages) i (ready .0) in
+      chunk-unready c (l .key) l q
+      (lowest-found (λ (j : ℕ). isReady (l .key) (slotAt (c .pages .slots) j)) (c .pages .count) i
+      (omega (arith, inside (c .pages .slots) (c .pages .count) (f .pages .good) i run, span-pos (slotAt (c .pages .slots) i .len)))
+      (rw (ready .0, ready .1) (key-same (l .key))))
+
+  pub readied-freshly : nextStep c (l .key) ≡ Next.Chunk l → Freshly (c .pages .slots) (readied c l .pages .slots)
   unfolding readied touched moved
-  inv-readied = record {
+  readied-freshly q = ready-freshly (c .pages .slots) l below (r .key) (unready q)
+
+  pub inv-readied : nextStep c (l .key) ≡ Next.Chunk l → Inv (readied c l)
+  unfolding readied touched moved
+  inv-readied q = record {
     pages = record {
       size = sound-ready .size;
       small = sound-ready .small;
       good = sound-ready .good;
       marks = ready-marked (c .pages .slots) l below (r .run) (f .pages .marks);
+      once = ready-once (c .pages .slots) l below (r .key) (unready q) (f .pages .once);
     };
     places = f .places;
     ring = f .ring;

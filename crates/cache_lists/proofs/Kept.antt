@@ -30,7 +30,8 @@ use Rattle.cache.specs.declared.Loading.{Loading}
 use Rattle.cache.specs.declared.MaybeLoading.{MaybeLoading}
 use Rattle.cache.specs.declared.MaybeLoading.the-variants as MaybeLoading
 use Rattle.cache.specs.Keys.{emptyPlace, keyAt, forgotten}
-use Rattle.cache.specs.Lookups.{runBytes, passes, touched}
+use Rattle.cache.specs.declared.next.Next.the-variants as Next
+use Rattle.cache.specs.Lookups.{runBytes, passes, touched, nextStep}
 use Rattle.cache.specs.State.{fresh, cleared}
 use Rattle.cache.specs.Direct.{ready, missing, directTile, direct}
 use Rattle.cache.specs.Loads.{chunkLen, moved, forgot, dropped, newLoad, put, readySlot, readied, further}
@@ -226,10 +227,10 @@ module _ (P : List ℕ) (h : Header) (n : ℕ) where
       unfolding passes
       passes-is = rw (all-bytes, filled-is, paste-size arena at bs (chunkLen l) fits size, le-leb (l .slot * 8192 + l .len) (length arena) long)
 
-      pub kept-readied : passes filled (l .slot) (l .len) (l .key) (h .tile) ≡ true → Kept (readied c l) filled
+      pub kept-readied : nextStep c (l .key) ≡ Next.Chunk l → passes filled (l .slot) (l .len) (l .key) (h .tile) ≡ true → Kept (readied c l) filled
       unfolding readied touched moved
-      kept-readied p = record {
-        inv = inv-readied c l (f .inv) is;
+      kept-readied next p = record {
+        inv = inv-readied c l (f .inv) is next;
         count = f .count;
         slots = λ (i : ℕ). set-cases (SlotHolds filled i) (c .pages .slots) (l .slot) i (readySlot (slotAt (c .pages .slots) (l .slot))) emptySlot
             (now i) (kept-put .slots i) (waits filled i emptySlot refl);

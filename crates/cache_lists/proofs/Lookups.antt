@@ -110,6 +110,16 @@ NextIs c key Next.NoPages = c .pages .count ≡ 0
 NextIs c key Next.Entry = c .pages .count ≡ 0 → ⊥
 NextIs c key (Next.Chunk l) = (c .loading ≡ MaybeLoading.Tile l) × (l .key ≡ key)
 
+-- a chunk is read towards a key that no ready run has
+pub chunk-unready : (c : Cache) (key : TileKey) (l : Loading) → nextStep c key ≡ Next.Chunk l → isFound (readyAt (c .pages) key) ≡ true → ⊥
+unfolding nextStep landsOn
+chunk-unready c key l q found = by (inRing (c .missing) key) (readyAt (c .pages) key) found q
+  where
+    by : (t : Bool) (x : Found) → isFound x ≡ true → nextAt (cond t Landing.Missing (landedOn x)) c key ≡ Next.Chunk l → ⊥
+    by true x e q = let z : _≡_ {A = ℕ} 0 1 = cc in omega arith
+    by false (Found.At i) e q = let z : _≡_ {A = ℕ} 0 1 = cc in omega arith
+    by false Found.Nothing e q = true≢false (sym e)
+
 pub next-is : (c : Cache) (key : TileKey) → NextIs c key (nextStep c key)
 unfolding nextStep
 next-is c key = at (landsOn c key) (landing c key)

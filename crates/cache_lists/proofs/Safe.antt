@@ -1,7 +1,8 @@
 -- With no premise: the state's invariant holds along every list of calls, and each call is safe. By the ways that a call goes.
 use Prim.Native.Nat.{ℕ, _+_, _*_, _≤_}
 use mathlib.Core.Path.{_≡_, refl, sym, ap, _∙_}
-use mathlib.Core.Bool.{Bool, true, false, _&&_, cond}
+use mathlib.Core.Bool.{Bool, true, false, _&&_, cond, true≢false}
+use mathlib.Core.Logic.{inl}
 use mathlib.Core.List.{List, [], _∷_}
 use native.Mathlib.Nat.{add-zero}
 use native.Mathlib.Omega.{arith}
@@ -13,7 +14,8 @@ use Rattle.pack.specs.declared.Range.the-variants as Range
 use Rattle.pack.specs.declared.TileKey.{TileKey}
 use Rattle.pack.specs.declared.Header.{Header}
 use Rattle.pack.proofs.Laws.{located}
-use Rattle.cache.specs.Runs.{span}
+use Rattle.cache.specs.Runs.{emptySlot, span}
+use Rattle.cache.specs.Begin.{replaced}
 use Rattle.cache.proofs.Below.{and-left, and-right}
 use Rattle.cache.proofs.VictimLaws.{victim-is}
 use Rattle.cache.specs.declared.Cache.{Cache}
@@ -24,20 +26,22 @@ use Rattle.cache.specs.declared.Lookup.{Lookup}
 use Rattle.cache.specs.declared.Lookup.the-variants as Lookup
 use Rattle.cache.specs.declared.next.Next.{Next}
 use Rattle.cache.specs.declared.next.Next.the-variants as Next
-use Rattle.cache.specs.Lookups.{runBytes, passes, lenAt, nextStep}
+use Rattle.cache.specs.Lookups.{runBytes, passes, lenAt, touched, nextStep}
 use Rattle.cache.specs.State.{cleared, lentOk, cacheOk}
 use Rattle.cache.specs.Calls as Cached
 use Rattle.cache.specs.declared.Request.{Request}
 use Rattle.cache.specs.declared.Request.the-variants as Request
 use Rattle.cache.specs.declared.Progress.the-variants as Progress
-use Rattle.cache.specs.Loads.{After, over, refused, fetched, readLen, takes, dropped, chunkLen, stepped}
+use Rattle.cache.specs.Loads.{After, over, refused, fetched, readLen, takes, moved, forgot, dropped, further, chunkLen, stepped}
 use Rattle.tile.specs.Parse.{accepts}
 use Rattle.cache_lists.specs.Lists.{World, Call, capacity, loads, pages, get, fetch, load, loadFrom, clear, found, loaded, exec, Along}
-use Rattle.cache_lists.specs.Claims.{refusedProgress, Settles, Passed, HandedOut, Read, readsOf, reads, bytesOf, TakesOnly, SameAt, SameFor, LentOnly, Written, LeavesShort, Safe}
-use Rattle.cache_lists.proofs.Steps.{Gets, denied, ringed, unknown, handed, get-is, came-loading, came-key, Step, refuses, knows, uses, noPages, fails, lacks, begins, goesOn, readies, spoils, load-is, from-is}
-use Rattle.cache_lists.proofs.Inv.{Inv, inv-short, inv-apart, inv-cleared, inv-touched, inv-forgot, inv-dropped, dropped-load, inv-began, inv-further, inv-readied}
+use Rattle.cache_lists.specs.Claims.{refusedProgress, Settles, Passed, HandedOut, Read, readsOf, reads, bytesOf, TakesOnly, SameAt, SameFor, LentOnly, OfChunk, kindOf, MayWrite, Written, KeptBytes, LeavesShort, Safe}
+use Rattle.cache_lists.proofs.Steps.{Gets, denied, ringed, unknown, handed, get-is, came-loading, came-key, came-next, Step, refuses, knows, uses, noPages, fails, lacks, begins, goesOn, readies, spoils, load-is, from-is}
+use Rattle.cache_lists.proofs.Inv.{sound-in, Inv, inv-short, inv-apart, inv-cleared, inv-touched, inv-forgot, inv-dropped, dropped-fewer, dropped-load, inv-began, inv-further, readied-freshly, inv-readied}
+use Rattle.cache_lists.proofs.Stores.{getD-same}
+use Rattle.cache_lists.proofs.Live.{Freshly, fewer-freshly, fewer-then, replaced-fewer}
 use Rattle.cache_lists.proofs.Settled.{Settled, ring-settled, touched-settled, forgot-settled, readied-settled}
-use Rattle.cache_lists.proofs.Chunk.{not-written, put-written, ready-kept}
+use Rattle.cache_lists.proofs.Chunk.{not-written, chunk-only, put-written, bytes-kept}
 
 -- ---- the invariant after a call
 
@@ -58,7 +62,7 @@ inv-step {c} {key = key} f (lacks came s) = inv-forgot (dropped c) key (inv-drop
 inv-step {c} {h = h} {key = key} {bs = bs} f (begins came offset len slot e s v) =
     inv-began (dropped c) slot key offset len (inv-dropped c f) (dropped-load c) (victim-is (dropped c .pages) (span len) slot v .within) (located h bs e .0) s
 inv-step {c} f (goesOn l came b) = inv-further c l f (came-loading came) (l .done + chunkLen l) b
-inv-step {c} f (readies l came b p) = inv-readied c l f (came-loading came)
+inv-step {c} f (readies l came b p) = inv-readied c l f (came-loading came) (came-next came)
 inv-step {c} f (spoils l came b p) = inv-forgot (dropped c) (l .key) (inv-dropped c f)
 
 -- `clear` clears, or is refused and leaves the state
@@ -193,19 +197,19 @@ lent-only w c h key Q R q s = ap loaded (load-only (w .cache) (w .arena) h key Q
 
 -- only a chunk is written
 pub written-step : {c : Cache} {arena : List ℕ} {h : Header} {key : TileKey} {failure : ℕ} {bs : List ℕ} {r : After}
-    → Step c arena h key failure bs r → Written (c .loading) arena (r .arena)
-written-step {c} {arena} (refuses n s) = not-written (c .loading) arena
-written-step {c} {arena} (knows e) = not-written (c .loading) arena
-written-step {c} {arena} (uses i e) = not-written (c .loading) arena
-written-step {c} {arena} (noPages e) = not-written (c .loading) arena
-written-step {c} {arena} (fails n) = not-written (c .loading) arena
-written-step {c} {arena} (lacks came s) = not-written (c .loading) arena
-written-step {c} {arena} (begins came offset len slot e s v) = not-written (c .loading) arena
+    → Step c arena h key failure bs r → Written (OfChunk (c .loading)) arena (r .arena)
+written-step {c} {arena} (refuses n s) = not-written _ arena
+written-step {c} {arena} (knows e) = not-written _ arena
+written-step {c} {arena} (uses i e) = not-written _ arena
+written-step {c} {arena} (noPages e) = not-written _ arena
+written-step {c} {arena} (fails n) = not-written _ arena
+written-step {c} {arena} (lacks came s) = not-written _ arena
+written-step {c} {arena} (begins came offset len slot e s v) = not-written _ arena
 written-step {arena = arena} {bs = bs} (goesOn l came b) = rw (came-loading came) (put-written l arena bs (came .size))
 written-step {arena = arena} {bs = bs} (readies l came b p) = rw (came-loading came) (put-written l arena bs (came .size))
 written-step {arena = arena} {bs = bs} (spoils l came b p) = rw (came-loading came) (put-written l arena bs (came .size))
 
-pub written-call : (w : World) (c : Call) → Written (w .cache .loading) (w .arena) (exec c w .world .arena)
+pub written-call : (w : World) (c : Call) → Written (MayWrite (kindOf c) (w .cache)) (w .arena) (exec c w .world .arena)
 unfolding exec
 written-call w capacity = not-written _ (w .arena)
 written-call w loads = not-written _ (w .arena)
@@ -215,6 +219,56 @@ written-call w (fetch h key) = not-written _ (w .arena)
 written-call w (load h key failure bs) = written-step (load-is (w .cache) (w .arena) h key failure bs)
 written-call w (loadFrom h key pack) = written-step (from-is (w .cache) (w .arena) h key pack .goes)
 written-call w clear = not-written _ (w .arena)
+
+-- ---- a key that is ready before and after has the same bytes
+
+pub fresh-step : {c : Cache} {arena : List ℕ} {h : Header} {key : TileKey} {failure : ℕ} {bs : List ℕ} {r : After}
+    → Inv c → Step c arena h key failure bs r → Freshly (c .pages .slots) (r .cache .pages .slots)
+unfolding touched forgot moved further
+fresh-step f (refuses n s) k i p = inl refl
+fresh-step f (knows e) k i p = inl refl
+fresh-step f (uses j e) k i p = inl refl
+fresh-step f (noPages e) k i p = inl refl
+fresh-step {c} f (fails n) k i p = fewer-freshly (c .pages .slots) (dropped c .pages .slots) (dropped-fewer c f) k i p
+fresh-step {c} f (lacks came s) k i p = fewer-freshly (c .pages .slots) (dropped c .pages .slots) (dropped-fewer c f) k i p
+fresh-step {c} {key = key} f (begins came offset len slot e s v) k i p =
+    let d : Inv (dropped c) = inv-dropped c f in
+    fewer-freshly (c .pages .slots) (replaced (dropped c .pages) slot key len .slots)
+    (fewer-then (c .pages .slots) (dropped c .pages .slots) (replaced (dropped c .pages) slot key len .slots) (dropped-fewer c f)
+    (replaced-fewer (dropped c .pages) slot key len (sound-in (dropped c .pages) (d .pages)) (victim-is (dropped c .pages) (span len) slot v .within)))
+    k i p
+fresh-step f (goesOn l came b) k i p = inl refl
+fresh-step {c} f (readies l came b q) k i p = readied-freshly c l f (came-loading came) (came-next came) k i p
+fresh-step {c} f (spoils l came b q) k i p = fewer-freshly (c .pages .slots) (dropped c .pages .slots) (dropped-fewer c f) k i p
+
+fresh-got : {c : Cache} {arena : List ℕ} {h : Header} {key : TileKey} {r : Got} → Gets c arena h key r → Freshly (c .pages .slots) (r .cache .pages .slots)
+unfolding touched
+fresh-got (denied n s) k i p = inl refl
+fresh-got (ringed e) k i p = inl refl
+fresh-got unknown k i p = inl refl
+fresh-got (handed j e q) k i p = inl refl
+
+-- nothing is ready once all is cleared
+pub fresh-cleared : (c : Cache) → Freshly (c .pages .slots) (cleared c .pages .slots)
+unfolding cleared
+fresh-cleared c k i p = absurd (true≢false (sym (rw (getD-same 96 i emptySlot) at (p .0))))
+
+pub fresh-call : (w : World) (c : Call) → Inv (w .cache) → Freshly (w .cache .pages .slots) (exec c w .world .cache .pages .slots)
+unfolding exec
+fresh-call w capacity f k i p = inl refl
+fresh-call w loads f k i p = inl refl
+fresh-call w (pages h key) f k i p = inl refl
+fresh-call w (get h key) f k i p = fresh-got (get-is (w .cache) (w .arena) h key) k i p
+fresh-call w (fetch h key) f k i p = inl refl
+fresh-call w (load h key failure bs) f k i p = fresh-step f (load-is (w .cache) (w .arena) h key failure bs) k i p
+fresh-call w (loadFrom h key pack) f k i p = fresh-step f (from-is (w .cache) (w .arena) h key pack .goes) k i p
+fresh-call w clear f k i p =
+    clear-leaves (λ (d : Cache). Freshly (w .cache .pages .slots) (d .pages .slots)) (w .cache) (w .arena) (fresh-cleared (w .cache)) (λ k i p. inl refl) k i p
+
+pub kept-bytes : (w : World) (c : Call) → Inv (w .cache) → KeptBytes w c
+kept-bytes w c f =
+    bytes-kept (w .cache) f (w .arena) (exec c w .world .arena) (chunk-only (kindOf c) (w .cache) (written-call w c)) (exec c w .world .cache .pages .slots)
+    (fresh-call w c f)
 
 -- a step that answers Done leaves its tile ready or known missing
 settled-step : {c : Cache} {arena : List ℕ} {h : Header} {key : TileKey} {failure : ℕ} {bs : List ℕ} {r : After}
@@ -261,6 +315,6 @@ safe-along (c ∷ cs) w f =
       lentOnly = lent-only w c;
       takesOnly = takes-call w c;
       written = written-call w c;
-      kept = ready-kept (w .cache) f (w .arena) (exec c w .world .arena) (written-call w c);
+      kept = kept-bytes w c f;
     } in
     (safe, safe-along cs (exec c w .world) g)

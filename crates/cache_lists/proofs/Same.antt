@@ -41,7 +41,7 @@ use Rattle.cache.specs.Loads.{After, fetched, withdrawn, moved, forgot, dropped
 use Rattle.cache_lists.specs.Lists.{World, Call, capacity, loads, pages, get, fetch, load, loadFrom, clear, found, exec, Along}
 use Rattle.cache_lists.specs.Claims.{numberOfCount, numberOfLookup, numberOfRequest, refusedProgress, Parsed, FairBytes, Fair, SameLook, SameAs, Open}
 use Rattle.cache_lists.proofs.Lookups.{in-ring, ReadyAt, ready-at, found-run, next-is}
-use Rattle.cache_lists.proofs.Steps.{Refusal, named, unasked, outside, stale, Gets, denied, ringed, unknown, handed, get-is, Came, came-loading, came-holds, Lacks, none, long, wide, Step, refuses, knows, uses, noPages, fails, lacks, begins, goesOn, readies, spoils, load-is, fetch-came, FetchIs, fetch-is, From, from-is}
+use Rattle.cache_lists.proofs.Steps.{Refusal, named, unasked, outside, stale, Gets, denied, ringed, unknown, handed, get-is, Came, came-loading, came-next, came-holds, Lacks, none, long, wide, Step, refuses, knows, uses, noPages, fails, lacks, begins, goesOn, readies, spoils, load-is, fetch-came, FetchIs, fetch-is, From, from-is}
 use Rattle.cache_lists.proofs.Inv.{sound-in, Inv, inv-ok, dropped-load}
 use Rattle.cache_lists.proofs.Safe.{clear-leaves, written-call}
 use Rattle.cache_lists.proofs.Direct.{direct-ready, direct-none, direct-entry, at-long, at-wide, at-tile}
@@ -100,7 +100,7 @@ module _ (P : List ℕ) (h : Header) (n : ℕ) (key : TileKey) where
       kept-step (goesOn l came b) =
           kept-further P h n c arena l bs k (came-loading came) (came-holds came) (came .size) (chunk-fair came .0) (chunk-fair came .1) b
       kept-step (readies l came b p) =
-          kept-readied P h n c arena l bs k (came-loading came) (came-holds came) (came .size) (chunk-fair came .0) (chunk-fair came .1) b p
+          kept-readied P h n c arena l bs k (came-loading came) (came-holds came) (came .size) (chunk-fair came .0) (chunk-fair came .1) b (came-next came) p
       kept-step (spoils l came b p) =
           kept-spoiled P h n c arena l bs k (came-loading came) (came-holds came) (came .size) (chunk-fair came .0) (chunk-fair came .1) b p
 

@@ -1,7 +1,7 @@
 -- What `get` and `load` do, in one of four ways and of ten (`Gets`, `Step`), each with what is then known: every test of their definitions
 -- is met here, once, and whatever is shown of them goes by these ways. `loadFrom` is a `load` with some answer (`from-is`).
 use Prim.Native.Nat.{ℕ, _+_, _*_, _<_, _≤_}
-use mathlib.Core.Path.{_≡_, refl}
+use mathlib.Core.Path.{_≡_, refl, ap, _∙_}
 use mathlib.Core.Bool.{Bool, true, false, cond}
 use mathlib.Core.List.{List, []}
 use native.Mathlib.Omega.{arith}
@@ -98,6 +98,10 @@ came-loading {c} {key = key} came = (rw (came .is) at (next-is c key)) .0
 pub came-key : {c : Cache} {arena : List ℕ} {h : Header} {key : TileKey} {failure : ℕ} {bs : List ℕ} {l : Loading}
     → Came c arena h key failure bs (Next.Chunk l) → l .key ≡ key
 came-key {c} {key = key} came = (rw (came .is) at (next-is c key)) .1
+
+pub came-next : {c : Cache} {arena : List ℕ} {h : Header} {key : TileKey} {failure : ℕ} {bs : List ℕ} {l : Loading}
+    → Came c arena h key failure bs (Next.Chunk l) → nextStep c (l .key) ≡ Next.Chunk l
+came-next {c} came = ap (nextStep c) (came-key came) ∙ came .is
 
 -- the arena holds the pages
 pub came-holds : {c : Cache} {arena : List ℕ} {h : Header} {key : TileKey} {failure : ℕ} {bs : List ℕ} {next : Next}

@@ -15,12 +15,14 @@ use Rattle.pack.specs.declared.Answer.the-variants as Sector
 use Rattle.cache.specs.Runs.{run, slotAt, kindAt, endOf}
 use Rattle.tile.specs.Parse.{accepts}
 use Rattle.cache.specs.declared.Cache.{Cache}
+use Rattle.cache.specs.declared.MaybeKey.the-variants as MaybeKey
+use Rattle.cache.specs.declared.Slot.{Slot}
 use Rattle.cache.specs.declared.MaybeLoading.{MaybeLoading}
 use Rattle.cache.specs.declared.MaybeLoading.the-variants as MaybeLoading
 use Rattle.cache.specs.declared.Lookup.{Lookup}
 use Rattle.cache.specs.declared.Lookup.the-variants as Lookup
 use Rattle.cache.specs.declared.look.Landing.the-variants as Landing
-use Rattle.cache.specs.Lookups.{landsOn, runBytes, lenAt}
+use Rattle.cache.specs.Lookups.{landsOn, runBytes}
 use Rattle.cache.specs.Direct.{Look, ready, missing, direct}
 use Rattle.cache.specs.declared.Request.{Request}
 use Rattle.cache.specs.declared.Request.the-variants as Request
@@ -128,15 +130,45 @@ abbrev pub OfChunk : MaybeLoading → ℕ → Type 0
 OfChunk MaybeLoading.Nothing b = ⊥
 OfChunk (MaybeLoading.Tile l) b = (l .slot * 8192 + l .done ≤ b) × (b < l .slot * 8192 + l .done + chunkLen l)
 
--- a chunk writes its own bytes of the arena and no others, and no call any other bytes
-pub record Written (x : MaybeLoading) (before after : List ℕ) : Type 0 where
-  pub size : length after ≡ length before
-  pub others : (b : ℕ) → (OfChunk x b → ⊥) → getD after b 0 ≡ getD before b 0
+-- what a call may do to the arena: leave it as it is, or bring the next chunk of the load
+pub data Kind : Type 0 where
+  keeps : Kind
+  brings : Kind
 
--- so a run that is ready before a call holds the same bytes after it, even one that the call evicts
+abbrev pub kindOf : Call → Kind
+kindOf (load h key failure bs) = brings
+kindOf (loadFrom h key pack) = brings
+kindOf capacity = keeps
+kindOf loads = keeps
+kindOf (pages h key) = keeps
+kindOf (get h key) = keeps
+kindOf (fetch h key) = keeps
+kindOf clear = keeps
+
+-- which bytes of the arena a call of a kind may write: "a chunk writes its own bytes of the arena and no others", and no other call any
+abbrev pub MayWrite : Kind → Cache → ℕ → Type 0
+MayWrite keeps c b = ⊥
+MayWrite brings c b = OfChunk (c .loading) b
+
+-- an arena as long as before, and the same in every byte that may not be written
+pub record Written (may : ℕ → Type 0) (before after : List ℕ) : Type 0 where
+  pub size : length after ≡ length before
+  pub others : (b : ℕ) → (may b → ⊥) → getD after b 0 ≡ getD before b 0
+
+-- the bytes of a ready tile, by its key: on whichever pages its run lies
+pub record ReadyBytes (s : List Slot) (arena : List ℕ) (key : TileKey) (bs : List ℕ) : Type 0 where
+  pub first : ℕ
+  pub ready : slotAt s first .ready ≡ true
+  pub keyIs : slotAt s first .key ≡ MaybeKey.Key key
+  pub bytes : runBytes arena first (slotAt s first .len) ≡ bs
+
+-- a key that is ready before and after has the same bytes
+abbrev pub SameBytes : List Slot → List ℕ → List Slot → List ℕ → Type 0
+SameBytes s before t after = (key : TileKey) (x y : List ℕ) → ReadyBytes s before key x → ReadyBytes t after key y → y ≡ x
+
+-- so a call changes no ready tile: it may drop one, or move its run, and what is ready still is the same in every byte
 abbrev pub KeptBytes : World → Call → Type 0
-KeptBytes w c =
-    (i : ℕ) → slotAt (w .cache .pages .slots) i .ready ≡ true → runBytes (exec c w .world .arena) i (lenAt (w .cache) i) ≡ runBytes (w .arena) i (lenAt (w .cache) i)
+KeptBytes w c = SameBytes (w .cache .pages .slots) (w .arena) (exec c w .world .cache .pages .slots) (exec c w .world .arena)
 
 -- the unfinished load is of a tile of 49,152 bytes at most (document 01: a longer one is Missing), so of 24 chunks at most
 abbrev pub ShortLoad : MaybeLoading → Type 0
@@ -172,7 +204,7 @@ pub record Safe (w : World) (c : Call) : Type 0 where
   pub oneRead : length (reads w c) ≤ 1
   pub lentOnly : LentOnly w c
   pub takesOnly : TakesOnly w c
-  pub written : Written (w .cache .loading) (w .arena) (exec c w .world .arena)
+  pub written : Written (MayWrite (kindOf c) (w .cache)) (w .arena) (exec c w .world .arena)
   pub kept : KeptBytes w c
 
 -- ---- demand 3's premises, for one pack P

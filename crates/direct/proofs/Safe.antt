@@ -3,6 +3,7 @@ use Prim.Native.Nat.{ℕ, _+_, _≤_}
 use mathlib.Core.Path.{_≡_, refl, sym, ap, _∙_}
 use mathlib.Core.Bool.{Bool, true, false, _&&_, cond, true≢false}
 use mathlib.Core.List.{List, [], _∷_}
+use mathlib.Core.Logic.{inl}
 use native.Mathlib.Omega.{arith}
 use lib.Dec.{eqb, ltb, leb}
 use lib.ListN.{length}
@@ -14,15 +15,18 @@ use Rattle.cache.specs.Lookups.{touched}
 use Rattle.cache.specs.State.{pendingFits, cleared}
 use Rattle.cache.specs.declared.Cache.{Cache}
 use Rattle.cache.specs.declared.Pending.{Pending}
+use Rattle.cache.specs.declared.Slot.{Slot}
+use Rattle.cache.specs.Runs.{slotAt}
 use Rattle.cache.specs.Loads.{forgot}
 use Rattle.cache.specs.declared.Progress.{Progress}
 use Rattle.cache.specs.declared.Progress.the-variants as Progress
-use Rattle.cache_lists.specs.Claims.{SameAt, Written}
+use Rattle.cache_lists.specs.Claims.{SameAt, OfChunk, MayWrite, Written}
 use Rattle.cache_lists.proofs.Steps.{load-is}
 use Rattle.cache_lists.proofs.Inv.{Inv, inv-short, inv-ok, inv-apart, inv-cleared, inv-touched, inv-forgot}
 use Rattle.cache_lists.proofs.Safe as CacheSafe
-use Rattle.cache_lists.proofs.Safe.{inv-step, inv-call, handed-call, one-read, takes-call, written-call, written-step}
-use Rattle.cache_lists.proofs.Chunk.{not-written}
+use Rattle.cache_lists.proofs.Safe.{inv-step, inv-call, handed-call, one-read, takes-call, written-call, written-step, fresh-step, fresh-cleared, fresh-call}
+use Rattle.cache_lists.proofs.Live.{Freshly}
+use Rattle.cache_lists.proofs.Chunk.{not-written, chunk-only, bytes-kept}
 use Rattle.engine.specs.declared.Fix.{Fix}
 use Rattle.engine.specs.State.{refused, engineOk, forgotten}
 use Rattle.engine.specs.Deliver as Delivered
@@ -36,7 +40,7 @@ use Rattle.engine.specs.declared.Stepped.{Stepped}
 use Rattle.engine_states.proofs.CacheKept.{ok-parts, pending-ok}
 use Rattle.direct.specs.Lists.{World, Call, fix, lost, reset, step, deliver, stepFrom, read, onCache, nearby, current, update, predict, delivered, cacheOf, numberOfStatus, number, exec, Along}
 use Rattle.direct.specs.Finished.{Task, none, offMap, match, road, taskOf}
-use Rattle.direct.specs.Claims.{openRead, taskHands, HandedOut, readsOf, lentReads, reads, SameFor, LentOnly, HasLen, TakesOnly, LeavesShort, Safe}
+use Rattle.direct.specs.Claims.{openRead, taskHands, HandedOut, readsOf, lentReads, reads, SameFor, LentOnly, HasLen, TakesOnly, kindOf, KeptBytes, LeavesShort, Safe}
 use Rattle.engine_states.proofs.Ways as Ways
 use Rattle.engine_states.proofs.Ways.{Delivers, brought, isFetch, Lends, deliver-is, lends-is}
 use Rattle.direct.proofs.Changes.{step-keeps, deliver-keeps, update-keeps, predict-keeps}
@@ -278,19 +282,19 @@ takes-after w (predict h m horizon samples behind) = tt
 -- ---- what is written
 
 delivers-write : {e : Engine} {arena : List ℕ} {failure : ℕ} {bs : List ℕ} {r : After} → Delivers e arena failure bs r
-    → Written (e .shared .cache .loading) arena (r .arena)
+    → Written (OfChunk (e .shared .cache .loading)) arena (r .arena)
 delivers-write {e} {arena} Ways.refuses = not-written _ arena
 delivers-write {e} {arena} (Ways.loses number o len) = not-written _ arena
 delivers-write {e} {arena} (Ways.parses o z len a) = not-written _ arena
 delivers-write {e} {arena} {failure} {bs} (Ways.brings key b) = written-step (load-is (e .shared .cache) arena (e .shared .header) key failure bs)
 
 pub deliver-writes : (e : Engine) (arena : List ℕ) (failure : ℕ) (bs : List ℕ)
-    → Written (e .shared .cache .loading) arena (Engines.deliver e arena failure bs .arena)
+    → Written (OfChunk (e .shared .cache .loading)) arena (Engines.deliver e arena failure bs .arena)
 unfolding Engines.deliver
 deliver-writes e arena failure bs = by (engineOk e (length arena)) refl
   where
     by : (t : Bool) → engineOk e (length arena) ≡ t
-        → Written (e .shared .cache .loading) arena (cond t (Delivered.delivered e arena failure bs) (over (refused e 12) arena) .arena)
+        → Written (OfChunk (e .shared .cache .loading)) arena (cond t (Delivered.delivered e arena failure bs) (over (refused e 12) arena) .arena)
     by true ok = delivers-write (deliver-is e arena ok failure bs)
     by false ok = not-written _ arena
 
@@ -300,12 +304,12 @@ unfolding touched forgot
 step-loading e arena =
     step-keeps (λ (c : Cache) (arena : List ℕ). c .loading ≡ e .shared .cache .loading) (λ c arena i q. q) (λ c arena key z q. q) (λ c arena p f q. q) e arena refl
 
-lent-writes : {e : Engine} {arena Q : List ℕ} {r : After} → Lends e arena Q r → Written (e .shared .cache .loading) arena (r .arena)
+lent-writes : {e : Engine} {arena Q : List ℕ} {r : After} → Lends e arena Q r → Written (OfChunk (e .shared .cache .loading)) arena (r .arena)
 lent-writes {e} {arena} (Ways.plain t) = not-written _ arena
 lent-writes {e} {arena} (Ways.asks offset len failure bs a fair) =
     rw (step-loading e arena) at (deliver-writes (Engines.step e arena .engine) arena failure bs)
 
-pub written-after : (w : World) (c : Call) → Written (w .engine .shared .cache .loading) (w .arena) (exec c w .world .arena)
+pub written-after : (w : World) (c : Call) → Written (MayWrite (kindOf c) (w .engine .shared .cache)) (w .arena) (exec c w .world .arena)
 unfolding exec
 written-after w (fix x) = not-written _ (w .arena)
 written-after w lost = not-written _ (w .arena)
@@ -319,6 +323,71 @@ written-after w (nearby h p) = not-written _ (w .arena)
 written-after w (current m) = not-written _ (w .arena)
 written-after w (update m h p heading) = not-written _ (w .arena)
 written-after w (predict h m horizon samples behind) = not-written _ (w .arena)
+
+-- so no call writes a byte but those of the load's next chunk
+pub chunk-after : (w : World) (c : Call) → Written (OfChunk (w .engine .shared .cache .loading)) (w .arena) (exec c w .world .arena)
+chunk-after w c = chunk-only (kindOf c) (w .engine .shared .cache) (written-after w c)
+
+-- ---- what stays ready
+
+-- a step changes no page
+step-slots : (e : Engine) (arena : List ℕ) → Engines.step e arena .engine .shared .cache .pages .slots ≡ e .shared .cache .pages .slots
+unfolding touched forgot
+step-slots e arena =
+    step-keeps (λ (c : Cache) (arena : List ℕ). c .pages .slots ≡ e .shared .cache .pages .slots) (λ c arena i q. q) (λ c arena key z q. q)
+    (λ c arena p f q. q) e arena refl
+
+same-fresh : (s t : List Slot) → t ≡ s → Freshly s t
+same-fresh s t q key h r = inl (ap (λ (x : List Slot). slotAt x h) q)
+
+fresh-self : (s : List Slot) → Freshly s s
+fresh-self s key h r = inl refl
+
+abbrev slotsOf : World → List Slot
+slotsOf w = w .engine .shared .cache .pages .slots
+
+abbrev FreshOver : List Slot → Cache → List ℕ → Type 0
+FreshOver s c arena = Freshly s (c .pages .slots)
+
+fresh-delivered : (e : Engine) (arena : List ℕ) (failure : ℕ) (bs : List ℕ) → Inv (e .shared .cache)
+    → Freshly (e .shared .cache .pages .slots) (Engines.deliver e arena failure bs .engine .shared .cache .pages .slots)
+unfolding touched forgot
+fresh-delivered e arena failure bs f =
+    let s = e .shared .cache .pages .slots in
+    deliver-keeps (FreshOver s) (λ c arena i q. q) (λ c arena key z q. q) (λ c arena p fits q. q) e arena failure bs (fresh-self s)
+    (λ key b same. fresh-step f (load-is (e .shared .cache) arena (e .shared .header) key failure bs))
+
+fresh-lent : {e : Engine} {arena Q : List ℕ} {r : After} → Lends e arena Q r → Inv (e .shared .cache)
+    → Freshly (e .shared .cache .pages .slots) (r .engine .shared .cache .pages .slots)
+fresh-lent {e} {arena} (Ways.plain t) f = same-fresh _ _ (step-slots e arena)
+fresh-lent {e} {arena} (Ways.asks offset len failure bs a fair) f =
+    rw (step-slots e arena) at (fresh-delivered (Engines.step e arena .engine) arena failure bs (inv-stepped e arena f))
+
+fresh-after : (w : World) (c : Call) → Inv (w .engine .shared .cache)
+    → Freshly (w .engine .shared .cache .pages .slots) (exec c w .world .engine .shared .cache .pages .slots)
+unfolding exec touched
+fresh-after w (fix x) f = fix-leaves (λ (d : Cache). FreshOver (slotsOf w) d []) (w .engine) (w .arena) x (fresh-self (slotsOf w))
+fresh-after w lost f = lost-leaves (λ (d : Cache). FreshOver (slotsOf w) d []) (w .engine) (w .arena) (fresh-self (slotsOf w))
+fresh-after w (reset P) f =
+    reset-leaves (λ (d : Cache). FreshOver (slotsOf w) d []) (w .engine) (w .arena) (fresh-self (slotsOf w))
+    (fresh-cleared (w .engine .shared .cache))
+fresh-after w step f = same-fresh (slotsOf w) _ (step-slots (w .engine) (w .arena))
+fresh-after w (deliver failure bs) f = fresh-delivered (w .engine) (w .arena) failure bs f
+fresh-after w (stepFrom Q) f = fresh-lent (lends-is (w .engine) (w .arena) Q) f
+fresh-after w (read r) f = fresh-self (slotsOf w)
+fresh-after w (onCache c) f = fresh-call (cacheOf w) c f
+fresh-after w (nearby h p) f = fresh-self (slotsOf w)
+fresh-after w (current m) f = fresh-self (slotsOf w)
+fresh-after w (update m h p heading) f =
+    update-keeps (FreshOver (slotsOf w)) (λ c arena i q. q) m (w .engine .shared .cache) (w .arena) h p heading (fresh-self (slotsOf w))
+fresh-after w (predict h m horizon samples behind) f =
+    predict-keeps (FreshOver (slotsOf w)) (λ c arena i q. q) (w .engine .shared .cache) (w .arena) h m horizon samples behind
+    (fresh-self (slotsOf w))
+
+kept-after : (w : World) (c : Call) → Inv (w .engine .shared .cache) → KeptBytes w c
+kept-after w c f =
+    bytes-kept (w .engine .shared .cache) f (w .arena) (exec c w .world .arena) (chunk-after w c) (exec c w .world .engine .shared .cache .pages .slots)
+    (fresh-after w c f)
 
 -- ---- a list
 
@@ -342,5 +411,6 @@ safe-along (c ∷ cs) w f =
       lentOnly = only-after w c;
       takesOnly = takes-after w c;
       written = written-after w c;
+      kept = kept-after w c f;
     } in
     (safe, safe-along cs (exec c w .world) g)

@@ -17,7 +17,7 @@ use Rattle.cache.specs.Direct.{Agree, look}
 use Rattle.cache.specs.Lookups.{landsOn, lenAt}
 use Rattle.cache_lists.specs.Lists as CacheCalls
 use Rattle.cache_lists.specs.Claims as Cached
-use Rattle.cache_lists.specs.Claims.{Parsed, Apart, AllLive, Passed, Written, ShortLoad, Read}
+use Rattle.cache_lists.specs.Claims.{Parsed, Apart, AllLive, Passed, Kind, keeps, brings, MayWrite, Written, SameBytes, ShortLoad, Read}
 use Rattle.matcher.specs.declared.Heading.{Heading}
 use Rattle.matcher.specs.declared.Matched.{Matched}
 use Rattle.matcher.specs.Gather as Gather
@@ -238,8 +238,29 @@ TakesOnly w (current m) = Unit
 TakesOnly w (update m h p heading) = Unit
 TakesOnly w (predict h m horizon samples behind) = Unit
 
+-- what a call may do to the arena: a delivery, the lent-pack form's own included, and a direct `load` or `load_from` bring a chunk
+abbrev pub kindOf : Call → Kind
+kindOf (deliver failure bs) = brings
+kindOf (stepFrom Q) = brings
+kindOf (onCache c) = Cached.kindOf c
+kindOf (fix f) = keeps
+kindOf lost = keeps
+kindOf (reset P) = keeps
+kindOf step = keeps
+kindOf (read r) = keeps
+kindOf (nearby h p) = keeps
+kindOf (current m) = keeps
+kindOf (update m h p heading) = keeps
+kindOf (predict h m horizon samples behind) = keeps
+
+-- a key that is ready before and after the call has the same bytes, wherever its run lies
+abbrev pub KeptBytes : World → Call → Type 0
+KeptBytes w c =
+    SameBytes (w .engine .shared .cache .pages .slots) (w .arena) (exec c w .world .engine .shared .cache .pages .slots) (exec c w .world .arena)
+
 -- of each call: live runs, the unfinished load's included, lie apart and within the pages, and every run is live; what is handed out passes;
--- one read at most, and nothing else of a lent pack is seen; only bytes of the load's chunk are written
+-- one read at most, and nothing else of a lent pack is seen; only bytes that a call of its kind may write are written, those of the load's next chunk or
+-- none; and no tile that stays ready changes
 pub record Safe (w : World) (c : Call) : Type 0 where
   pub apart : Apart (exec c w .world .engine .shared .cache)
   pub allLive : AllLive (exec c w .world .engine .shared .cache)
@@ -247,7 +268,8 @@ pub record Safe (w : World) (c : Call) : Type 0 where
   pub oneRead : length (reads w c) ≤ 1
   pub lentOnly : LentOnly w c
   pub takesOnly : TakesOnly w c
-  pub written : Written (w .engine .shared .cache .loading) (w .arena) (exec c w .world .arena)
+  pub written : Written (MayWrite (kindOf c) (w .engine .shared .cache)) (w .arena) (exec c w .world .arena)
+  pub kept : KeptBytes w c
 
 -- whatever is delivered or given
 abbrev pub AllSafe : Type 0
