@@ -7,7 +7,14 @@ use crate::{random::Random, tally::Tally};
 use oracle::geo::{self, Point};
 use oracle::pack::{Header, TileKey};
 use oracle::tile::{Edge, Node, Tile};
-use std::{any::Any, fmt::Debug, iter};
+use std::{
+    any::Any,
+    fmt::Debug,
+    iter,
+    sync::{Mutex, mpsc},
+    thread,
+    time::Duration,
+};
 
 /// The least number for which a test is true that stays so from there on.
 fn least(mut low: u64, mut high: u64, test: impl Fn(u64) -> bool) -> u64 {
@@ -26,6 +33,7 @@ fn panics<R>(rust: impl FnOnce() -> R) -> bool {
 /// What the Rust does, in words.
 fn told<R: Debug>(rust: Result<R, Box<dyn Any + Send>>) -> String {
     let words = match rust {
+        Ok(answer) if format!("{answer:?}") == "()" => return "takes it".into(),
         Ok(answer) => return format!("answers {answer:?}"),
         Err(words) => words,
     };
@@ -34,16 +42,51 @@ fn told<R: Debug>(rust: Result<R, Box<dyn Any + Send>>) -> String {
     format!("panics: {words}")
 }
 
+const HEAD: &str = "| Function | Smallest input found | The Rust | The port |\n|---|---|---|---|";
+/// The document that has the table.
+const DOCUMENT: &str = include_str!("../../../docs/DIFFERENCES.md");
+/// Rows that were printed.
+static ROWS: Mutex<Vec<String>> = Mutex::new(Vec::new());
+
+fn put(row: String) {
+    println!("{row}");
+    ROWS.lock().unwrap().push(row);
+}
+
+/// Whether the document has the rows, in this order and with none between or behind them.
+fn compare_rows() -> Tally {
+    let mut tally = Tally::new("the document's rows");
+    let table = DOCUMENT.split_once(HEAD).map_or("", |(_, table)| table);
+    let mut lines = table.lines().skip(1);
+    for row in &*ROWS.lock().unwrap() {
+        let line = lines.next();
+        tally.count(line == Some(row), row, line, row);
+    }
+    tally.count(lines.next() == Some(""), "behind the last row", "more rows", "none");
+    tally
+}
+
+/// What a call does, or that it had not ended after two seconds, where others take microseconds.
+fn doesnt_end(call: impl FnOnce() -> String + Send + 'static) -> String {
+    let (to, from) = mpsc::channel();
+    thread::spawn(move || to.send(call()));
+    from.recv_timeout(Duration::from_secs(2)).unwrap_or("doesn't end".into())
+}
+
 /// A row: function and input, what the Rust does, and the number that the port has to answer.
 macro_rules! row {
-    ($tally:ident, $name:literal, $given:expr, $rust:expr, $port:expr, $number:literal) => {
+    ($tally:ident, $name:expr, $given:expr, $rust:expr, $port:expr, $number:literal) => {
         row!($tally, $name, $given, told: told(caught(|| $rust)), $port, $number)
     };
-    ($tally:ident, $name:literal, $given:expr, told: $told:expr, $port:expr, $number:literal) => {
-        println!("| `{}` | {} | {} | {} |", $name, $given, $told, $number);
-        $tally.same($given, ($name, $port.err(), Some($number)));
+    ($tally:ident, $name:expr, $given:expr, told: $told:expr, $port:expr, $number:literal) => {
+        let (given, told) = (&$given, $told);
+        $crate::panics::put(format!("| `{}` | {given} | {told} | {} |", $name, $number));
+        $tally.same(given, ($name, $port.err(), Some($number)));
     };
 }
+
+mod engine;
+mod parts;
 
 /// One row and one column of the largest tiles, in the north-east corner of all grids.
 fn corner() -> Header {
@@ -217,10 +260,15 @@ fn geometry(tally: &mut Tally) {
 
 pub fn print() -> Vec<Tally> {
     let mut tally = Tally::new("the port's numbers");
-    println!("| Function | Smallest input found | The Rust | The port |\n|---|---|---|---|");
+    println!("{HEAD}");
     headers(&mut tally);
     tiles(&mut tally);
     geometry(&mut tally);
+    parts::cache(&mut tally);
+    parts::matcher(&mut tally);
+    parts::roads(&mut tally);
+    engine::calls(&mut tally);
+    engine::states(&mut tally);
     println!();
-    vec![tally]
+    vec![tally, compare_rows()]
 }

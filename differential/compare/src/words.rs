@@ -3,7 +3,7 @@
 //! made on each: outside it answers 12 and changes no word, byte or height, inside none does.
 mod causes;
 mod fields;
-mod states;
+pub mod states;
 
 use crate::ffi_terrain::{
     self as port, Engine, Lookup, Matched, Outcome, Point, Progress, Request, Road, Status,
