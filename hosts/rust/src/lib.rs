@@ -5,22 +5,17 @@
 //!
 //! ```
 //! use terrain::engine::{Fix, Lookahead, Status};
-//! use terrain::pack::{Error, Source};
 //!
-//! /// A card that can't be read.
-//! struct Empty;
-//!
-//! impl Source for Empty {
-//!     fn read(&mut self, _offset: u64, _buf: &mut [u8]) -> Result<(), Error> {
-//!         Err(Error::Range)
-//!     }
-//! }
-//!
+//! // A slice of a pack's bytes is a source of them; [`pack::Source`] shows a card.
+//! let sample = concat!(env!("CARGO_MANIFEST_DIR"), "/../../crates/drive/data/pack");
+//! let pack = std::fs::read(sample).unwrap();
+//! let mut card = &pack[..];
 //! let mut arena = vec![0; 24 * terrain::cache::PAGE_BYTES];
 //! let mut engine = Lookahead::new(&mut arena, 10_000.0);
-//! engine.fix(Fix::from_e7(683_567_890, 188_234_560, 1_000));
-//! assert_eq!(engine.step(&mut Empty), Status::NoPack);
-//! assert!(!engine.ahead().on_road());
+//! engine.fix(Fix::from_e7(683_560_120, 188_274_420, 1_000));
+//! while engine.step(&mut card) == Status::Working {}
+//! let matched = engine.ahead().matched.unwrap();
+//! assert_eq!((matched.tile.key.row, matched.tile.key.col, matched.edge), (0, 0, 0));
 //! ```
 #![no_std]
 #![deny(missing_debug_implementations)]

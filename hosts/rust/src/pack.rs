@@ -1,9 +1,33 @@
 //! The pack's header, and the byte source that it is read from.
 
 /// Where pack bytes come from: a volume, a file or memory.
+///
+/// ```
+/// use std::{fs::File, io::ErrorKind, os::unix::fs::FileExt};
+/// use terrain::engine::{Lookahead, Status};
+/// use terrain::pack::{Error, Source};
+///
+/// struct Card(File);
+///
+/// impl Source for Card {
+///     fn read(&mut self, offset: u64, buf: &mut [u8]) -> Result<(), Error> {
+///         self.0.read_exact_at(buf, offset).map_err(|error| match error.kind() {
+///             ErrorKind::UnexpectedEof => Error::Range,
+///             _ => Error::Media,
+///         })
+///     }
+/// }
+///
+/// let sample = concat!(env!("CARGO_MANIFEST_DIR"), "/../../crates/drive/data/pack");
+/// let mut card = Card(File::open(sample).unwrap());
+/// let mut engine = Lookahead::new(&mut [], 10_000.0);
+/// assert_eq!(engine.step(&mut card), Status::Working);
+/// assert_eq!(engine.header().unwrap().tiles, 6);
+/// ```
 pub trait Source {
     /// Fill `buf` from `offset` bytes into the pack. A short or failed read
-    /// is an error; the caller retries later or gives up.
+    /// is an error; the caller retries later or gives up: [`Error::Media`]
+    /// for a read that was missed, any other for one past the pack's end.
     fn read(&mut self, offset: u64, buf: &mut [u8]) -> Result<(), Error>;
 }
 
