@@ -14,23 +14,28 @@
 #define LOST_BEFORE 5
 #define RESET_AFTER 8
 
-enum call { NEW, FIX, STEP, DELIVER, AHEAD, HEADER, HEADING, COUNTS, UPDATE, PREDICT, FAR_FIX, LOST, RESET };
+/* Of three fixes one is stepped over the whole pack in memory. */
+#define WHOLE_EVERY 3
+#define LONGEST (1 << 20)
+
+enum call { NEW, FIX, STEP, STEP_FROM, DELIVER, AHEAD, HEADER, HEADING, COUNTS, LOOK, UPDATE, PREDICT, PAGE, FAR_FIX, LOST, RESET };
 
 /* What the host keeps of its own: the next call, the fixes given and the reads made so far, and the open fetch. */
 struct host { uint32_t next, fixes, reads, offset, len; };
 
 static struct host host;
 static uint32_t engine_room[TERRAIN_WORDS + 15], matcher_room[TERRAIN_MATCHER_WORDS + 15];
-static uint8_t arena_room[PAGES * 8192 + 15], chunk_room[TERRAIN_FETCH_MOST + 15];
+static uint8_t arena_room[PAGES * 8192 + 15], chunk_room[TERRAIN_FETCH_MOST + 15], whole_room[LONGEST + 15], page_room[TERRAIN_PAGE + 15];
 static int16_t samples_room[501 + 15], behind_room[11 + 15];
 
 /* What is lent, moved into its room. */
 static struct terrain_engine *engine;
 static struct terrain_matcher *matcher;
-static uint8_t *arena, *chunk;
+static uint8_t *arena, *chunk, *whole, *page;
 static int16_t *samples, *behind;
 static const size_t arena_len = (size_t)PAGES * 8192;
 static FILE *pack;
+static size_t whole_len;
 static unsigned long every;
 
 static void move_by(unsigned odd)
@@ -39,6 +44,8 @@ static void move_by(unsigned odd)
     matcher = (struct terrain_matcher *)(matcher_room + odd);
     arena = arena_room + odd;
     chunk = chunk_room + odd;
+    whole = whole_room + odd;
+    page = page_room + odd;
     samples = samples_room + odd;
     behind = behind_room + odd;
 }
@@ -72,6 +79,12 @@ static void print_match(const struct terrain_match_told *m)
     printf(" %" PRId32 " %u %u %u %" PRIx32, m->z_dm, m->road_class, m->flags, m->confidence, bits(m->ridden_m));
 }
 
+/* How the fix that was given last is stepped. */
+static uint32_t stepping(void)
+{
+    return host.fixes % WHOLE_EVERY == 0 ? STEP_FROM : STEP;
+}
+
 /* What comes after a step: the read that it asks for, another step, or what is held. */
 static uint32_t after(struct terrain_step_told told)
 {
@@ -80,7 +93,7 @@ static uint32_t after(struct terrain_step_told told)
     host.len = (uint32_t)told.len;
     if (told.status == TERRAIN_FETCH)
         return DELIVER;
-    return told.status == TERRAIN_WORKING ? STEP : AHEAD;
+    return told.status == TERRAIN_WORKING ? stepping() : AHEAD;
 }
 
 static uint32_t deliver(void)
@@ -126,6 +139,25 @@ static void print_counts(void)
     printf(" %" PRIu32 " %" PRIu32 " %" PRIu32 " %" PRIu32, loads.number, loads.count, steps.number, steps.count);
 }
 
+/* What the cache has of the first tile, and the read that it would make for it. */
+static void look(void)
+{
+    struct terrain_key first = {0, 0};
+    struct terrain_lookup l = terrain_cache_get(engine, arena, arena_len, header(), first);
+    struct terrain_request r = terrain_cache_fetch(engine, arena, arena_len, header(), first);
+    struct terrain_count pages = terrain_cache_pages(engine, arena, arena_len, header(), first);
+    printf(" %" PRIu32 " %" PRIu32 " %u %u", l.number, l.lookup, (unsigned)l.first, (unsigned)l.len);
+    printf(" %" PRIu32 " %" PRIu32 " %" PRIu64 " %u", r.number, r.request, r.offset, (unsigned)r.len);
+    printf(" %" PRIu32 " %u", pages.number, (unsigned)pages.count);
+}
+
+/* The heights of the host's own as a printed page. */
+static void print_page(void)
+{
+    struct terrain_printed p = terrain_profile_page(samples, 501, 0, page, TERRAIN_PAGE);
+    printf(" %" PRIu32 " %u %" PRIx32, p.number, (unsigned)p.length, sum(page, p.length));
+}
+
 /* The matcher of the host's own, over the engine's cache. */
 static void update(struct terrain_point fix)
 {
@@ -161,8 +193,10 @@ static void print_read(uint32_t call, struct terrain_point fix)
     case HEADER: print_header(); break;
     case HEADING: print_heading(); break;
     case COUNTS: print_counts(); break;
+    case LOOK: look(); break;
     case UPDATE: update(fix); break;
     case PREDICT: predict(); break;
+    case PAGE: print_page(); break;
     case FAR_FIX: printf(" %" PRIu32, terrain_fix(engine, arena, arena_len, 360000001, 0, 1)); break;
     case LOST: printf(" %" PRIu32, terrain_lost(engine, arena, arena_len)); break;
     default: printf(" %" PRIu32, terrain_reset(engine, arena, arena_len)); break;
@@ -185,7 +219,7 @@ static uint32_t give(void)
 {
     struct terrain_fix_given fix = fixes[host.fixes++];
     printf(" %" PRIu32, terrain_fix(engine, arena, arena_len, fix.lat, fix.lon, fix.at_ms));
-    return STEP;
+    return stepping();
 }
 
 static uint32_t begin(void)
@@ -207,6 +241,7 @@ static int call(void)
     case NEW: host.next = begin(); break;
     case FIX: host.next = give(); break;
     case STEP: host.next = after(terrain_step(engine, arena, arena_len)); break;
+    case STEP_FROM: host.next = after(terrain_step_from(engine, arena, arena_len, whole, whole_len)); break;
     case DELIVER: host.next = deliver(); break;
     default: print_read(now, fix), host.next = after_reads(now); break;
     }
@@ -257,6 +292,7 @@ int main(int count, char **words)
     list = fopen(words[5], "r");
     if (!pack || !list)
         return printf("stored: can't read %s\n", words[pack ? 5 : 4]), 2;
+    whole_len = fread(whole, 1, LONGEST, pack);
     every = count == 7 ? strtoul(words[6], NULL, 10) : 0;
     read_drive(list);
     /* No file, or an empty one, stands for a list that has not begun. */
