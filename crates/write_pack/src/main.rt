@@ -15,12 +15,12 @@ const EDGES: usize = 17192;
 
 const VERTICES: usize = 24558;
 
-// Room for the tiles' bytes, for how many they are, and for the pack: those bytes and a directory of 73,664 places.
-const TILES: usize = 1048576;
+// Room for the tiles' bytes, for how many they are, and for the pack: those bytes and a directory of 98,240 places. It all stands on the stack, of 8 MB.
+const TILES: usize = 3145728;
 
-const COUNT: usize = 4096;
+const COUNT: usize = 16384;
 
-const PACK: usize = 1638400;
+const PACK: usize = 3932160;
 
 fn say(line: u32) {
     io::write_all(libc::STDERR_FILENO, b"write_pack: line ");
@@ -86,13 +86,19 @@ fn run(
 
 // Zeros, as `io::buffer`: the contract gives the length, and no proof has to count so many.
 fn tile_room() -> [u8; TILES]
-    ensures { λ r. ⌜ 1048576 ≡ length r ⌝ }
+    ensures { λ r. ⌜ 3145728 ≡ length r ⌝ }
 {
     [0; TILES]
 }
 
+fn count_room() -> [u32; COUNT]
+    ensures { λ r. ⌜ 16384 ≡ length r ⌝ }
+{
+    [0; COUNT]
+}
+
 fn pack_room() -> [u8; PACK]
-    ensures { λ r. ⌜ 1638400 ≡ length r ⌝ }
+    ensures { λ r. ⌜ 3932160 ≡ length r ⌝ }
 {
     [0; PACK]
 }
@@ -104,8 +110,8 @@ fn main() {
     let mut edges = [0u32; EDGES];
     let mut vertices = [0u16; VERTICES];
     let mut tiles = tile_room();
-    let mut lengths = [0u32; COUNT];
-    let mut lines = [0u32; COUNT];
+    let mut lengths = count_room();
+    let mut lines = count_room();
     let mut out = pack_room();
     run(
         &mut buf,

@@ -6,7 +6,7 @@ use Rattle.write_pack.proofs.pack_room.Statement.{statement}
 use Rattle.write_pack.proofs.pack_room.Tie as tie
 
 returns : tie.Need-returns
-returns c = sym (length-replicate {0} {A = ℕ} 1638400 0)
+returns c = sym (length-replicate {0} {A = ℕ} 3932160 0)
 
 pub pack-room-spec : {M : Type 1} → statement M
 pack-room-spec = tie.close (tie.spec returns)

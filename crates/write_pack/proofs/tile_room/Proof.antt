@@ -6,7 +6,7 @@ use Rattle.write_pack.proofs.tile_room.Statement.{statement}
 use Rattle.write_pack.proofs.tile_room.Tie as tie
 
 returns : tie.Need-returns
-returns c = sym (length-replicate {0} {A = ℕ} 1048576 0)
+returns c = sym (length-replicate {0} {A = ℕ} 3145728 0)
 
 pub tile-room-spec : {M : Type 1} → statement M
 tile-room-spec = tie.close (tie.spec returns)
