@@ -1,7 +1,7 @@
 /* The functions of libterrain.a, which `rt staticlib terrain` writes to target/staticlib.
  * A slice is a pointer and a count of its elements; an empty one may have any pointer that is not null. What is lent to be written must not overlap anything else that is lent.
  * Every function is total: each bit pattern has an answer. None allocates, keeps a state or stops the program.
- * No call keeps a pointer. Words are aligned to 4 bytes and heights to 2, as C aligns a uint32_t and an int16_t, and to no more; bytes (arena, delivery, pack) may lie anywhere. The archive is for x86-64 Linux, and of the C library it calls memcpy and memset alone. On the drive
+ * No call keeps a pointer. Words and numbers of 32 bits are aligned to 4 bytes, heights and numbers of 16 bits to 2, as C aligns a uint32_t and an int16_t, and to no more; bytes (arena, delivery, pack) may lie anywhere. The archive is for x86-64 Linux, and of the C library it calls memcpy and memset alone. On the drive
  * that hosts/run measures terrain_step takes 98 KB of stack, terrain_deliver 71 KB and terrain_ahead 30 KB, most of it copies of the state.
  *
  * The numbers that refuse a call:
@@ -10,7 +10,7 @@
  *   3 a header rule is broken                10 a start outside its tile
  *   4 a CRC, a tile rule, a bad entry        11 a delivery that no open fetch fits
  *   5 a tile is neither ready nor missing    12 a state, header, count or arena that can't be
- *   6 the start's tile is missing or another 13 (the writer's, which is not among these functions)
+ *   6 the start's tile is missing or another 13 what a tile or a pack is to be made of breaks a reader's rule
  *   7 an index past the tile                 14 the output is too short, or a total passes 32 bits
  * Structs have tags and no other names, so that a function and a struct may share one. */
 #ifndef TERRAIN_H
@@ -421,6 +421,22 @@ struct terrain_predicted terrain_predict(struct terrain_engine *engine, const ui
 #define TERRAIN_PAGE 2091
 struct terrain_printed { uint32_t number; size_t length; };
 struct terrain_printed terrain_profile_page(const int16_t *samples, size_t count, uint32_t page, uint8_t *out, size_t room);
+
+/* ---- The writer. Made for a tool beside the engine: a pack is written whole, into one output that the caller lends. terrain_write_pack takes 271 KB of stack, 262,144 bytes of
+ * it marks of keys, terrain_write_tile 9 KB. Up to 262,144 places of the grid, or with tiles in row order, the time grows as tiles, their bytes and places do. */
+
+/* How many bytes were written; or the refusal's number, and 0. A refusal leaves all of `out` as it was, and a result what lies past it. */
+struct terrain_written { uint32_t number, length; };
+
+/* The tile of a key made of its records, for a pack of that tile side. Nodes and vertices are three numbers each: x, y, z; edges seven: from, to, first vertex, vertices, class, flags,
+ * group; the counts are of numbers. 13 for records that a reader would refuse: not whole ones, `lon_um` 0, a node outside the side or before the one above it by y, then x, an edge's node
+ * or vertex that is not there, a number that its field can't hold, more than 49,152 bytes in all; then 14 for an output that is too short. */
+struct terrain_written terrain_write_tile(struct terrain_key key, uint32_t size, uint32_t lon_um, const uint16_t *nodes, size_t nodes_len, const uint32_t *edges, size_t edges_len, const uint16_t *vertices, size_t vertices_len, uint8_t *out, size_t out_len);
+
+/* A pack made of a grid (south-west corner, tile side, rows and columns) and finished tiles, whose bytes stand one after the other in `tiles`, the length of each in `lengths`, in
+ * any order; the key of a tile is the one in its bytes. 13 for a grid that a header can't have, lengths that do not make up the bytes, a tile that a reader would refuse, a key outside the grid or
+ * given twice; then 14 for an output that is too short or a total past 32 bits. */
+struct terrain_written terrain_write_pack(int32_t south, int32_t west, uint32_t size, uint16_t rows, uint16_t cols, const uint8_t *tiles, size_t tiles_len, const uint32_t *lengths, size_t lengths_len, uint8_t *out, size_t out_len);
 
 #ifdef __cplusplus
 }

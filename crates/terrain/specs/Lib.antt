@@ -5,6 +5,7 @@ pub mod Figures
 pub mod Format
 pub mod Transects
 pub mod Page
+pub mod Write
 pub mod Words
 pub mod Put
 pub mod Typed

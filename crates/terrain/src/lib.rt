@@ -2,7 +2,7 @@
 // state or allocates; each bit pattern has an answer. include/terrain.h declares it for C.
 //
 // `words` has the state's layout and both ways through it, `decode` and `encode` its pieces, `host` the engine's calls; `records` what crosses by value; `leaves`, `format`,
-// `figures`, `transect` and `page` are thin calls of the library's own, `parts` and `roads` the cache's, the matcher's and predict's.
+// `figures`, `transect`, `page` and `write` are thin calls of the library's own, `parts` and `roads` the cache's, the matcher's and predict's.
 mod decode;
 mod encode;
 mod figures;
@@ -15,3 +15,4 @@ pub mod records;
 pub mod roads;
 mod transect;
 pub mod words;
+mod write;
