@@ -4,7 +4,7 @@ use Prim.Native.Nat.{ℕ, _+_, _-_, _*_, _/_, min}
 
 -- no grid reaches so far: 720,000,000 and a tile
 abbrev pub reach : ℕ
-reach = 4294967295
+reach = 0xffff_ffff
 
 -- micrometres of ground along so many micro-degrees, in units of the page
 abbrev pub units : ℕ → ℕ → ℕ → ℕ

@@ -7,12 +7,12 @@ use lib.IntN.{ℤ, pos, negsuc}
 -- z modulo 2 ^ 32, of a z that has 32 bits: Rust's `z as u32`
 abbrev pub bits32 : ℤ → ℕ
 bits32 (pos n) = n
-bits32 (negsuc n) = 4294967295 - n
+bits32 (negsuc n) = 0xffff_ffff - n
 
 -- z modulo 2 ^ 16: the number that its low 16 bits stand for
 abbrev pub lowBits : ℤ → ℕ
-lowBits (pos n) = n % 65536
-lowBits (negsuc n) = 65535 - n % 65536
+lowBits (pos n) = n % 0x1_0000
+lowBits (negsuc n) = 0xffff - n % 0x1_0000
 
 -- 16 bits read in two's complement
 abbrev pub signed16 : ℕ → ℤ

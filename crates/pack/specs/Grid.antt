@@ -63,7 +63,7 @@ keyOf h lat lon =
 
 -- held to 32 bits from above, which a grid within its rules never reaches
 abbrev pub held : ℤ → ℤ
-held z = cond (ltZ (pos 2147483647) z) (pos 2147483647) z
+held z = cond (ltZ (pos 0x7fff_ffff) z) (pos 0x7fff_ffff) z
 
 -- the south-west corner of a tile
 unfoldable pub cornerOf : Header → TileKey → Corner

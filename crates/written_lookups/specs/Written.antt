@@ -17,8 +17,8 @@ use Rattle.writer.specs.PackSteps.{numbered}
 
 -- what `writer::pack` is given and answers with a length: numbers that fit their types, nothing that 13 or 14 refuses
 pub record Made (g : GivenPack) : Type 0 where
-  pub rows : g .rows < 65536
-  pub cols : g .cols < 65536
+  pub rows : g .rows < 0x1_0000
+  pub cols : g .cols < 0x1_0000
   pub good : packGood g ≡ true
   pub fits : total g ≤ 0xffff_ffff
 
