@@ -111,6 +111,7 @@ use Rattle.refusals.specs.Refusals.{entryInside, stillPasses, answers, o
 use Rattle.refusals.proofs.CauseLaws.{tests, refuses, plainly, both, three, asked-at}
 use Rattle.refusals.proofs.LoadLaws.{step-fails, from-fails, entry-refused, entry-number, got-refused, got-number, still-next, fetched-refused, fetched-number, stepped-refused, stepped-runs, from-tested, from-refused, from-runs}
 use Rattle.refusals.proofs.DeliverLaws.{deliver-tested, deliver-number}
+use Rattle.refusals.proofs.WorkLaws.{update-works, predict-uncertain, predict-start, predict-works, step-works, step-from-works}
 
 -- ---- cores that refuse nothing
 
@@ -288,9 +289,13 @@ lines = record {
       (Matchers.refused m c) _ _ _
       (ap (λ x. cond (Matchers.callOk m c h (length arena)) x (Matchers.refused m c 12)) (both _ _ (isPoint (p .lat) (p .lon)) (Matchers.headingOk heading)))
       refl (λ n. refl) (λ n. (refl, refl));
+  update-works = update-works;
   predict = λ c arena h m horizon samples behind. tests (λ (r : Predict.After). numberOfRoad (r .predicted .answer))
       (λ (r : Predict.After). (r .predicted .cache ≡ c) × ((r .samples ≡ samples) × (r .behind ≡ behind)))
       (λ n. Predict.untouched (Predict.refused c n) samples behind) _ _ _ refl refl (λ n. refl) (λ n. (refl, (refl, refl)));
+  predict-uncertain = predict-uncertain;
+  predict-start = predict-start;
+  predict-works = predict-works;
   fix = λ e arena f. refuses (λ (r : Changed). numberOfTaken (r .answer)) (λ (r : Changed). r .engine ≡ e) (Engines.unchanged e) _ _ _ refl refl (λ n. refl)
       (λ n. refl) (λ z. refl);
   lost = λ e arena. refuses (λ (r : Changed). numberOfTaken (r .answer)) (λ (r : Changed). r .engine ≡ e) (Engines.unchanged e) _ _ _ refl refl (λ n. refl)
@@ -306,11 +311,13 @@ lines = record {
   engine-loads = λ e arena. plainly numberOfHeld Held.Refused _ _ _ refl refl (λ n. refl) (λ z. refl);
   steps = λ e arena. plainly numberOfHeld Held.Refused _ _ _ refl refl (λ n. refl) (λ z. refl);
   step = λ e arena. tests (λ (r : Stepped). numberOfStatus (r .answer)) (λ (r : Stepped). r .engine ≡ e) (Engines.refused e) _ _ _ refl refl (λ n. refl) (λ n. refl);
+  step-works = step-works;
   deliver = λ e arena failure bs. refuses (λ (r : Deliver.After). numberOfStatus (r .answer)) (Same e arena) (λ n. Deliver.over (Engines.refused e n) arena) _ _ _
       (deliver-tested e arena failure bs) refl (λ n. refl) (λ n. (refl, refl))
       (λ z. deliver-number e arena failure bs (asked-at 0 _ refl z) (asked-at 1 _ refl z));
   step-from = λ e arena pack. tests (λ (r : Deliver.After). numberOfStatus (r .answer)) (Same e arena) (λ n. Deliver.over (Engines.refused e n) arena) _ _ _
       (from-step e arena pack (engineOk e (length arena)) (Steps.stepped e arena)) refl (λ n. refl) (λ n. (refl, refl));
+  step-from-works = step-from-works;
   write-tile = λ g out. refuses (λ (r : TileWritten.Written). numberOfWritten (r .answer)) (λ (r : TileWritten.Written). r .out ≡ out)
       (λ n. record { answer = Written.Refused n; out = out }) _ _ _ refl refl (λ n. refl) (λ n. refl) (λ z. refl);
   write-pack = λ g out. refuses (λ (r : TileWritten.Written). numberOfWritten (r .answer)) (λ (r : TileWritten.Written). r .out ≡ out)

@@ -1,8 +1,9 @@
 -- A call and its causes of refusal: document 01, "Refused".
 use Prim.Native.Nat.{ℕ, _<_}
 use mathlib.Core.Path.{_≡_}
-use mathlib.Core.Bool.{Bool, cond}
+use mathlib.Core.Bool.{Bool, true, _||_, cond}
 use mathlib.Core.List.{List, [], _∷_}
+use lib.Dec.{eqb}
 
 -- a number, and what is asked: the cause is there where this is not so
 pub record Cause : Type 0 where
@@ -30,6 +31,16 @@ pub record Tests (causes : List Cause) (number : ℕ) (AsItWas Does : Type 0) : 
   pub is : 0 < firstOf causes → number ≡ firstOf causes
   pub as-it-was : 0 < firstOf causes → AsItWas
   pub goes-on : firstOf causes ≡ 0 → Does
+
+-- 0, or one of these numbers
+abbrev pub among : List ℕ → ℕ → Bool
+among [] n = eqb n 0
+among (k ∷ ks) n = eqb n k || among ks n
+
+-- What such work is refused with, and what is then as it was.
+pub record Works (numbers : List ℕ) (number : ℕ) (AsItWas : Type 0) : Type 0 where
+  pub is : among numbers number ≡ true
+  pub as-it-was : 0 < number → AsItWas
 
 -- of a call that is lent nothing that it could change, and whose refusal has no value but its number
 abbrev pub NothingLent : Type 0

@@ -2,7 +2,7 @@
 -- `Tile::parse` waits for its lookup), then 11, 8, 9, 7, then the Rust's order"; 13 and 14 are document 02's. A line has a function's causes in this order,
 -- each by its number and the definition of its crate that says what is asked; the number of the answer by the definition that gives it for each case
 -- (`numberOf..`); what is as it was where the call is refused; and what it does where it is not. `Refuses`: these are all its refusals. `Tests`: these are
--- tested before its work, and the work has further ones of its own. `proofs/Table` proves it.
+-- tested before its work, and `Works` has the numbers that the work is refused with. `lines` of proofs/Table proves it.
 --
 -- A function that isn't here refuses nothing, or has the definition of one that is: a view's readers that of `tile` and `geo`, geo's `bearing` that of `angle`.
 -- The public cores `loaded`, `settled`, `updated` and `predicted` are `load`, `update` and `predict` past their 12, by the same definitions.
@@ -64,7 +64,8 @@ use Rattle.cache.specs.State.{stateOk, lentOk, cacheOk}
 use Rattle.cache.specs.State as States
 use Rattle.cache.specs.Lookups.{nextStep}
 use Rattle.cache.specs.Lookups as Lookups
-use Rattle.cache.specs.Direct.{Look, ready, missing, absent, stale, look}
+use Rattle.cache.specs.Direct.{Look, ready, missing, absent, stale, look, Aged}
+use Rattle.cache.specs.Reader.{plain}
 use Rattle.cache.specs.Loads.{fits, takes, packBytes}
 use Rattle.cache.specs.Loads as Loads
 use Rattle.cache.specs.Calls as Cached
@@ -77,14 +78,17 @@ use Rattle.cache.specs.declared.Request.the-variants as Request
 use Rattle.cache.specs.declared.next.Next.{Next}
 use Rattle.cache.specs.declared.next.Next.the-variants as Next
 use Rattle.matcher.specs.State.{countsOk, callOk, headingOk}
+use Rattle.matcher.specs.Score.{sameId}
 use Rattle.matcher.specs.Near as Near
 use Rattle.matcher.specs.Gather as Gather
 use Rattle.matcher.specs.Calls as Matched
 use Rattle.matcher.specs.Numbers.{numberOfAnswer as numberOfNearby, numberOfCurrentRead, numberOfOutcome as numberOfMatch}
 use Rattle.matcher.specs.declared.Answer.the-variants as Nearby
 use Rattle.matcher.specs.declared.Matcher.{Matcher}
+use Rattle.matcher.specs.declared.Forward.the-variants as Forward
 use Rattle.matcher.specs.declared.Heading.{Heading}
 use Rattle.matcher.specs.declared.Matched as Match
+use Rattle.predict.specs.Start.{startOk}
 use Rattle.predict.specs.Predict as Predict
 use Rattle.predict.specs.Numbers.{numberOfOutcome as numberOfRoad}
 use Rattle.engine.specs.State.{engineOk}
@@ -111,7 +115,7 @@ use Rattle.writer.specs.declared.Answer.the-variants as Written
 use Rattle.profile_text.specs.Page as Page
 use Rattle.profile_text.specs.declared.page.Printed.{Printed}
 use Rattle.profile_text.specs.declared.page.Printed.the-variants as Printed
-use Rattle.refusals.specs.Causes.{_unless_, firstOf, Refuses, Tests, NothingLent}
+use Rattle.refusals.specs.Causes.{_unless_, firstOf, Refuses, Tests, Works, NothingLent}
 
 -- ---- what is asked, where the crates have no word for it
 
@@ -134,6 +138,31 @@ stillPasses (ready bs) = true
 stillPasses missing = true
 stillPasses absent = true
 stillPasses stale = false
+
+-- the start of a road in its tile, as this was looked up: 5 where it is not loaded, 6 where it is missing or of another id, then 10
+abbrev pub isLoaded : Look → Bool
+isLoaded (ready bs) = true
+isLoaded missing = true
+isLoaded absent = false
+isLoaded stale = true
+
+abbrev pub isThere : Look → Bool
+isThere (ready bs) = true
+isThere missing = false
+isThere absent = true
+isThere stale = true
+
+abbrev pub isSame : Look → Match.Matched → Bool
+isSame (ready bs) m = sameId (Layout.idOf bs) (m .tile)
+isSame missing m = true
+isSame absent m = true
+isSame stale m = true
+
+abbrev pub startsWithin : Look → Match.Matched → Bool
+startsWithin (ready bs) m = startOk bs m
+startsWithin missing m = true
+startsWithin absent m = true
+startsWithin stale m = true
 
 -- 2, a read past a lent pack
 abbrev pub inPack : Request → List ℕ → Bool
@@ -230,8 +259,8 @@ pub record Refusals : Type 0 where
   pub pages : (c : Cache) (arena : List ℕ) (h : Header) (k : TileKey) → let r = Cached.pages c arena h k in
       Refuses (12 unless cacheOk c h (length arena) ∷ 9 unless inGrid h k ∷ []) (numberOfCount r) NothingLent (r ≡ Count.Is (Lookups.pagesOf (c .pages) k))
   pub get : (c : Cache) (arena : List ℕ) (h : Header) (k : TileKey) → let r = Cached.get c arena h k in
-      Refuses (12 unless cacheOk c h (length arena) ∷ 9 unless inGrid h k ∷ 12 unless stillPasses (look c arena (h .tile) k) ∷ [])
-      (numberOfLookup (r .answer)) (r .cache ≡ c) (r ≡ Lookups.got c arena (h .tile) k)
+      Refuses (12 unless cacheOk c h (length arena) ∷ 9 unless inGrid h k ∷ 12 unless stillPasses (look c arena (h .tile) k) ∷ []) (numberOfLookup (r .answer))
+      (r .cache ≡ c) (r ≡ Lookups.got c arena (h .tile) k)
   pub clear : (c : Cache) (arena : List ℕ) → let r = Cached.clear c arena in
       Refuses (12 unless lentOk c (length arena) ∷ []) (numberOfClearing (r .answer)) (r .cache ≡ c)
       (r ≡ record { answer = Clearing.Done; cache = States.cleared c })
@@ -240,11 +269,7 @@ pub record Refusals : Type 0 where
       (numberOfRequest r) NothingLent (r ≡ Loads.fetched c (nextStep c k) arena h k)
   pub load : (c : Cache) (arena : List ℕ) (h : Header) (k : TileKey) (failure : ℕ) (bs : List ℕ) → let r = Cached.load c arena h k failure bs in
       Refuses
-      (12 unless cacheOk c h (length arena)
-      ∷ 11 unless takes (nextStep c k) h k failure (length bs)
-      ∷ 9 unless inGrid h k
-      ∷ 12 unless stillPasses (look c arena (h .tile) k)
-      ∷ [])
+      (12 unless cacheOk c h (length arena) ∷ 11 unless takes (nextStep c k) h k failure (length bs) ∷ 9 unless inGrid h k ∷ 12 unless stillPasses (look c arena (h .tile) k) ∷ [])
       (refusedProgress (r .answer)) ((r .cache ≡ c) × (r .arena ≡ arena)) (r ≡ Loads.stepped c (nextStep c k) arena h k failure bs)
   pub load-from : (c : Cache) (arena : List ℕ) (h : Header) (k : TileKey) (pack : List ℕ) → let r = Cached.loadFrom c arena h k pack in
       Refuses (12 unless cacheOk c h (length arena) ∷ 9 unless inGrid h k ∷ 12 unless stillPasses (look c arena (h .tile) k) ∷ [])
@@ -270,12 +295,34 @@ pub record Refusals : Type 0 where
   pub update : (m : Matcher) (c : Cache) (arena : List ℕ) (h : Header) (p : Point) (heading : Heading) → let r = Matched.update m c arena h p heading in
       Tests (12 unless callOk m c h (length arena) ∷ 8 unless isPoint (p .lat) (p .lon) ∷ 8 unless headingOk heading ∷ [])
       (numberOfMatch (r .answer)) ((r .matcher ≡ m) × (r .cache ≡ c)) (r ≡ Gather.updated m c arena h p heading)
-  -- predict: then Uncertain where there is no direction; of the start the late 12, 5, 6 and 10; and at each lookup of the walk the late 12 and 5
+  pub update-works : (m : Matcher) (c : Cache) (arena : List ℕ) (h : Header) (p : Point) (heading : Heading) → let r = Gather.updated m c arena h p heading in
+      Works (12 ∷ 5 ∷ []) (numberOfMatch (r .answer))
+      ((r .matcher ≡ m) × (Aged c (r .cache) × (numberOfMatch (r .answer) ≡ 12 → r .cache ≡ c)))
+  -- predict
   pub predict : (c : Cache) (arena : List ℕ) (h : Header) (m : Match.Matched) (horizon : Float) (samples behind : List ℤ) →
       let r = Predict.predict c arena h m horizon samples behind in
       Tests (12 unless cacheOk c h (length arena) ∷ 9 unless inGrid h (m .tile .key) ∷ [])
       (numberOfRoad (r .predicted .answer)) ((r .predicted .cache ≡ c) × ((r .samples ≡ samples) × (r .behind ≡ behind)))
       (r ≡ Predict.predictedIn c arena h m horizon samples behind)
+  -- then without direction it is Uncertain, and nothing is looked up
+  pub predict-uncertain : (c : Cache) (arena : List ℕ) (h : Header) (m : Match.Matched) (horizon : Float) (samples behind : List ℤ) →
+      m .forward ≡ Forward.Unknown → Predict.predictedIn c arena h m horizon samples behind ≡ Predict.untouched (Predict.noDirection c) samples behind
+  -- with one, of the start's tile; a tile found has its clock and age moved, and no height is set
+  pub predict-start : (c : Cache) (arena : List ℕ) (h : Header) (m : Match.Matched) (horizon : Float) (samples behind : List ℤ) (forward : Bool) →
+      m .forward ≡ Forward.Is forward →
+      let r = Predict.predictedIn c arena h m horizon samples behind in
+      let at = look c arena (h .tile) in
+      let l = at (m .tile .key) in
+      Tests (12 unless stillPasses l ∷ 5 unless isLoaded l ∷ 6 unless isThere l ∷ 6 unless isSame l m ∷ 10 unless startsWithin l m ∷ [])
+      (numberOfRoad (r .predicted .answer))
+      ((r .predicted .cache ≡ Lookups.got c arena (h .tile) (m .tile .key) .cache) × ((r .samples ≡ samples) × (r .behind ≡ behind)))
+      ((bs : List ℕ) → l ≡ ready bs → Predict.predictOver at (c .pages .count) h m horizon samples behind
+      ≡ Predict.roadOver (plain at) (c .pages .count) (Predict.tripOf h m horizon) m forward (m .tile .key ∷ []) bs samples behind)
+  -- then at each lookup of the walk the late 12 and 5; the heights set before stay
+  pub predict-works : (c : Cache) (arena : List ℕ) (h : Header) (m : Match.Matched) (horizon : Float) (samples behind : List ℤ) →
+      let r = Predict.predictedIn c arena h m horizon samples behind in
+      Works (12 ∷ 5 ∷ 6 ∷ 10 ∷ []) (numberOfRoad (r .predicted .answer))
+      (Aged c (r .predicted .cache) × (numberOfRoad (r .predicted .answer) ≡ 12 → r .predicted .cache ≡ c))
   -- engine
   pub fix : (e : Engine) (arena : List ℕ) (f : Fix) → let r = Engined.fix e arena f in
       Refuses (12 unless engineOk e (length arena) ∷ 8 unless isPoint (f .lat) (f .lon) ∷ []) (numberOfTaken (r .answer)) (r .engine ≡ e)
@@ -302,6 +349,8 @@ pub record Refusals : Type 0 where
   -- then the late 12 of a lookup
   pub step : (e : Engine) (arena : List ℕ) → let r = Engined.step e arena in
       Tests (12 unless engineOk e (length arena) ∷ []) (numberOfStatus (r .answer)) (r .engine ≡ e) (r ≡ Steps.stepped e arena)
+  pub step-works : (e : Engine) (arena : List ℕ) → engineOk e (length arena) ≡ true → let r = Steps.stepped e arena in
+      Works (12 ∷ []) (numberOfStatus (r .answer)) (r .engine ≡ e)
   pub deliver : (e : Engine) (arena : List ℕ) (failure : ℕ) (bs : List ℕ) → let r = Engined.deliver e arena failure bs in
       Refuses (12 unless engineOk e (length arena) ∷ 11 unless answers (openFetch e) failure (length bs) ∷ []) (numberOfStatus (r .answer))
       ((r .engine ≡ e) × (r .arena ≡ arena)) (r ≡ Deliver.delivered e arena failure bs)
@@ -309,6 +358,9 @@ pub record Refusals : Type 0 where
   pub step-from : (e : Engine) (arena pack : List ℕ) → let r = Engined.stepFrom e arena pack in
       Tests (12 unless engineOk e (length arena) ∷ []) (numberOfStatus (r .answer)) ((r .engine ≡ e) × (r .arena ≡ arena))
       (r ≡ Engined.stepFromBy (Steps.stepped e arena .answer) (Steps.stepped e arena) arena pack)
+  pub step-from-works : (e : Engine) (arena pack : List ℕ) → engineOk e (length arena) ≡ true →
+      let r = Engined.stepFromBy (Steps.stepped e arena .answer) (Steps.stepped e arena) arena pack in
+      Works (12 ∷ []) (numberOfStatus (r .answer)) ((r .engine ≡ e) × (r .arena ≡ arena))
   -- writer
   pub write-tile : (g : Given) (out : List ℕ) → let r = TileWritten.tile g out in
       Refuses (13 unless tileGood g ∷ 14 unless leb (tileLength g) (length out) ∷ []) (numberOfWritten (r .answer)) (r .out ≡ out)
