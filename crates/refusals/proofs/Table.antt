@@ -276,6 +276,10 @@ lines = record {
       (ap (λ x. cond (cacheOk c h (length arena)) (cond (takes (nextStep c k) h k failure (length bs)) (cond (inGrid h k) x (over (refused c 9) arena)) (over (refused c 11) arena)) (over (refused c 12) arena))
       (load-late c arena h k failure bs))
       refl (λ n. refl) (λ n. (refl, refl)) (λ z. stepped-runs c arena h k failure bs (nextStep c k) (sym (still-next c arena (h .tile) k) ∙ asked-at 3 _ refl z));
+  loaded = λ c arena h k failure bs. refuses (λ (r : Loads.After). refusedProgress (r .answer)) (Kept c arena) (λ n. over (refused c n) arena) _ _ _
+      (ap (λ x. cond (takes (nextStep c k) h k failure (length bs)) (cond (inGrid h k) x (over (refused c 9) arena)) (over (refused c 11) arena))
+      (load-late c arena h k failure bs))
+      refl (λ n. refl) (λ n. (refl, refl)) (λ z. stepped-runs c arena h k failure bs (nextStep c k) (sym (still-next c arena (h .tile) k) ∙ asked-at 2 _ refl z));
   load-from = λ c arena h k pack. refuses (λ (r : Loads.After). refusedProgress (r .answer)) (Kept c arena) (λ n. over (refused c n) arena) _ _ _
       (from-tested c arena h k pack
       ∙ ap (λ x. cond (cacheOk c h (length arena)) (cond (inGrid h k) x (over (refused c 9) arena)) (over (refused c 12) arena)) (from-late c arena h k pack))
@@ -289,8 +293,13 @@ lines = record {
       (Matchers.refused m c) _ _ _
       (ap (λ x. cond (Matchers.callOk m c h (length arena)) x (Matchers.refused m c 12)) (both _ _ (isPoint (p .lat) (p .lon)) (Matchers.headingOk heading)))
       refl (λ n. refl) (λ n. (refl, refl));
+  updated = λ m c arena h p heading. tests (λ (r : Updated). numberOfMatch (r .answer)) (λ (r : Updated). (r .matcher ≡ m) × (r .cache ≡ c))
+      (Matchers.refused m c) _ _ _ (both _ _ (isPoint (p .lat) (p .lon)) (Matchers.headingOk heading)) refl (λ n. refl) (λ n. (refl, refl));
   update-works = update-works;
   predict = λ c arena h m horizon samples behind. tests (λ (r : Predict.After). numberOfRoad (r .predicted .answer))
+      (λ (r : Predict.After). (r .predicted .cache ≡ c) × ((r .samples ≡ samples) × (r .behind ≡ behind)))
+      (λ n. Predict.untouched (Predict.refused c n) samples behind) _ _ _ refl refl (λ n. refl) (λ n. (refl, (refl, refl)));
+  predicted = λ c arena h m horizon samples behind. tests (λ (r : Predict.After). numberOfRoad (r .predicted .answer))
       (λ (r : Predict.After). (r .predicted .cache ≡ c) × ((r .samples ≡ samples) × (r .behind ≡ behind)))
       (λ n. Predict.untouched (Predict.refused c n) samples behind) _ _ _ refl refl (λ n. refl) (λ n. (refl, (refl, refl)));
   predict-uncertain = predict-uncertain;

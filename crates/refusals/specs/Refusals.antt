@@ -4,8 +4,8 @@
 -- (`numberOf..`); what is as it was where the call is refused; and what it does where it is not. `Refuses`: these are all its refusals. `Tests`: these are
 -- tested before its work, and `Works` has the numbers that the work is refused with. `lines` of proofs/Table proves it.
 --
--- A function that isn't here refuses nothing, or has the definition of one that is: a view's readers that of `tile` and `geo`, geo's `bearing` that of `angle`.
--- The public cores `loaded`, `settled`, `updated` and `predicted` are `load`, `update` and `predict` past their 12, by the same definitions.
+-- A function that isn't here refuses nothing, or has the definition of one that is: a view's readers that of `tile` and `geo`, geo's `bearing` that of `angle`,
+-- the cache's `settled` that of `loaded` with failure 0 and no bytes.
 use Prim.Native.Nat.{ℕ, _+_, max}
 use mathlib.Core.Path.{_≡_}
 use mathlib.Core.Bool.{Bool, true, false, _&&_, _||_, cond}
@@ -271,6 +271,10 @@ pub record Refusals : Type 0 where
       Refuses
       (12 unless cacheOk c h (length arena) ∷ 11 unless takes (nextStep c k) h k failure (length bs) ∷ 9 unless inGrid h k ∷ 12 unless stillPasses (look c arena (h .tile) k) ∷ [])
       (refusedProgress (r .answer)) ((r .cache ≡ c) × (r .arena ≡ arena)) (r ≡ Loads.stepped c (nextStep c k) arena h k failure bs)
+  -- `load` past its first test, for the engine
+  pub loaded : (c : Cache) (arena : List ℕ) (h : Header) (k : TileKey) (failure : ℕ) (bs : List ℕ) → let r = Cached.loadTested c arena h k failure bs in
+      Refuses (11 unless takes (nextStep c k) h k failure (length bs) ∷ 9 unless inGrid h k ∷ 12 unless stillPasses (look c arena (h .tile) k) ∷ [])
+      (refusedProgress (r .answer)) ((r .cache ≡ c) × (r .arena ≡ arena)) (r ≡ Loads.stepped c (nextStep c k) arena h k failure bs)
   pub load-from : (c : Cache) (arena : List ℕ) (h : Header) (k : TileKey) (pack : List ℕ) → let r = Cached.loadFrom c arena h k pack in
       Refuses (12 unless cacheOk c h (length arena) ∷ 9 unless inGrid h k ∷ 12 unless stillPasses (look c arena (h .tile) k) ∷ [])
       (refusedProgress (r .answer)) ((r .cache ≡ c) × (r .arena ≡ arena)) (r ≡ Loads.steppedFrom c (nextStep c k) arena h k pack)
@@ -295,6 +299,9 @@ pub record Refusals : Type 0 where
   pub update : (m : Matcher) (c : Cache) (arena : List ℕ) (h : Header) (p : Point) (heading : Heading) → let r = Matched.update m c arena h p heading in
       Tests (12 unless callOk m c h (length arena) ∷ 8 unless isPoint (p .lat) (p .lon) ∷ 8 unless headingOk heading ∷ [])
       (numberOfMatch (r .answer)) ((r .matcher ≡ m) × (r .cache ≡ c)) (r ≡ Gather.updated m c arena h p heading)
+  pub updated : (m : Matcher) (c : Cache) (arena : List ℕ) (h : Header) (p : Point) (heading : Heading) → let r = Matched.updateTested m c arena h p heading in
+      Tests (8 unless isPoint (p .lat) (p .lon) ∷ 8 unless headingOk heading ∷ []) (numberOfMatch (r .answer)) ((r .matcher ≡ m) × (r .cache ≡ c))
+      (r ≡ Gather.updated m c arena h p heading)
   pub update-works : (m : Matcher) (c : Cache) (arena : List ℕ) (h : Header) (p : Point) (heading : Heading) → let r = Gather.updated m c arena h p heading in
       Works (12 ∷ 5 ∷ []) (numberOfMatch (r .answer))
       ((r .matcher ≡ m) × (Aged c (r .cache) × (numberOfMatch (r .answer) ≡ 12 → r .cache ≡ c)))
@@ -304,6 +311,10 @@ pub record Refusals : Type 0 where
       Tests (12 unless cacheOk c h (length arena) ∷ 9 unless inGrid h (m .tile .key) ∷ [])
       (numberOfRoad (r .predicted .answer)) ((r .predicted .cache ≡ c) × ((r .samples ≡ samples) × (r .behind ≡ behind)))
       (r ≡ Predict.predictedIn c arena h m horizon samples behind)
+  pub predicted : (c : Cache) (arena : List ℕ) (h : Header) (m : Match.Matched) (horizon : Float) (samples behind : List ℤ) →
+      let r = Predict.predictTested c arena h m horizon samples behind in
+      Tests (9 unless inGrid h (m .tile .key) ∷ []) (numberOfRoad (r .predicted .answer))
+      ((r .predicted .cache ≡ c) × ((r .samples ≡ samples) × (r .behind ≡ behind))) (r ≡ Predict.predictedIn c arena h m horizon samples behind)
   -- then without direction it is Uncertain, and nothing is looked up
   pub predict-uncertain : (c : Cache) (arena : List ℕ) (h : Header) (m : Match.Matched) (horizon : Float) (samples behind : List ℤ) →
       m .forward ≡ Forward.Unknown → Predict.predictedIn c arena h m horizon samples behind ≡ Predict.untouched (Predict.noDirection c) samples behind
