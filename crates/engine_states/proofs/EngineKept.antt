@@ -1,7 +1,7 @@
 -- No public call makes a state that number 12 names out of one that it doesn't: a fix and the loss of fixes (`fix-kept`, `lost-kept`), another
 -- pack (`reset-kept`), a step (`step-kept`, by `off-map-kept`, `idle-kept`, `match-kept`, `road-kept`), a delivery (`deliver-kept`, of a cache
 -- with its 96 slots). What is needed of the cache's own state is a parameter of each module. The idea: each cause of 12 is looked at by itself
--- (`Ok`), and a call changes few of the parts that it speaks of.
+-- (`Ok`), and a call changes few of the parts that it speaks of. What a change does to one follower is said of that follower alone (`Holds`).
 use Prim.Native.Nat.{ℕ, _+_}
 use mathlib.Core.Path.{_≡_, refl, sym, ap, subst, _∙_}
 use mathlib.Core.Bool.{Bool, true, false, _&&_, cond, true≢false}
@@ -78,7 +78,7 @@ use Rattle.engine.specs.declared.Follower.{Follower}
 use Rattle.engine.specs.declared.MaybeFix.{MaybeFix}
 use Rattle.engine.specs.declared.MaybeFix.the-variants as MaybeFix
 use Rattle.engine.specs.Calls as Calls
-use Rattle.engine.specs.Deliver.{After, withPending, withPhase, withFailures, sectorOf, headerFailed, headerParsed, headerCame, arrived}
+use Rattle.engine.specs.Deliver.{After, failing, withPending, withPhase, withFailures, sectorOf, headerFailed, headerParsed, headerCame, arrived}
 use Rattle.engine.specs.Deliver.{loadFailed, loadedBy, partCame, fitsHeader, needCameBy, deliveredBy, delivered}
 use Rattle.engine.specs.State.{unchanged, followed, forgotten, isReady, isUnread, headerOk, sharedOk, heldOk, needOk, matchedOk, loadsNeeded}
 use Rattle.engine.specs.State.{pendingOk, placesOk, aheadOk, failuresOk, reloadLimit, engineOk}
@@ -92,7 +92,7 @@ use Rattle.engine.specs.declared.Phase.the-variants as Phase
 use Rattle.engine.specs.declared.Shared.{Shared}
 use Rattle.engine.specs.declared.Status.the-variants as Status
 use Rattle.engine.specs.declared.Stepped.{Stepped}
-use Rattle.engine_states.proofs.KeptParts.{published-ok, Ok, apart, together, withCache, cache-ok, none-pending, off-map-ok, road-off-ok}
+use Rattle.engine_states.proofs.KeptParts.{published-ok, Holds, Ok, same-fetch, no-fetch, apart, together, withCache, cache-ok, none-pending, off-map-ok, road-off-ok}
 use Rattle.engine_states.proofs.KeptParts.{counted-ok, rematch-ok, standing-of, standing-ok, matched-ok, match-asks-ok, road-asks-ok, needless-ok}
 use Rattle.engine_states.proofs.KeptParts.{failing-ok, failed-ok}
 use Rattle.engine.proofs.NeedLaws.{needBy, need-is, part-is}
@@ -108,11 +108,11 @@ either-ok : (t : Bool) (a b : Changed) (n : ℕ) → engineOk (a .engine) n ≡ 
 either-ok true a b n p q = p
 either-ok false a b n p q = q
 
-fixed-ok : (s : Shared) (f : Follower) (fix : Fix) (n : ℕ) → isPoint (fix .lat) (fix .lon) ≡ true → Ok s f n → Ok s (Followers.fixed f fix) n
+pub fixed-ok : (s : Shared) (f : Follower) (fix : Fix) → isPoint (fix .lat) (fix .lon) ≡ true → Holds s f → Holds s (Followers.fixed f fix)
 unfolding Followers.fixed
-fixed-ok s f fix n here ok = by (Fixes.isSamePlace (f .sight .fix) fix)
+fixed-ok s f fix here ok = by (Fixes.isSamePlace (f .sight .fix) fix)
   where
-    by : (t : Bool) → Ok s (cond t f (record {
+    by : (t : Bool) → Holds s (cond t f (record {
       sight = Fixes.seen (f .sight) fix;
       matcher = f .matcher;
       due = Followers.matchAsked (f .due);
@@ -120,17 +120,23 @@ fixed-ok s f fix n here ok = by (Fixes.isSamePlace (f .sight .fix) fix)
       failures = f .failures;
       «horizon_m» = f .«horizon_m»;
       steps = f .steps;
-    })) n
+    }))
     by true = ok
     by false = record {
-      shared = ok .shared;
       due = ok .due;
       sight = seen-kept (f .sight) fix (ok .sight) here;
       matcher = ok .matcher;
       ahead = ok .ahead;
       failures = ok .failures;
-      pending = ok .pending;
     }
+
+pub fixed-need : (f : Follower) (fix : Fix) → Followers.fixed f fix .due .need ≡ f .due .need
+unfolding Followers.fixed
+fixed-need f fix = by (Fixes.isSamePlace (f .sight .fix) fix) _ refl
+  where
+    by : (t : Bool) (g : Follower) → g .due .need ≡ f .due .need → cond t f g .due .need ≡ f .due .need
+    by true g e = refl
+    by false g e = e
 
 pub fix-kept : (e : Engine) (arena : List ℕ) (f : Fix) (n : ℕ) → engineOk e n ≡ true → engineOk (Calls.fix e arena f .engine) n ≡ true
 unfolding Calls.fix
@@ -140,7 +146,10 @@ fix-kept e arena f n ok =
     by : (t : Bool) → isPoint (f .lat) (f .lon) ≡ t
         → engineOk (cond t (followed e (Followers.fixed (e .follower) f)) (unchanged e 8) .engine) n ≡ true
     by true here =
-        together (followed e (Followers.fixed (e .follower) f) .engine) n (fixed-ok (e .shared) (e .follower) f n here (apart e n ok))
+        let o : Ok (e .shared) (e .follower) n = apart e n ok in
+        together (followed e (Followers.fixed (e .follower) f) .engine) n
+        (same-fetch (e .shared) (e .follower) (Followers.fixed (e .follower) f) n o (fixed-need (e .follower) f)
+        (fixed-ok (e .shared) (e .follower) f here (o .holds)))
     by false here = ok
 
 ahead-lost : (s : Shared) (a : Ahead) → aheadOk s a ≡ true → aheadOk s (Followers.lostAhead a) ≡ true
@@ -151,23 +160,24 @@ ahead-lost s a ok = by (Followers.isMatched (a .matched))
     by true = refl
     by false = ok
 
-lost-ok : (s : Shared) (f : Follower) (n : ℕ) → Ok s f n → Ok s (Followers.lost f) n
+pub lost-ok : (s : Shared) (f : Follower) → Holds s f → Holds s (Followers.lost f)
 unfolding Followers.lost placesOk lowest
-lost-ok s f n ok = record {
-  shared = ok .shared;
+lost-ok s f ok = record {
   due = ok .due;
   sight = refl;
   matcher = refl;
   ahead = ahead-lost s (f .ahead) (ok .ahead);
   failures = ok .failures;
-  pending = ok .pending;
 }
 
 pub lost-kept : (e : Engine) (arena : List ℕ) (n : ℕ) → engineOk e n ≡ true → engineOk (Calls.lost e arena .engine) n ≡ true
-unfolding Calls.lost
+unfolding Calls.lost Followers.lost
 lost-kept e arena n ok =
+    let o : Ok (e .shared) (e .follower) n = apart e n ok in
     either-ok (engineOk e (length arena)) _ _ n
-    (together (followed e (Followers.lost (e .follower)) .engine) n (lost-ok (e .shared) (e .follower) n (apart e n ok))) ok
+    (together (followed e (Followers.lost (e .follower)) .engine) n
+    (same-fetch (e .shared) (e .follower) (Followers.lost (e .follower)) n o refl (lost-ok (e .shared) (e .follower) (o .holds))))
+    ok
 
 module _ (clears : (c : Cache) → stateOk c ≡ true → stateOk (cleared c) ≡ true) where
   forgotten-ok : (e : Engine) (n : ℕ) → engineOk e n ≡ true → engineOk (forgotten e .engine) n ≡ true
@@ -179,11 +189,13 @@ module _ (clears : (c : Cache) → stateOk c ≡ true → stateOk (cleared c) �
         shared = both (stateOk (cleared (e .shared .cache))) _ (clears (e .shared .cache) (and-left (stateOk (e .shared .cache)) _ (o .shared)))
             (both (arenaOk (e .shared .cache) n) true
             (and-left (arenaOk (e .shared .cache) n) (headerOk (e .shared)) (and-right (stateOk (e .shared .cache)) _ (o .shared))) refl);
-        due = rw (le-leb 0 (reloadLimit (e .shared .cache .pages .count)) (omega arith));
-        sight = o .sight;
-        matcher = refl;
-        ahead = refl;
-        failures = refl;
+        holds = record {
+          due = rw (le-leb 0 (reloadLimit (e .shared .cache .pages .count)) (omega arith));
+          sight = o .holds .sight;
+          matcher = refl;
+          ahead = refl;
+          failures = refl;
+        };
         pending = refl;
       }
 
@@ -193,16 +205,25 @@ module _ (clears : (c : Cache) → stateOk c ≡ true → stateOk (cleared c) �
 
 -- ---- off the map, and idle
 
+-- the follower with its step counted
+counted-in : (e : Engine) (n : ℕ) → engineOk e n ≡ true → Ok (e .shared) (counted (e .follower)) n
+counted-in e n ok =
+    let o : Ok (e .shared) (e .follower) n = apart e n ok in
+    same-fetch (e .shared) (e .follower) (counted (e .follower)) n o refl (counted-ok (e .shared) (e .follower) (o .holds))
+
 pub off-map-kept : (e : Engine) (fix : Fix) (n : ℕ) → engineOk e n ≡ true
     → engineOk (ended e (e .shared .cache) (offMap (counted (e .follower)) fix) Status.OffMap .engine) n ≡ true
+unfolding offMap
 off-map-kept e fix n ok =
+    let o : Ok (e .shared) (counted (e .follower)) n = counted-in e n ok in
     together (ended e (e .shared .cache) (offMap (counted (e .follower)) fix) Status.OffMap .engine) n
-    (off-map-ok (e .shared) (counted (e .follower)) n (counted-ok (e .shared) (e .follower) n (apart e n ok)) fix)
+    (same-fetch (e .shared) (counted (e .follower)) (offMap (counted (e .follower)) fix) n o refl
+    (off-map-ok (e .shared) (counted (e .follower)) (o .holds) fix))
 
 pub idle-kept : (e : Engine) (n : ℕ) → engineOk e n ≡ true
     → engineOk (ended e (e .shared .cache) (counted (e .follower)) Status.Idle .engine) n ≡ true
 idle-kept e n ok =
-    together (ended e (e .shared .cache) (counted (e .follower)) Status.Idle .engine) n (counted-ok (e .shared) (e .follower) n (apart e n ok))
+    together (ended e (e .shared .cache) (counted (e .follower)) Status.Idle .engine) n (counted-in e n ok)
 
 -- ---- a match and a road, in phase Ready with no fetch open
 
@@ -237,22 +258,29 @@ module _ (aged : (c d : Cache) → Aged c d → stateOk c ≡ true → stateOk d
   looked-ok : (d : Cache) → Aged (e .shared .cache) d → Ok (withCache (e .shared) d) (counted (e .follower)) n
   unfolding sharedOk
   looked-ok d a =
-      let o : Ok (e .shared) (counted (e .follower)) n = counted-ok (e .shared) (e .follower) n (apart e n ok) in
+      let o : Ok (e .shared) (counted (e .follower)) n = counted-in e n ok in
       cache-ok (e .shared) d (counted (e .follower)) n o (aged (e .shared .cache) d a (and-left (stateOk (e .shared .cache)) _ (o .shared))) (a .count)
       (none-pending (withCache (e .shared) d) (e .follower .due .need) (a .pending ∙ idle))
+
+  -- no fetch is open, so any follower that holds what it may
+  works : (d : Cache) → Aged (e .shared .cache) d → (g : Follower) → Holds (withCache (e .shared) d) g
+      → engineOk (record { shared = withCache (e .shared) d; follower = g }) n ≡ true
+  works d a g h =
+      together (record { shared = withCache (e .shared) d; follower = g }) n
+      (no-fetch (withCache (e .shared) d) (counted (e .follower)) g n (looked-ok d a) (a .pending ∙ idle) h)
 
   -- ---- a match
 
   match-by : (x : MatchOutcome.Outcome) (fix : Fix) (u : Updated) → Aged (e .shared .cache) (u .cache) → Standing (e .shared .header) (u .matcher)
       → Matchers.NeedIn (e .shared .header) x → engineOk (matchEndedBy x e (counted (e .follower)) fix u .engine) n ≡ true
   match-by (Found.Found m) fix u a p need =
-      together _ n (matched-ok (withCache (e .shared) (u .cache)) (counted (e .follower)) n (looked-ok (u .cache) a) (u .matcher) fix
+      works (u .cache) a _ (matched-ok (withCache (e .shared) (u .cache)) (counted (e .follower)) (looked-ok (u .cache) a .holds) (u .matcher) fix
       (standing-ok (withCache (e .shared) (u .cache)) (u .matcher) ready p))
   match-by Found.Nothing fix u a p need =
-      together _ n (matched-ok (withCache (e .shared) (u .cache)) (counted (e .follower)) n (looked-ok (u .cache) a) (u .matcher) fix
+      works (u .cache) a _ (matched-ok (withCache (e .shared) (u .cache)) (counted (e .follower)) (looked-ok (u .cache) a .holds) (u .matcher) fix
       (standing-ok (withCache (e .shared) (u .cache)) (u .matcher) ready p))
   match-by (Found.Need key) fix u a p need =
-      together _ n (match-asks-ok (withCache (e .shared) (u .cache)) (counted (e .follower)) n (looked-ok (u .cache) a) ready (a .pending ∙ idle) key need)
+      works (u .cache) a _ (match-asks-ok (withCache (e .shared) (u .cache)) (counted (e .follower)) (looked-ok (u .cache) a .holds) ready key need)
   match-by (Found.Refused number) fix u a p need = ok
 
   pub match-kept : (fix : Fix) → engineOk (matchStep e arena (counted (e .follower)) fix .engine) n ≡ true
@@ -266,7 +294,7 @@ module _ (aged : (c d : Cache) → Aged c d → stateOk c ≡ true → stateOk d
       let u : Updated = updated m c arena h (placeOf fix) (e .follower .sight .heading) in
       match-by (u .answer) fix u (updated-aged c arena (h .tile) (r .found) (r .end))
       (update-kept h at (look-accepted c arena h) m (placeOf fix) (e .follower .sight .heading)
-      (standing-of (e .shared) m ready (apart e n ok .matcher)))
+      (standing-of (e .shared) m ready (apart e n ok .holds .matcher)))
       (update-needs h at (look-accepted c arena h) m (placeOf fix) (e .follower .sight .heading))
 
   -- ---- a road
@@ -275,20 +303,25 @@ module _ (aged : (c d : Cache) → Aged c d → stateOk c ≡ true → stateOk d
       → heldOk (e .shared) (found .tile .key) ≡ true → RoadIn (e .shared .header) 501 11 x
       → engineOk (roadEndedBy x e (counted (e .follower)) fix found p .engine) n ≡ true
   road-by (Road.Road r) fix found p a key most =
-      together _ n (published-ok (withCache (e .shared) (p .predicted .cache)) (counted (e .follower)) n (looked-ok (p .predicted .cache) a) _ fix found r key
+      works (p .predicted .cache) a _
+      (published-ok (withCache (e .shared) (p .predicted .cache)) (counted (e .follower)) (looked-ok (p .predicted .cache) a .holds) _ fix found r key
       (most .0) (most .1))
   road-by (Road.Need needed) fix found p a key in-grid =
-      together _ n (road-asks-ok (withCache (e .shared) (p .predicted .cache)) (counted (e .follower)) n (looked-ok (p .predicted .cache) a) ready
-      (a .pending ∙ idle) needed in-grid fix found key)
+      works (p .predicted .cache) a _
+      (road-asks-ok (withCache (e .shared) (p .predicted .cache)) (counted (e .follower)) (looked-ok (p .predicted .cache) a .holds) ready needed in-grid fix
+      found key)
   road-by Road.Rematch fix found p a key most =
-      together _ n (rematch-ok (withCache (e .shared) (p .predicted .cache)) (counted (e .follower)) n (looked-ok (p .predicted .cache) a))
+      works (p .predicted .cache) a _
+      (rematch-ok (withCache (e .shared) (p .predicted .cache)) (counted (e .follower)) (looked-ok (p .predicted .cache) a .holds))
   road-by (Road.Refused number) fix found p a key most =
       either-stepped (eqb number 10) _ _ n
-      (together _ n (rematch-ok (withCache (e .shared) (p .predicted .cache)) (counted (e .follower)) n (looked-ok (p .predicted .cache) a))) ok
+      (works (p .predicted .cache) a _
+      (rematch-ok (withCache (e .shared) (p .predicted .cache)) (counted (e .follower)) (looked-ok (p .predicted .cache) a .holds)))
+      ok
 
   -- the matcher's match lies in the grid
   current-held : (found : Matched) → e .follower .matcher .current ≡ Current.Is found → heldOk (e .shared) (found .tile .key) ≡ true
-  current-held found is = rw is at (and-right (countsOk (e .follower .matcher)) (matchedOk (e .shared) (e .follower .matcher .current)) (apart e n ok .matcher))
+  current-held found is = rw is at (and-right (countsOk (e .follower .matcher)) (matchedOk (e .shared) (e .follower .matcher .current)) (apart e n ok .holds .matcher))
 
   pub road-kept : (fix : Fix) (found : Matched) → e .follower .matcher .current ≡ Current.Is found
       → engineOk (roadStep e arena (counted (e .follower)) fix found .engine) n ≡ true
@@ -312,7 +345,8 @@ module _ (aged : (c d : Cache) → Aged c d → stateOk c ≡ true → stateOk d
       → engineOk (roadDueBy x e arena (counted (e .follower)) fix .engine) n ≡ true
   road-due-by (Current.Is found) fix is = road-kept fix found is
   road-due-by Current.Nothing fix is =
-      together _ n (road-off-ok (e .shared) (counted (e .follower)) n (counted-ok (e .shared) (e .follower) n (apart e n ok)))
+      let o : Ok (e .shared) (counted (e .follower)) n = counted-in e n ok in
+      together _ n (same-fetch (e .shared) (counted (e .follower)) _ n o refl (road-off-ok (e .shared) (counted (e .follower)) (o .holds)))
 
   at-fix-by : (x : Keyed) (fix : Fix) → engineOk (atFixBy x e arena (counted (e .follower)) fix .engine) n ≡ true
   at-fix-by (Keyed.In key) fix =
@@ -374,14 +408,16 @@ module _ (e : Engine) (n : ℕ) (ok : engineOk e n ≡ true) where
   other-ok : (d : Cache) → stateOk d ≡ true → d .pages .count ≡ e .shared .cache .pages .count → d .pending ≡ Pending.Nothing
       → Ok (withCache (e .shared) d) (counted (e .follower)) n
   other-ok d good count idle =
-      cache-ok (e .shared) d (counted (e .follower)) n (counted-ok (e .shared) (e .follower) n (apart e n ok)) good count
+      cache-ok (e .shared) d (counted (e .follower)) n (counted-in e n ok) good count
       (none-pending (withCache (e .shared) d) (e .follower .due .need) idle)
 
   arrived-ok : (d : Cache) → stateOk d ≡ true → d .pages .count ≡ e .shared .cache .pages .count → d .pending ≡ Pending.Nothing
       → engineOk (arrived e d .engine) n ≡ true
   unfolding arrived
   arrived-ok d good count idle =
-      together _ n (needless-ok (withCache (e .shared) d) (counted (e .follower)) n idle (other-ok d good count idle))
+      let o : Ok (withCache (e .shared) d) (counted (e .follower)) n = other-ok d good count idle in
+      together _ n
+      (no-fetch (withCache (e .shared) d) (counted (e .follower)) _ n o idle (needless-ok (withCache (e .shared) d) (counted (e .follower)) (o .holds)))
 
   -- whatever it reads
   opened-ok : (p : Pending) → stateOk (withPending (e .shared .cache) p) ≡ true
@@ -481,6 +517,29 @@ either-true : (t : Bool) (a b : Stepped) (n : ℕ) → (t ≡ true → engineOk 
 either-true true a b n p q = p refl
 either-true false a b n p q = q
 
+-- a follower that holds what it may while the header is unread holds nothing of its grid, and so whatever comes
+pub renewed-holds : (s : Shared) (x : Phase) (h : Header) (f : Follower) (k : ℕ) → s .phase ≡ Phase.Unread → failuresOk x k ≡ true → Holds s f
+    → Holds (withPhase s x h) (failing f k)
+renewed-holds s x h f k unread few o =
+    let next : Shared = withPhase s x h in
+    let due : needOk s (f .due .need) ≡ true = and-right (leb (f .due .reloads) (reloadLimit (s .cache .pages .count))) _ (o .due) in
+    let behind : (leb (f .ahead .«behind_len») 11 && matchedOk s (f .ahead .matched)) ≡ true = and-right (leb (f .ahead .len) 501) _ (o .ahead) in
+    record {
+      due =
+          both (leb (f .due .reloads) (reloadLimit (s .cache .pages .count))) _
+          (and-left (leb (f .due .reloads) (reloadLimit (s .cache .pages .count))) _ (o .due))
+          (need-unread s next (f .due .need) unread due);
+      sight = o .sight;
+      matcher =
+          both (countsOk (f .matcher)) _ (and-left (countsOk (f .matcher)) _ (o .matcher))
+          (matched-unread s next (f .matcher .current) unread (and-right (countsOk (f .matcher)) _ (o .matcher)));
+      ahead =
+          both (leb (f .ahead .len) 501) _ (and-left (leb (f .ahead .len) 501) _ (o .ahead))
+          (both (leb (f .ahead .«behind_len») 11) _ (and-left (leb (f .ahead .«behind_len») 11) _ behind)
+          (matched-unread s next (f .ahead .matched) unread (and-right (leb (f .ahead .«behind_len») 11) _ behind)));
+      failures = few;
+    }
+
 module _ (opens-nothing : (c : Cache) → stateOk c ≡ true → stateOk (withPending c Pending.Nothing) ≡ true)
     (e : Engine) (n : ℕ) (ok : engineOk e n ≡ true) (unread : e .shared .phase ≡ Phase.Unread) where
   renewed-ok : (x : Phase) (h : Header) (k : ℕ) → headerOk (withPhase (e .shared) x h) ≡ true → failuresOk x k ≡ true
@@ -488,36 +547,20 @@ module _ (opens-nothing : (c : Cache) → stateOk c ≡ true → stateOk (withPe
   unfolding sharedOk
   renewed-ok x h k good few =
       let s : Shared = e .shared in
-      let f : Follower = e .follower in
       let next : Shared = withPhase s x h in
-      let o : Ok s f n = apart e n ok in
+      let o : Ok s (e .follower) n = apart e n ok in
       let shared : (arenaOk (s .cache) n && headerOk s) ≡ true = and-right (stateOk (s .cache)) _ (o .shared) in
-      let due : needOk s (f .due .need) ≡ true
-      = and-right (leb (f .due .reloads) (reloadLimit (s .cache .pages .count))) _ (o .due) in
-      let behind : (leb (f .ahead .«behind_len») 11 && matchedOk s (f .ahead .matched)) ≡ true = and-right (leb (f .ahead .len) 501) _ (o .ahead) in
       together _ n
       (record {
         shared =
             both (stateOk (next .cache)) _ (opens-nothing (s .cache) (state-is e n ok))
             (both (arenaOk (s .cache) n) _ (and-left (arenaOk (s .cache) n) _ shared) good);
-        due =
-            both (leb (f .due .reloads) (reloadLimit (s .cache .pages .count))) _
-            (and-left (leb (f .due .reloads) (reloadLimit (s .cache .pages .count))) _ (o .due))
-            (need-unread s next (f .due .need) unread due);
-        sight = o .sight;
-        matcher =
-            both (countsOk (f .matcher)) _ (and-left (countsOk (f .matcher)) _ (o .matcher))
-            (matched-unread s next (f .matcher .current) unread (and-right (countsOk (f .matcher)) _ (o .matcher)));
-        ahead =
-            both (leb (f .ahead .len) 501) _ (and-left (leb (f .ahead .len) 501) _ (o .ahead))
-            (both (leb (f .ahead .«behind_len») 11) _ (and-left (leb (f .ahead .«behind_len») 11) _ behind)
-            (matched-unread s next (f .ahead .matched) unread (and-right (leb (f .ahead .«behind_len») 11) _ behind)));
-        failures = few;
+        holds = renewed-holds s x h (e .follower) k unread few (o .holds);
         pending = refl;
       })
 
   few : ltb (e .follower .failures) 8 ≡ true
-  few = failures-few (e .follower .failures) (rw unread at (apart e n ok .failures))
+  few = failures-few (e .follower .failures) (rw unread at (apart e n ok .holds .failures))
 
   header-failed-kept : (failure : ℕ) → engineOk (headerFailed e failure .engine) n ≡ true
   unfolding headerFailed
@@ -612,8 +655,9 @@ module _ (e : Engine) (n : ℕ) (ok : engineOk e n ≡ true) (d : Cache) (good :
       let k : ℕ = e .follower .failures in
       let o : Ok (withCache (e .shared) d) (counted (e .follower)) n = other-ok e n ok d good count idle in
       either-true (ltb k 7) _ _ n
-      (λ t. together _ n (failing-ok (withCache (e .shared) d) (counted (e .follower)) n (k + 1)
-      (few-failures (e .shared .phase) (k + 1) (lt-ltb (k + 1) 8 (omega (arith, ltb-true k 7 t)))) o))
+      (λ t. together _ n (no-fetch (withCache (e .shared) d) (counted (e .follower)) _ n o idle
+      (failing-ok (withCache (e .shared) d) (counted (e .follower)) (k + 1)
+      (few-failures (e .shared .phase) (k + 1) (lt-ltb (k + 1) 8 (omega (arith, ltb-true k 7 t)))) (o .holds))))
       (together _ n (failed-ok (withCache (e .shared) d) (counted (e .follower)) n idle o))
 
   loaded-kept : (x : Progress) → engineOk (loadedBy x e d .engine) n ≡ true
@@ -657,7 +701,7 @@ module _ (opens-nothing : (c : Cache) → stateOk c ≡ true → stateOk (withPe
   where
     need-held : needOk (e .shared) (e .follower .due .need) ≡ true
     need-held =
-        and-right (leb (e .follower .due .reloads) (reloadLimit (e .shared .cache .pages .count))) _ (apart e n ok .due)
+        and-right (leb (e .follower .due .reloads) (reloadLimit (e .shared .cache .pages .count))) _ (apart e n ok .holds .due)
 
     -- the fetch that is open is one that the state would make
     fetch-open : pendingOk (e .shared) (e .follower .due .need) ≡ true

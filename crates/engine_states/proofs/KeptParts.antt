@@ -1,5 +1,6 @@
--- The causes of number 12 one by one (`Ok`), and what keeps them: another cache beside the same phase and header, and each change that a step
--- makes of a follower. The idea: each change leaves most of the parts that the causes speak of as they were.
+-- The causes of number 12 one by one, those of a follower by themselves (`Holds`) and with those of what is shared and of the open fetch (`Ok`), and what
+-- keeps them: another cache beside the same phase and header, a pack that failed, and each change that a step makes of a follower. The idea: each change
+-- leaves most of the parts that the causes speak of as they were.
 use Prim.Native.Nat.{ℕ, _+_, _≤_}
 use mathlib.Core.Path.{_≡_, refl}
 use mathlib.Core.Bool.{Bool, true, false, _&&_, cond}
@@ -43,13 +44,18 @@ use Rattle.engine_states.proofs.SightKept.{both}
 
 -- ---- the causes, one by one
 
-pub record Ok (s : Shared) (f : Follower) (n : ℕ) : Type 0 where
-  pub shared : sharedOk s n ≡ true
+-- those of a follower, whoever's the open fetch is
+pub record Holds (s : Shared) (f : Follower) : Type 0 where
   pub due : dueOk s (f .due) ≡ true
   pub sight : sightOk (f .sight) ≡ true
   pub matcher : matcherOk s (f .matcher) ≡ true
   pub ahead : aheadOk s (f .ahead) ≡ true
   pub failures : failuresOk (s .phase) (f .failures) ≡ true
+
+-- with those of what is shared, and of the open fetch
+pub record Ok (s : Shared) (f : Follower) (n : ℕ) : Type 0 where
+  pub shared : sharedOk s n ≡ true
+  pub holds : Holds s f
   pub pending : pendingOk s (f .due .need) ≡ true
 
 abbrev causes : Engine → ℕ → List Bool
@@ -62,17 +68,30 @@ pub apart : (e : Engine) (n : ℕ) → engineOk e n ≡ true → Ok (e .shared) 
 unfolding engineOk
 apart e n ok = record {
   shared = clause 0 (causes e n) ok;
-  due = clause 1 (causes e n) ok;
-  sight = clause 2 (causes e n) ok;
-  matcher = clause 3 (causes e n) ok;
-  ahead = clause 4 (causes e n) ok;
-  failures = clause 5 (causes e n) ok;
+  holds = record {
+    due = clause 1 (causes e n) ok;
+    sight = clause 2 (causes e n) ok;
+    matcher = clause 3 (causes e n) ok;
+    ahead = clause 4 (causes e n) ok;
+    failures = clause 5 (causes e n) ok;
+  };
   pending = clause 6 (causes e n) ok;
 }
 
 pub together : (e : Engine) (n : ℕ) → Ok (e .shared) (e .follower) n → engineOk e n ≡ true
 unfolding engineOk
-together e n ok = rw (ok .shared, ok .due, ok .sight, ok .matcher, ok .ahead, ok .failures, ok .pending)
+together e n ok =
+    let f = ok .holds in rw (ok .shared, f .due, f .sight, f .matcher, f .ahead, f .failures, ok .pending)
+
+-- another follower over what is shared: that needs the same tile, or with no fetch open
+pub same-fetch : (s : Shared) (f g : Follower) (n : ℕ) → Ok s f n → g .due .need ≡ f .due .need → Holds s g → Ok s g n
+same-fetch s f g n ok same h = record { shared = ok .shared; holds = h; pending = rw same (ok .pending) }
+
+pub none-pending : (s : Shared) (need : MaybeKey) → s .cache .pending ≡ Pending.Nothing → pendingOk s need ≡ true
+none-pending s need idle = rw idle
+
+pub no-fetch : (s : Shared) (f g : Follower) (n : ℕ) → Ok s f n → s .cache .pending ≡ Pending.Nothing → Holds s g → Ok s g n
+no-fetch s f g n ok idle h = record { shared = ok .shared; holds = h; pending = none-pending s (g .due .need) idle }
 
 -- ---- another cache beside the same phase and header
 
@@ -87,6 +106,32 @@ matched-cache : (s : Shared) (c : Cache) (m : Current) → matchedOk s m ≡ tru
 matched-cache s c Current.Nothing ok = refl
 matched-cache s c (Current.Is m) ok = ok
 
+-- what a follower holds, over another cache of as many pages
+module _ (s : Shared) (c : Cache) (f : Follower) (h : Holds s f) where
+  matcher-cache : matcherOk (withCache s c) (f .matcher) ≡ true
+  matcher-cache =
+      both (countsOk (f .matcher)) _ (and-left (countsOk (f .matcher)) _ (h .matcher))
+      (matched-cache s c (f .matcher .current) (and-right (countsOk (f .matcher)) _ (h .matcher)))
+
+  ahead-cache : aheadOk (withCache s c) (f .ahead) ≡ true
+  ahead-cache =
+      let rest : (leb (f .ahead .«behind_len») 11 && matchedOk s (f .ahead .matched)) ≡ true = and-right (leb (f .ahead .len) 501) _ (h .ahead) in
+      both (leb (f .ahead .len) 501) _ (and-left (leb (f .ahead .len) 501) _ (h .ahead))
+      (both (leb (f .ahead .«behind_len») 11) _ (and-left (leb (f .ahead .«behind_len») 11) _ rest)
+      (matched-cache s c (f .ahead .matched) (and-right (leb (f .ahead .«behind_len») 11) _ rest)))
+
+  pub cache-holds : c .pages .count ≡ s .cache .pages .count → Holds (withCache s c) f
+  cache-holds count = record {
+    due =
+        both (leb (f .due .reloads) (reloadLimit (c .pages .count))) _
+        (rw count (and-left (leb (f .due .reloads) (reloadLimit (s .cache .pages .count))) _ (h .due)))
+        (need-cache s c (f .due .need) (and-right (leb (f .due .reloads) (reloadLimit (s .cache .pages .count))) _ (h .due)));
+    sight = h .sight;
+    matcher = matcher-cache;
+    ahead = ahead-cache;
+    failures = h .failures;
+  }
+
 module _ (s : Shared) (c : Cache) (f : Follower) (n : ℕ) (ok : Ok s f n) where
   shared-cache : stateOk c ≡ true → c .pages .count ≡ s .cache .pages .count → sharedOk (withCache s c) n ≡ true
   unfolding sharedOk
@@ -95,35 +140,9 @@ module _ (s : Shared) (c : Cache) (f : Follower) (n : ℕ) (ok : Ok s f n) where
       both (stateOk c) _ good
       (both (arenaOk c n) _ (rw count (and-left (arenaOk (s .cache) n) _ rest)) (and-right (arenaOk (s .cache) n) (headerOk s) rest))
 
-  matcher-cache : matcherOk (withCache s c) (f .matcher) ≡ true
-  matcher-cache =
-      both (countsOk (f .matcher)) _ (and-left (countsOk (f .matcher)) _ (ok .matcher))
-      (matched-cache s c (f .matcher .current) (and-right (countsOk (f .matcher)) _ (ok .matcher)))
-
-  ahead-cache : aheadOk (withCache s c) (f .ahead) ≡ true
-  ahead-cache =
-      let rest : (leb (f .ahead .«behind_len») 11 && matchedOk s (f .ahead .matched)) ≡ true = and-right (leb (f .ahead .len) 501) _ (ok .ahead) in
-      both (leb (f .ahead .len) 501) _ (and-left (leb (f .ahead .len) 501) _ (ok .ahead))
-      (both (leb (f .ahead .«behind_len») 11) _ (and-left (leb (f .ahead .«behind_len») 11) _ rest)
-      (matched-cache s c (f .ahead .matched) (and-right (leb (f .ahead .«behind_len») 11) _ rest)))
-
   -- its pages as many, and an open fetch that the state makes
   pub cache-ok : stateOk c ≡ true → c .pages .count ≡ s .cache .pages .count → pendingOk (withCache s c) (f .due .need) ≡ true → Ok (withCache s c) f n
-  cache-ok good count fits = record {
-    shared = shared-cache good count;
-    due =
-        both (leb (f .due .reloads) (reloadLimit (c .pages .count))) _
-        (rw count (and-left (leb (f .due .reloads) (reloadLimit (s .cache .pages .count))) _ (ok .due)))
-        (need-cache s c (f .due .need) (and-right (leb (f .due .reloads) (reloadLimit (s .cache .pages .count))) _ (ok .due)));
-    sight = ok .sight;
-    matcher = matcher-cache;
-    ahead = ahead-cache;
-    failures = ok .failures;
-    pending = fits;
-  }
-
-pub none-pending : (s : Shared) (need : MaybeKey) → s .cache .pending ≡ Pending.Nothing → pendingOk s need ≡ true
-none-pending s need idle = rw idle
+  cache-ok good count fits = record { shared = shared-cache good count; holds = cache-holds s c f (ok .holds) count; pending = fits }
 
 -- ---- a follower that is changed
 
@@ -135,33 +154,31 @@ emptied-ok s a at end ok = by (isMatched (a .matched))
     by true = refl
     by false = ok
 
-module _ (s : Shared) (f : Follower) (n : ℕ) (ok : Ok s f n) where
-  pub off-map-ok : (fix : Fix) → Ok s (offMap f fix) n
+module _ (s : Shared) (f : Follower) (ok : Holds s f) where
+  pub off-map-ok : (fix : Fix) → Holds s (offMap f fix)
   unfolding offMap
   off-map-ok fix = record {
-    shared = ok .shared;
     due = ok .due;
     sight = ok .sight;
     matcher = by (isMatched (f .ahead .matched));
     ahead = emptied-ok s (f .ahead) _ _ (ok .ahead);
     failures = ok .failures;
-    pending = ok .pending;
   }
     where
       by : (t : Bool) → matcherOk s (cond t Matching.reset (f .matcher)) ≡ true
       by true = refl
       by false = ok .matcher
 
-  pub road-off-ok : Ok s (withDue f (roadOff (f .due))) n
+  pub road-off-ok : Holds s (withDue f (roadOff (f .due)))
   road-off-ok =
-      record { shared = ok .shared; due = ok .due; sight = ok .sight; matcher = ok .matcher; ahead = ok .ahead; failures = ok .failures; pending = ok .pending }
+      record { due = ok .due; sight = ok .sight; matcher = ok .matcher; ahead = ok .ahead; failures = ok .failures }
 
-  pub counted-ok : Ok s (counted f) n
+  pub counted-ok : Holds s (counted f)
   counted-ok =
-      record { shared = ok .shared; due = ok .due; sight = ok .sight; matcher = ok .matcher; ahead = ok .ahead; failures = ok .failures; pending = ok .pending }
+      record { due = ok .due; sight = ok .sight; matcher = ok .matcher; ahead = ok .ahead; failures = ok .failures }
 
-  pub rematch-ok : Ok s (rematch f) n
-  rematch-ok = record { shared = ok .shared; due = ok .due; sight = ok .sight; matcher = refl; ahead = ok .ahead; failures = ok .failures; pending = ok .pending }
+  pub rematch-ok : Holds s (rematch f)
+  rematch-ok = record { due = ok .due; sight = ok .sight; matcher = refl; ahead = ok .ahead; failures = ok .failures }
 
 -- ---- a match and a road
 
@@ -191,51 +208,46 @@ module _ (s : Shared) (m : Matcher) (ready : s .phase ≡ Phase.Ready) where
       both (countsOk m) _ (both (edgeOk (m .current)) _ (placed-edge (s .header) (m .current) (p .current)) (p .challenger))
       (placed-key s (m .current) ready (p .current))
 
-either-follower : (t : Bool) (s : Shared) (f g : Follower) (n : ℕ) → (t ≡ true → Ok s f n) → Ok s g n → Ok s (cond t f g) n
-either-follower true s f g n p q = p refl
-either-follower false s f g n p q = q
+either-follower : (t : Bool) (s : Shared) (f g : Follower) → (t ≡ true → Holds s f) → Holds s g → Holds s (cond t f g)
+either-follower true s f g p q = p refl
+either-follower false s f g p q = q
 
-module _ (s : Shared) (f : Follower) (n : ℕ) (ok : Ok s f n) where
+module _ (s : Shared) (f : Follower) (ok : Holds s f) where
   -- the reloads begin anew
   done-due : dueOk s (matchDone (f .due) false) ≡ true
   done-due =
       both (leb 0 (reloadLimit (s .cache .pages .count))) _ (le-leb 0 (reloadLimit (s .cache .pages .count)) (omega arith))
       (and-right (leb (f .due .reloads) (reloadLimit (s .cache .pages .count))) _ (ok .due))
 
-  matched-by-ok : (x : Current) (m : Matcher) (fix : Fix) → matcherOk s m ≡ true → Ok s (matchedBy x f m fix) n
+  matched-by-ok : (x : Current) (m : Matcher) (fix : Fix) → matcherOk s m ≡ true → Holds s (matchedBy x f m fix)
   matched-by-ok Current.Nothing m fix good = record {
-    shared = ok .shared;
     due = done-due;
     sight = ok .sight;
     matcher = good;
     ahead = emptied-ok s (f .ahead) _ _ (ok .ahead);
     failures = ok .failures;
-    pending = ok .pending;
   }
   matched-by-ok (Current.Is found) m fix good =
-      record { shared = ok .shared; due = done-due; sight = ok .sight; matcher = good; ahead = ok .ahead; failures = ok .failures; pending = ok .pending }
+      record { due = done-due; sight = ok .sight; matcher = good; ahead = ok .ahead; failures = ok .failures }
 
-  pub matched-ok : (m : Matcher) (fix : Fix) → matcherOk s m ≡ true → Ok s (matched f m fix) n
+  pub matched-ok : (m : Matcher) (fix : Fix) → matcherOk s m ≡ true → Holds s (matched f m fix)
   unfolding matched
   matched-ok m fix good = matched-by-ok (m .current) m fix good
 
   pub published-ok : (a : Ahead) (fix : Fix) (found : Matched) (p : Prediction) → heldOk s (found .tile .key) ≡ true → p .len ≤ 501 → p .behind ≤ 11
-      → Ok s (published f a fix found p) n
+      → Holds s (published f a fix found p)
   unfolding published withMatch
   published-ok a fix found p key ahead behind = record {
-    shared = ok .shared;
     due = done-due;
     sight = ok .sight;
     matcher = ok .matcher;
     ahead = both (leb (p .len) 501) _ (le-leb (p .len) 501 ahead) (both (leb (p .behind) 11) _ (le-leb (p .behind) 11 behind) key);
     failures = ok .failures;
-    pending = ok .pending;
   }
 
-  module _ (ready : s .phase ≡ Phase.Ready) (idle : s .cache .pending ≡ Pending.Nothing) (key : TileKey) (in-grid : inGrid (s .header) key ≡ true) where
-    asks-ok : mayAsk (f .due) (s .cache .pages .count) ≡ true → Ok s (withDue f (asking (f .due) key (f .due .reloads + 1))) n
+  module _ (ready : s .phase ≡ Phase.Ready) (key : TileKey) (in-grid : inGrid (s .header) key ≡ true) where
+    asks-ok : mayAsk (f .due) (s .cache .pages .count) ≡ true → Holds s (withDue f (asking (f .due) key (f .due .reloads + 1)))
     asks-ok may = record {
-      shared = ok .shared;
       due =
           let most = reloadLimit (s .cache .pages .count) in
           both (leb (f .due .reloads + 1) most) _ (le-leb (f .due .reloads + 1) most (omega (arith, ltb-true (f .due .reloads) most may)))
@@ -244,24 +256,22 @@ module _ (s : Shared) (f : Follower) (n : ℕ) (ok : Ok s f n) where
       matcher = ok .matcher;
       ahead = ok .ahead;
       failures = ok .failures;
-      pending = none-pending s (MaybeKey.Key key) idle;
     }
 
-    pub match-asks-ok : Ok s (matchAsks f (s .cache .pages .count) key) n
+    pub match-asks-ok : Holds s (matchAsks f (s .cache .pages .count) key)
     match-asks-ok =
-        either-follower (mayAsk (f .due) (s .cache .pages .count)) s _ _ n asks-ok
-        (record { shared = ok .shared; due = done-due; sight = ok .sight; matcher = ok .matcher; ahead = ok .ahead; failures = ok .failures; pending = ok .pending })
+        either-follower (mayAsk (f .due) (s .cache .pages .count)) s _ _ asks-ok
+        (record { due = done-due; sight = ok .sight; matcher = ok .matcher; ahead = ok .ahead; failures = ok .failures })
 
-    pub road-asks-ok : (fix : Fix) (found : Matched) → heldOk s (found .tile .key) ≡ true → Ok s (roadAsks f (s .cache .pages .count) fix found key) n
+    pub road-asks-ok : (fix : Fix) (found : Matched) → heldOk s (found .tile .key) ≡ true → Holds s (roadAsks f (s .cache .pages .count) fix found key)
     road-asks-ok fix found held =
-        either-follower (mayAsk (f .due) (s .cache .pages .count)) s _ _ n asks-ok
+        either-follower (mayAsk (f .due) (s .cache .pages .count)) s _ _ asks-ok
         (published-ok (f .ahead) fix found noRoad held (omega arith) (omega arith))
 
 -- ---- a part of a tile
 
-pub needless-ok : (s : Shared) (f : Follower) (n : ℕ) → s .cache .pending ≡ Pending.Nothing → Ok s f n → Ok s (failing (withDue f (needless (f .due))) 0) n
-needless-ok s f n idle ok = record {
-  shared = ok .shared;
+pub needless-ok : (s : Shared) (f : Follower) → Holds s f → Holds s (failing (withDue f (needless (f .due))) 0)
+needless-ok s f ok = record {
   due =
       both (leb (f .due .reloads) (reloadLimit (s .cache .pages .count))) true
       (and-left (leb (f .due .reloads) (reloadLimit (s .cache .pages .count))) _ (ok .due)) refl;
@@ -269,7 +279,6 @@ needless-ok s f n idle ok = record {
   matcher = ok .matcher;
   ahead = ok .ahead;
   failures = refl;
-  pending = none-pending s MaybeKey.Nothing idle;
 }
 
 -- a pack that failed keeps what is needed and matched
@@ -284,29 +293,35 @@ matched-failed : (s : Shared) (c : Cache) (m : Current) → matchedOk (failedWit
 matched-failed s c Current.Nothing = refl
 matched-failed s c (Current.Is m) = refl
 
-pub failing-ok : (s : Shared) (f : Follower) (n k : ℕ) → failuresOk (s .phase) k ≡ true → Ok s f n → Ok s (failing f k) n
-failing-ok s f n k few ok =
-    record { shared = ok .shared; due = ok .due; sight = ok .sight; matcher = ok .matcher; ahead = ok .ahead; failures = few; pending = ok .pending }
+pub failing-ok : (s : Shared) (f : Follower) (k : ℕ) → failuresOk (s .phase) k ≡ true → Holds s f → Holds s (failing f k)
+failing-ok s f k few ok =
+    record { due = ok .due; sight = ok .sight; matcher = ok .matcher; ahead = ok .ahead; failures = few }
+
+pub failed-holds : (s : Shared) (c : Cache) (f : Follower) (k : ℕ) → c .pages .count ≡ s .cache .pages .count → failuresOk Phase.Failed k ≡ true → Holds s f
+    → Holds (failedWith s c) (failing f k)
+failed-holds s c f k count few ok =
+    let behind : (leb (f .ahead .«behind_len») 11 && matchedOk s (f .ahead .matched)) ≡ true = and-right (leb (f .ahead .len) 501) _ (ok .ahead) in
+    record {
+      due =
+          both (leb (f .due .reloads) (reloadLimit (c .pages .count))) _
+          (rw count (and-left (leb (f .due .reloads) (reloadLimit (s .cache .pages .count))) _ (ok .due)))
+          (need-failed s c (f .due .need));
+      sight = ok .sight;
+      matcher = both (countsOk (f .matcher)) _ (and-left (countsOk (f .matcher)) _ (ok .matcher)) (matched-failed s c (f .matcher .current));
+      ahead =
+          both (leb (f .ahead .len) 501) _ (and-left (leb (f .ahead .len) 501) _ (ok .ahead))
+          (both (leb (f .ahead .«behind_len») 11) _ (and-left (leb (f .ahead .«behind_len») 11) _ behind) (matched-failed s c (f .ahead .matched)));
+      failures = few;
+    }
 
 pub failed-ok : (s : Shared) (f : Follower) (n : ℕ) → s .cache .pending ≡ Pending.Nothing → Ok s f n → Ok (failedWith s (s .cache)) (failing f 8) n
 unfolding sharedOk
 failed-ok s f n idle ok =
     let shared : (arenaOk (s .cache) n && headerOk s) ≡ true = and-right (stateOk (s .cache)) _ (ok .shared) in
-    let behind : (leb (f .ahead .«behind_len») 11 && matchedOk s (f .ahead .matched)) ≡ true = and-right (leb (f .ahead .len) 501) _ (ok .ahead) in
-    let next : Shared = failedWith s (s .cache) in
     record {
       shared =
           both (stateOk (s .cache)) _ (and-left (stateOk (s .cache)) _ (ok .shared))
           (both (arenaOk (s .cache) n) true (and-left (arenaOk (s .cache) n) _ shared) refl);
-      due =
-          both (leb (f .due .reloads) (reloadLimit (s .cache .pages .count))) _
-          (and-left (leb (f .due .reloads) (reloadLimit (s .cache .pages .count))) _ (ok .due))
-          (need-failed s (s .cache) (f .due .need));
-      sight = ok .sight;
-      matcher = both (countsOk (f .matcher)) _ (and-left (countsOk (f .matcher)) _ (ok .matcher)) (matched-failed s (s .cache) (f .matcher .current));
-      ahead =
-          both (leb (f .ahead .len) 501) _ (and-left (leb (f .ahead .len) 501) _ (ok .ahead))
-          (both (leb (f .ahead .«behind_len») 11) _ (and-left (leb (f .ahead .«behind_len») 11) _ behind) (matched-failed s (s .cache) (f .ahead .matched)));
-      failures = refl;
-      pending = none-pending next (f .due .need) idle;
+      holds = failed-holds s (s .cache) f 8 refl refl (ok .holds);
+      pending = none-pending (failedWith s (s .cache)) (f .due .need) idle;
     }

@@ -360,7 +360,7 @@ module _ (e : Engine) (arena : List ℕ) (ok : engineOk e (length arena) ≡ tru
   h₁ = e .shared .header
 
   need-held : needOk (e .shared) (e .follower .due .need) ≡ true
-  need-held = and-right (leb (e .follower .due .reloads) (reloadLimit (c₁ .pages .count))) _ (apart e (length arena) ok .due)
+  need-held = and-right (leb (e .follower .due .reloads) (reloadLimit (c₁ .pages .count))) _ (apart e (length arena) ok .holds .due)
 
   fetch-open : pendingOk (e .shared) (e .follower .due .need) ≡ true
   fetch-open = apart e (length arena) ok .pending

@@ -270,7 +270,7 @@ module _ (e : Engine) (arena : List ℕ) (ok : engineOk e (length arena) ≡ tru
   open-fits x q = sym (ap (λ (y : Pending). pendingFits y c₁) q) ∙ ok-parts c₁ state-ok .pending
 
   need-held : needOk (e .shared) (e .follower .due .need) ≡ true
-  need-held = and-right (leb (e .follower .due .reloads) (reloadLimit (c₁ .pages .count))) _ (parts .due)
+  need-held = and-right (leb (e .follower .due .reloads) (reloadLimit (c₁ .pages .count))) _ (parts .holds .due)
 
   -- an open entry is of the tile needed, which lies in the grid of the header that was read
   entry-by : (x : Pending) (need : MaybeKey) (phase : Phase) → needOk (record { phase = phase; header = h₁; cache = c₁ }) need ≡ true
