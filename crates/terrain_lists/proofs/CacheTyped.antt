@@ -54,6 +54,7 @@ use Rattle.cache.specs.declared.victim.Found.the-variants as Found
 use Rattle.terrain.specs.Typed.{Word, Byte, Short, TypedKey, TypedMaybe, TypedSlot, TypedPages, TypedRing, TypedLoading, TypedPending, TypedCache}
 use Rattle.terrain_lists.specs.Calls.{Bytes}
 use Rattle.terrain_lists.proofs.Everywhere.{All, all-set, all-drop, all-take, all-append, all-replicate, all-fill, beyond, length-fill}
+use Rattle.terrain_lists.proofs.Either.{either, either-false}
 
 -- ---- bytes
 
@@ -186,14 +187,6 @@ victim-small g n s e = by (ltb 96 (g .count)) refl e
 
 -- ---- a step of a load
 
-either : {A : Type 0} (P : A → Type 0) (t : Bool) (a b : A) → P a → P b → P (cond t a b)
-either P true a b p q = p
-either P false a b p q = q
-
-either-told : {A : Type 0} (P : A → Type 0) (t : Bool) (a b : A) → P a → (t ≡ false → P b) → P (cond t a b)
-either-told P true a b p q = p
-either-told P false a b p q = q refl
-
 abbrev In : Loaded → Type 0
 In x = TypedCache (x .cache)
 
@@ -210,7 +203,7 @@ module _ (key : TileKey) (k : TypedKey key) where
   began-typed : (c : Cache) (offset len : ℕ) → TypedCache c → In (began c key offset len)
   unfolding began
   began-typed c offset len t =
-      either-told In (ltb 49152 len) _ _ (forgot-typed c key k t)
+      either-false In (ltb 49152 len) _ _ (forgot-typed c key k t)
       (λ (e : ltb 49152 len ≡ false). begun-typed (victim (c .pages) (span len)) c offset len refl (ltb-false 49152 len e) t)
 
   located-typed : (x : Located) (c : Cache) → TypedCache c → In (located x c key)

@@ -87,14 +87,7 @@ use Rattle.terrain_lists.proofs.MatchTyped.{look-bytes, update-typed}
 use Rattle.terrain_lists.proofs.RoadTyped.{Heights, OutcomeTyped, ForecastTyped, forecast-typed}
 use Rattle.terrain_lists.proofs.FollowerTyped as Follows
 use Rattle.terrain_lists.proofs.FollowerTyped.{follower-fresh, fixed-typed, follower-reset, changed-due, counted-typed, off-map-typed, matched-typed, match-asks-typed, published-typed, road-asks-typed, rematch-typed, heights-typed}
-
-either : {A : Type 0} (P : A → Type 0) (t : Bool) (a b : A) → P a → P b → P (cond t a b)
-either P true a b p q = p
-either P false a b p q = q
-
-either-told : {A : Type 0} (P : A → Type 0) (t : Bool) (a b : A) → (t ≡ true → P a) → P b → P (cond t a b)
-either-told P true a b p q = p refl
-either-told P false a b p q = q
+use Rattle.terrain_lists.proofs.Either.{either, either-true}
 
 abbrev Changes : Changed → Type 0
 Changes c = Typed (c .engine)
@@ -192,7 +185,7 @@ module _ (e : Engine) (t : Typed e) where
   loaded-typed Progress.More c u = ended-typed e c _ t u (counted-typed (e .follower) (t .follower))
   loaded-typed (Progress.Failed number) c u =
       let f : TypedFollower (counted (e .follower)) = counted-typed (e .follower) (t .follower) in
-      either-told Steps (ltb (e .follower .failures) 7) _ _
+      either-true Steps (ltb (e .follower .failures) 7) _ _
       (λ (h : ltb (e .follower .failures) 7 ≡ true). ended-typed e c _ t u (failing-typed _ (e .follower .failures + 1) f (omega (arith, ltb-true (e .follower .failures) 7 h))))
       (record { shared = record { header = t .shared .header; cache = u }; follower = failing-typed _ 8 f (omega arith) })
   loaded-typed (Progress.Refused number) c u = t
@@ -382,7 +375,7 @@ module _ (e : Engine) (t : Typed e) (arena : List ℕ) (a : Bytes arena) where
   pub step-typed : Typed (Calls.step e arena .engine)
   unfolding Calls.step stepped
   step-typed =
-      either-told Steps (engineOk e (length arena)) _ _ (λ (ok : engineOk e (length arena) ≡ true). stepped-typed ok (e .shared .cache .pending)) t
+      either-true Steps (engineOk e (length arena)) _ _ (λ (ok : engineOk e (length arena) ≡ true). stepped-typed ok (e .shared .cache .pending)) t
 
 -- ---- over a lent pack
 

@@ -1,8 +1,8 @@
 -- What the engine holds beside the cache stays within its types: the fixes and the heading (`seen-typed`), what is due, and the road that is published or emptied. The idea: a heading is a bearing
 -- or the one before, and a road's numbers are its match's and its prediction's.
 use Prim.Native.Nat.{ℕ, _+_, _-_, _<_, _≤_}
-use mathlib.Core.Path.{_≡_, refl, _∙_}
-use mathlib.Core.Bool.{Bool, true, false, cond}
+use mathlib.Core.Path.{_≡_, _∙_}
+use mathlib.Core.Bool.{Bool, true}
 use mathlib.Core.List.{List, _++_}
 use native.Mathlib.Omega.{arith}
 use borrow.Author.Tests.{ltb-true}
@@ -44,14 +44,7 @@ use Rattle.terrain_lists.proofs.Everywhere.{All, all-set, all-drop, all
 use Rattle.terrain_lists.proofs.Numbers.{single-whole, single-min, single-bearing}
 use Rattle.terrain_lists.proofs.MatchTyped.{reset-typed}
 use Rattle.terrain_lists.proofs.RoadTyped.{Heights, FiguresTyped}
-
-either : {A : Type 0} (P : A → Type 0) (t : Bool) (a b : A) → P a → P b → P (cond t a b)
-either P true a b p q = p
-either P false a b p q = q
-
-either-told : {A : Type 0} (P : A → Type 0) (t : Bool) (a b : A) → (t ≡ true → P a) → P b → P (cond t a b)
-either-told P true a b p q = p refl
-either-told P false a b p q = q
+use Rattle.terrain_lists.proofs.Either.{either, either-true}
 
 -- ---- the places of the last fixes
 
@@ -76,7 +69,7 @@ unfolding push shifted
 push-typed h here t p =
     let all : All TypedPoint noPoint (h .v) = points-typed h t in
     let on : List Point = drop 1 (take 16 (h .v)) ++ drop 15 (h .v) in
-    either-told TypedPlaces (ltb (h .len) 16) _ _
+    either-true TypedPlaces (ltb (h .len) 16) _ _
     (λ (e : ltb (h .len) 16 ≡ true).
     places-typed _ (length-set (h .v) (h .len) here ∙ t .v) (all-set TypedPoint noPoint (h .v) (h .len) here all p) (omega (arith, ltb-true (h .len) 16 e)))
     (places-typed _ (length-set on 15 here ∙ shifted-long (h .v) (t .v))
@@ -282,7 +275,7 @@ module _ (f : Follower) (t : TypedFollower f) where
 
   pub match-asks-typed : (pages : ℕ) (key : TileKey) → TypedKey key → TypedFollower (matchAsks f pages key)
   match-asks-typed pages key k =
-      either-told TypedFollower (mayAsk (f .due) pages) _ _ (λ (e : mayAsk (f .due) pages ≡ true). asking-typed pages key e k) (changed-due f _ t (done-typed _))
+      either-true TypedFollower (mayAsk (f .due) pages) _ _ (λ (e : mayAsk (f .due) pages ≡ true). asking-typed pages key e k) (changed-due f _ t (done-typed _))
 
   pub published-typed : (a : Ahead) (fix : Fix) (found : Matched) (p : Prediction) → TypedAhead a → TypedMatched found → FiguresTyped p → p .len ≤ 501 → p .behind ≤ 11
       → TypedFollower (published f a fix found p)
@@ -293,7 +286,7 @@ module _ (f : Follower) (t : TypedFollower f) where
 
   pub road-asks-typed : (pages : ℕ) (fix : Fix) (found : Matched) (key : TileKey) → TypedMatched found → TypedKey key → TypedFollower (roadAsks f pages fix found key)
   road-asks-typed pages fix found key m k =
-      either-told TypedFollower (mayAsk (f .due) pages) _ _ (λ (e : mayAsk (f .due) pages ≡ true). asking-typed pages key e k)
+      either-true TypedFollower (mayAsk (f .due) pages) _ _ (λ (e : mayAsk (f .due) pages ≡ true). asking-typed pages key e k)
       (published-typed (f .ahead) fix found noRoad (t .ahead) m (record { behind = single-whole 0; end = single-whole 0; confidence = omega arith }) (omega arith) (omega arith))
 
   pub rematch-typed : TypedFollower (rematch f)

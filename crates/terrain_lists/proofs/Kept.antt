@@ -1,6 +1,6 @@
 -- Every call of demand 3 leaves an engine within its types, over an arena of bytes (`typed-kept`); so does every list of them from a fresh engine (`typed-always`).
 use Prim.Native.Nat.{ℕ, _≤_}
-use mathlib.Core.Bool.{Bool, true, false, _&&_, cond}
+use mathlib.Core.Bool.{_&&_}
 use mathlib.Core.List.{List, [], _∷_}
 use native.Mathlib.Omega.{arith}
 use lib.Ieee.{Float}
@@ -30,10 +30,7 @@ use Rattle.terrain_lists.specs.Calls.{Bytes, TypedCached, left, AllTyped
 use Rattle.terrain_lists.specs.Claims.{TypedWorld, TypedKept, TypedAlways}
 use Rattle.terrain_lists.proofs.CacheTyped.{TypedAfter, load-typed, load-from-typed, get-typed, clear-typed}
 use Rattle.terrain_lists.proofs.EngineTyped.{Leaves, new-typed, fix-typed, lost-typed, reset-typed, step-typed, deliver-typed, step-from-typed, after-match, after-road}
-
-either : {A : Type 0} (P : A → Type 0) (t : Bool) (a b : A) → P a → P b → P (cond t a b)
-either P true a b p q = p
-either P false a b p q = q
+use Rattle.terrain_lists.proofs.Either.{either}
 
 -- ---- a direct call leaves the engine with another cache
 

@@ -43,8 +43,10 @@ same-list (c ∷ cs) w g t =
     record {
       world = ap (λ (d : HostDone). hostLeft cs (d .world)) done ∙ rest .world ∙ ap wordsOf (sym (left-append (callsOf c) (callsIn cs) w));
       answers = ap (λ (d : HostDone). d .answer ∷ hostAnswers cs (d .world)) done ∙ ap (λ (more : List HostAnswer). hostTold c w ∷ more) (rest .answers);
-      accepted = (accepted-words (w .engine) (t .engine),
-          subst (λ (d : HostDone). HostAlong (λ (x : HostWorld). accepted (x .words) ≡ true) cs (d .world)) (sym done) (rest .accepted));
+      accepted = (
+        accepted-words (w .engine) (t .engine),
+        subst (λ (d : HostDone). HostAlong (λ (x : HostWorld). accepted (x .words) ≡ true) cs (d .world)) (sym done) (rest .accepted),
+      );
       twelves = (twelve-own c w, rest .twelves);
     }
 

@@ -65,6 +65,7 @@ use Rattle.terrain_lists.specs.Calls.{Bytes}
 use Rattle.terrain_lists.proofs.CacheTyped.{bytes-take, bytes-drop}
 use Rattle.terrain_lists.proofs.Everywhere.{All, all-set, all-replicate}
 use Rattle.terrain_lists.proofs.Numbers.{single-whole, single-max, single-clamp, single-length}
+use Rattle.terrain_lists.proofs.Either.{either}
 
 -- ---- what a look answers are bytes
 
@@ -120,10 +121,6 @@ pub record TypedCandidate (c : Candidate) : Type 0 where
 
 pub KeptTyped : Kept → Type 0
 KeptTyped k = All TypedCandidate noCandidate (k .v)
-
-either : {A : Type 0} (P : A → Type 0) (t : Bool) (a b : A) → P a → P b → P (cond t a b)
-either P true a b p q = p
-either P false a b p q = q
 
 insert-typed : (k : Kept) (c : Candidate) → KeptTyped k → TypedCandidate c → KeptTyped (insert k c)
 unfolding insert KeptTyped

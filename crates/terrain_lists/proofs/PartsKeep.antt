@@ -91,10 +91,7 @@ use Rattle.terrain.specs.declared.host.MatchTold.{MatchTold}
 use Rattle.terrain.specs.declared.roads.TerrainHeading.{TerrainHeading}
 use Rattle.terrain.proofs.PartLaws.{after-kept}
 use Rattle.terrain.proofs.SameLaws.{both, same-is}
-
-either : {A : Type 0} (P : A → Type 0) (t : Bool) (a b : A) → P a → P b → P (cond t a b)
-either P true a b p q = p
-either P false a b p q = q
+use Rattle.terrain_lists.proofs.Either.{either}
 
 -- ---- the library's own refused calls
 

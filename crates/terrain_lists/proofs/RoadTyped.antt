@@ -2,7 +2,7 @@
 -- the metres ridden or a result of a float operation. The idea: a walk leaves its track alone but along an edge.
 use Prim.Native.Nat.{ℕ, zero, suc, _+_, _-_, _<_}
 use mathlib.Core.Path.{_≡_, refl, sym, subst, _∙_}
-use mathlib.Core.Bool.{Bool, true, false, _&&_, not, cond}
+use mathlib.Core.Bool.{Bool, _&&_, not}
 use mathlib.Core.List.{List}
 use native.Mathlib.Omega.{arith}
 use lib.Dec.{ltb}
@@ -56,10 +56,7 @@ use Rattle.predict.specs.declared.ridden.Behind.{Behind}
 use Rattle.terrain.specs.Typed.{Byte, Height, Single}
 use Rattle.terrain_lists.proofs.Everywhere.{All, all-set}
 use Rattle.terrain_lists.proofs.Numbers.{single-whole, single-min, height-low}
-
-either : {A : Type 0} (P : A → Type 0) (t : Bool) (a b : A) → P a → P b → P (cond t a b)
-either P true a b p q = p
-either P false a b p q = q
+use Rattle.terrain_lists.proofs.Either.{either}
 
 -- ---- the samples
 
@@ -146,8 +143,8 @@ module _ (n : ℕ) where
   ridden-typed trip leg bs lonUm m here hs r h =
       let reach : Float = min (m .«ridden_m») (whole 200) in
       let b : BackTyped _ = backs-typed trip leg bs lonUm reach (single-min (m .«ridden_m») (whole 200) r (single-whole 200)) (firstOf leg (m .segment))
-          (record { here = here; distance = whole 0; mark = pushed noMark hs (whole 0) (pos 0) .mark; over = not (lt (whole 0) reach) })
-          (pushed noMark hs (whole 0) (pos 0) .heights) (single-whole 0) (pushed-typed noMark hs (whole 0) (pos 0) h) in
+      (record { here = here; distance = whole 0; mark = pushed noMark hs (whole 0) (pos 0) .mark; over = not (lt (whole 0) reach) })
+      (pushed noMark hs (whole 0) (pos 0) .heights) (single-whole 0) (pushed-typed noMark hs (whole 0) (pos 0) h) in
       last-typed _ _ (b .distance) (b .heights)
 
 -- ---- a junction leaves the track
