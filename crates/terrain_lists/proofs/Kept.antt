@@ -23,12 +23,13 @@ use Rattle.matcher.specs.declared.Updated.{Updated}
 use Rattle.predict.specs.Predict as Predict
 use Rattle.predict.specs.Predict.{predictOver, predictedIn}
 use Rattle.engine.specs.declared.Engine.{Engine}
-use Rattle.terrain.specs.Typed.{Single, TypedCache, Typed}
+use Rattle.terrain.specs.Typed.{Single, TypedCache, TypedMatcher, Typed}
 use Rattle.direct.specs.Lists as Direct
 use Rattle.direct.specs.Lists.{World, Call, exec, start, Along}
 use Rattle.terrain_lists.specs.Calls.{Bytes, TypedCached, left, AllTyped}
 use Rattle.terrain_lists.specs.Claims.{TypedWorld, TypedKept, TypedAlways}
 use Rattle.terrain_lists.proofs.CacheTyped.{TypedAfter, load-typed, load-from-typed, get-typed, clear-typed}
+use Rattle.terrain_lists.proofs.MatchTyped.{look-bytes, update-typed}
 use Rattle.terrain_lists.proofs.EngineTyped.{Leaves, new-typed, fix-typed, lost-typed, reset-typed, step-typed, deliver-typed, step-from-typed, after-match, after-road}
 use Rattle.terrain_lists.proofs.Either.{either}
 
@@ -64,6 +65,15 @@ update-cache m c arena h p heading t =
     either (λ (u : Updated). TypedCache (u .cache)) (Matchers.callOk m c h (length arena)) _ _
     (either (λ (u : Updated). TypedCache (u .cache)) (isPoint (p .lat) (p .lon) && Matchers.headingOk heading) _ _
     (after-match c t arena (h .tile) (r .found) (r .end)) t) t
+
+-- and leaves a matcher within its types
+pub update-matcher : (m : Matcher) (c : Cache) (arena : List ℕ) (h : Header) (p : Point) (heading : Heading) → Bytes arena → TypedMatcher m
+    → TypedMatcher (Matching.update m c arena h p heading .matcher)
+unfolding Matching.update updated
+update-matcher m c arena h p heading a t =
+    either (λ (u : Updated). TypedMatcher (u .matcher)) (Matchers.callOk m c h (length arena)) _ _
+    (either (λ (u : Updated). TypedMatcher (u .matcher)) (isPoint (p .lat) (p .lon) && Matchers.headingOk heading) _ _
+    (update-typed (look c arena (h .tile)) (look-bytes c arena (h .tile) a) m h p heading t) t) t
 
 predict-cache : (c : Cache) (arena : List ℕ) (h : Header) (m : Matched) (horizon : Float) (samples behind : List ℤ) → TypedCache c
     → TypedCache (Predict.predict c arena h m horizon samples behind .predicted .cache)

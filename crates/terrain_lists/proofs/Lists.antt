@@ -2,22 +2,30 @@
 -- one call by one, in worlds whose engine is within its types.
 use Prim.Native.Nat.{ℕ, _≤_}
 use mathlib.Core.Path.{_≡_, refl, sym, ap, subst, _∙_}
-use mathlib.Core.Bool.{true}
+use mathlib.Core.Bool.{Bool, true, false, cond}
 use mathlib.Core.List.{List, [], _∷_, _++_}
 use native.Mathlib.Omega.{arith}
 use lib.Ieee.{Float}
+use Rattle.matcher.specs.Calls as Matching
+use Rattle.matcher.specs.State as State
+use Rattle.matcher.specs.declared.Matcher.{Matcher}
 use Rattle.engine.specs.Calls as Engines
 use Rattle.terrain.specs.Host as Host
-use Rattle.terrain.specs.Words.{accepted}
+use Rattle.terrain.specs.Parts as Parts
+use Rattle.terrain.specs.Roads as Roads
+use Rattle.terrain.specs.Typed.{TypedMatcher}
+use Rattle.terrain.specs.Words.{accepted, matcherOf, matcherWords}
 use Rattle.terrain.proofs.BackLaws.{accepted-words}
+use Rattle.terrain.proofs.WordsLaws.{words-engine}
 use Rattle.direct.specs.Claims.{Safe, Open, AllFair, tolds, shows, madeOf}
 use Rattle.direct.specs.Direct.{directly, newDirect, directShows}
 use Rattle.direct.specs.Lists.{World, Call, exec, start, Along}
 use Rattle.direct.proofs.Claim.{all-safe, all-direct, all-open}
 use Rattle.terrain_lists.specs.Calls.{HostWorld, HostCall, HostAnswer, HostDone, hostExec, Meant, call, atInterface, meant, callsBy, callsOf, hostTold, GivenBy, left, AllTyped, AllGiven, callsIn, hostLeft, hostAnswers, hostTolds, wordsOf, hostStart, pagesIn}
-use Rattle.terrain_lists.specs.Claims.{TypedWorld, HostAlong, OwnTwelves, SameList, WordsList}
+use Rattle.terrain_lists.specs.Claims.{TypedWorld, HostAlong, OwnTwelves, SameList, WordsList, readFrom, WordsFrom, MatcherAgain}
 use Rattle.terrain_lists.proofs.Agreed.{agreed, twelve-own}
-use Rattle.terrain_lists.proofs.Kept.{along-typed, start-typed}
+use Rattle.terrain_lists.proofs.Kept.{along-typed, start-typed, update-matcher}
+use Rattle.terrain_lists.proofs.ReadTyped.{read-typed, matcher-read, matcher-words}
 
 -- ---- the arguments
 
@@ -62,6 +70,30 @@ pub words-list : WordsList
 words-list arena a horizon h cs g =
     subst (λ (v : HostWorld). SameList cs v (start (pagesIn arena) horizon arena)) (start-same arena horizon)
     (same-list cs (start (pagesIn arena) horizon arena) g (start-typed (pagesIn arena) (few arena) horizon h arena a))
+
+-- ---- from words that a host kept
+
+abbrev withWords : List ℕ → List ℕ → HostWorld
+withWords ws arena = record { words = ws; arena = arena }
+
+pub words-from : WordsFrom
+words-from v all ok a cs g =
+    let same : wordsOf (readFrom v) ≡ v = ap (λ (ws : List ℕ). withWords ws (v .arena)) (words-engine (v .words) ok) in
+    subst (λ (x : HostWorld). SameList cs x (readFrom v)) same (same-list cs (readFrom v) g (record { engine = read-typed (v .words) all; arena = a }))
+
+pub matcher-again : MatcherAgain
+matcher-again ms ws arena h p way all a ok = by (Roads.canMatch ms ws way)
+  where
+    m : Matcher
+    m = matcherOf ms 0
+
+    typed : TypedMatcher (Matching.update m (Parts.cacheOf ws) arena h p (Roads.headingOf way) .matcher)
+    typed = update-matcher m (Parts.cacheOf ws) arena h p (Roads.headingOf way) a (matcher-read ms all 0)
+
+    by : (b : Bool)
+        → Roads.isMatcher (cond b (matcherWords (cond b (Matching.update m (Parts.cacheOf ws) arena h p (Roads.headingOf way)) (State.refused m (Parts.cacheOf ws) 12) .matcher)) ms) ≡ true
+    by true = matcher-words _ typed
+    by false = ok
 
 -- ---- demand 3 of lists of calls through C: of the engine and the arena that they leave, by `words-list`
 

@@ -5,8 +5,13 @@ use mathlib.Core.Bool.{Bool, true, _&&_}
 use mathlib.Core.List.{List, [], _∷_}
 use lib.Dec.{eqb}
 use lib.Ieee.{Float}
-use Rattle.terrain.specs.Typed.{Single, Typed}
-use Rattle.terrain.specs.Words.{accepted}
+use lib.ListN.{getD}
+use Rattle.pack.specs.declared.Header.{Header}
+use Rattle.geo.specs.declared.Point.{Point}
+use Rattle.terrain.specs.Roads as Roads
+use Rattle.terrain.specs.Typed.{Word, Single, Typed}
+use Rattle.terrain.specs.Words.{engineOf, accepted}
+use Rattle.terrain.specs.declared.roads.TerrainHeading.{TerrainHeading}
 use Rattle.direct.specs.Lists.{World, Call, exec, number, start, Along}
 use Rattle.terrain_lists.specs.Calls.{HostWorld, HostCall, HostAnswer, numbered, stepped, roadRead, headerRead, headingRead, countRead, counted, lookedUp, requested, progressed, nearRead, currentRead, updated, predicted, hostExec, Meant, call, atInterface, meant, callsOf, hostTold, Bytes, TypedCall, left, AllTyped, AllGiven, callsIn, hostLeft, hostAnswers, hostTolds, wordsOf, hostStart, pagesIn}
 
@@ -67,8 +72,28 @@ pub record SameList (cs : List HostCall) (v : HostWorld) (w : World) : Type 0 wh
   pub accepted : HostAlong (λ (x : HostWorld). accepted (x .words) ≡ true) cs v
   pub twelves : OwnTwelves cs w
 
--- with no premise but that the arguments, the arena and the horizon are of their C types
+-- with no premise but that arguments, arena and horizon are of their C types
 abbrev pub WordsList : Type 0
 WordsList =
     (arena : List ℕ) → Bytes arena → (horizon : Float) → Single horizon → (cs : List HostCall) → AllGiven cs →
     SameList cs (hostStart arena horizon) (start (pagesIn arena) horizon arena)
+
+-- ---- from words that a host kept
+
+-- `uint32_t`
+abbrev pub AreWords : List ℕ → Type 0
+AreWords ws = (i : ℕ) → Word (getD ws i 0)
+
+-- the engine that is read from the words, over the arena
+abbrev pub readFrom : HostWorld → World
+readFrom v = record { engine = engineOf (v .words); arena = v .arena }
+
+-- from any words that are accepted, whoever wrote them, the calls are those of the engine that is read from them
+abbrev pub WordsFrom : Type 0
+WordsFrom = (v : HostWorld) → AreWords (v .words) → accepted (v .words) ≡ true → Bytes (v .arena) → (cs : List HostCall) → AllGiven cs → SameList cs v (readFrom v)
+
+-- the words that `update` leaves of a matcher's are a matcher's again
+abbrev pub MatcherAgain : Type 0
+MatcherAgain =
+    (ms ws arena : List ℕ) (h : Header) (p : Point) (way : TerrainHeading) → AreWords ms → Bytes arena →
+    Roads.isMatcher ms ≡ true → Roads.isMatcher (Roads.matcherAfter ms ws arena h p way) ≡ true
