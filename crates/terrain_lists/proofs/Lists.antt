@@ -6,14 +6,16 @@ use mathlib.Core.Bool.{Bool, true, false, cond}
 use mathlib.Core.List.{List, [], _∷_, _++_}
 use native.Mathlib.Omega.{arith}
 use lib.Ieee.{Float}
+use Rattle.pack.specs.declared.Header.{Header}
+use Rattle.geo.specs.declared.Point.{Point}
 use Rattle.matcher.specs.Calls as Matching
 use Rattle.matcher.specs.State as State
-use Rattle.matcher.specs.declared.Matcher.{Matcher}
+use Rattle.matcher.specs.declared.Updated.{Updated}
 use Rattle.engine.specs.Calls as Engines
 use Rattle.terrain.specs.Host as Host
 use Rattle.terrain.specs.Parts as Parts
 use Rattle.terrain.specs.Roads as Roads
-use Rattle.terrain.specs.Typed.{TypedMatcher}
+use Rattle.terrain.specs.declared.roads.TerrainHeading.{TerrainHeading}
 use Rattle.terrain.specs.Words.{accepted, matcherOf, matcherWords}
 use Rattle.terrain.proofs.BackLaws.{accepted-words}
 use Rattle.terrain.proofs.WordsLaws.{words-engine}
@@ -21,10 +23,11 @@ use Rattle.direct.specs.Claims.{Safe, Open, AllFair, tolds, shows, madeOf}
 use Rattle.direct.specs.Direct.{directly, newDirect, directShows}
 use Rattle.direct.specs.Lists.{World, Call, exec, start, Along}
 use Rattle.direct.proofs.Claim.{all-safe, all-direct, all-open}
-use Rattle.terrain_lists.specs.Calls.{HostWorld, HostCall, HostAnswer, HostDone, hostExec, Meant, call, atInterface, meant, callsBy, callsOf, hostTold, GivenBy, left, AllTyped, AllGiven, callsIn, hostLeft, hostAnswers, hostTolds, wordsOf, hostStart, pagesIn}
-use Rattle.terrain_lists.specs.Claims.{TypedWorld, HostAlong, OwnTwelves, SameList, WordsList, readFrom, WordsFrom, MatcherAgain}
+use Rattle.terrain_lists.specs.Calls.{HostWorld, HostCall, HostAnswer, HostDone, hostExec, Meant, call, atInterface, meant, callsBy, callsOf, hostTold, Bytes, GivenBy, left, AllTyped, AllGiven, callsIn, hostLeft, hostAnswers, hostTolds, wordsOf, hostStart, pagesIn}
+use Rattle.terrain_lists.specs.Claims.{TypedWorld, HostAlong, OwnTwelves, SameList, WordsList, AreWords, readFrom, WordsFrom, MatcherWords}
 use Rattle.terrain_lists.proofs.Agreed.{agreed, twelve-own}
 use Rattle.terrain_lists.proofs.Kept.{along-typed, start-typed, update-matcher}
+use Rattle.terrain_lists.proofs.MatchTyped.{reset-typed}
 use Rattle.terrain_lists.proofs.ReadTyped.{read-typed, matcher-read, matcher-words}
 
 -- ---- the arguments
@@ -81,19 +84,19 @@ words-from v all ok a cs g =
     let same : wordsOf (readFrom v) ≡ v = ap (λ (ws : List ℕ). withWords ws (v .arena)) (words-engine (v .words) ok) in
     subst (λ (x : HostWorld). SameList cs x (readFrom v)) same (same-list cs (readFrom v) g (record { engine = read-typed (v .words) all; arena = a }))
 
-pub matcher-again : MatcherAgain
-matcher-again ms ws arena h p way all a ok = by (Roads.canMatch ms ws way)
-  where
-    m : Matcher
-    m = matcherOf ms 0
+module _ (ms ws arena : List ℕ) (h : Header) (p : Point) (way : TerrainHeading) (all : AreWords ms) (a : Bytes arena) (ok : Roads.isMatcher ms ≡ true) where
+  abbrev updatedBy : Bool → Updated
+  updatedBy b = cond b (Matching.update (matcherOf ms 0) (Parts.cacheOf ws) arena h p (Roads.headingOf way)) (State.refused (matcherOf ms 0) (Parts.cacheOf ws) 12)
 
-    typed : TypedMatcher (Matching.update m (Parts.cacheOf ws) arena h p (Roads.headingOf way) .matcher)
-    typed = update-matcher m (Parts.cacheOf ws) arena h p (Roads.headingOf way) a (matcher-read ms all 0)
+  again : (b : Bool) → Roads.isMatcher (cond b (matcherWords (updatedBy b .matcher)) ms) ≡ true
+  again true = matcher-words (updatedBy true .matcher) (update-matcher (matcherOf ms 0) (Parts.cacheOf ws) arena h p (Roads.headingOf way) a (matcher-read ms all 0))
+  again false = ok
 
-    by : (b : Bool)
-        → Roads.isMatcher (cond b (matcherWords (cond b (Matching.update m (Parts.cacheOf ws) arena h p (Roads.headingOf way)) (State.refused m (Parts.cacheOf ws) 12) .matcher)) ms) ≡ true
-    by true = matcher-words _ typed
-    by false = ok
+pub matcher-again : MatcherWords
+matcher-again = record {
+  fresh = matcher-words Matching.reset reset-typed;
+  again = λ ms ws arena h p way all a ok. again ms ws arena h p way all a ok (Roads.canMatch ms ws way);
+}
 
 -- ---- demand 3 of lists of calls through C: of the engine and the arena that they leave, by `words-list`
 

@@ -8,9 +8,10 @@ use lib.Ieee.{Float}
 use lib.ListN.{getD}
 use Rattle.pack.specs.declared.Header.{Header}
 use Rattle.geo.specs.declared.Point.{Point}
+use Rattle.matcher.specs.Calls as Matching
 use Rattle.terrain.specs.Roads as Roads
 use Rattle.terrain.specs.Typed.{Word, Single, Typed}
-use Rattle.terrain.specs.Words.{engineOf, accepted}
+use Rattle.terrain.specs.Words.{engineOf, accepted, matcherWords}
 use Rattle.terrain.specs.declared.roads.TerrainHeading.{TerrainHeading}
 use Rattle.direct.specs.Lists.{World, Call, exec, number, start, Along}
 use Rattle.terrain_lists.specs.Calls.{HostWorld, HostCall, HostAnswer, numbered, stepped, roadRead, headerRead, headingRead, countRead, counted, lookedUp, requested, progressed, nearRead, currentRead, updated, predicted, hostExec, Meant, call, atInterface, meant, callsOf, hostTold, Bytes, TypedCall, left, AllTyped, AllGiven, callsIn, hostLeft, hostAnswers, hostTolds, wordsOf, hostStart, pagesIn}
@@ -92,8 +93,8 @@ readFrom v = record { engine = engineOf (v .words); arena = v .arena }
 abbrev pub WordsFrom : Type 0
 WordsFrom = (v : HostWorld) → AreWords (v .words) → accepted (v .words) ≡ true → Bytes (v .arena) → (cs : List HostCall) → AllGiven cs → SameList cs v (readFrom v)
 
--- the words that `update` leaves of a matcher's are a matcher's again
-abbrev pub MatcherAgain : Type 0
-MatcherAgain =
-    (ms ws arena : List ℕ) (h : Header) (p : Point) (way : TerrainHeading) → AreWords ms → Bytes arena →
-    Roads.isMatcher ms ≡ true → Roads.isMatcher (Roads.matcherAfter ms ws arena h p way) ≡ true
+-- the words that `terrain_matcher_reset` writes are a matcher's, and those that `update` leaves of a matcher's are again
+pub record MatcherWords : Type 0 where
+  pub fresh : Roads.isMatcher (matcherWords Matching.reset) ≡ true
+  pub again : (ms ws arena : List ℕ) (h : Header) (p : Point) (way : TerrainHeading) → AreWords ms → Bytes arena
+      → Roads.isMatcher ms ≡ true → Roads.isMatcher (Roads.matcherAfter ms ws arena h p way) ≡ true
