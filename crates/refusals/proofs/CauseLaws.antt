@@ -1,8 +1,8 @@
--- The law of a list of causes: a call that tests them one after another is refused with the number of the first that is there (`refuses`, `tests`). Every
--- line of the table cites it.
+-- The law of a list of causes: a call that tests them one after another is refused with the number of the first that is there (`refuses`, `tests`). The
+-- lines of the table cite it.
 use Prim.Native.Nat.{ℕ, zero, suc, _<_}
 use mathlib.Core.Path.{_≡_, refl, sym, ap, _∙_, subst}
-use mathlib.Core.Bool.{Bool, true, false, _&&_, cond, true≢false}
+use mathlib.Core.Bool.{Bool, true, false, _&&_, cond}
 use mathlib.Core.List.{List, [], _∷_}
 use native.Mathlib.Omega.{arith}
 use lib.Dec.{ltb}

@@ -1,10 +1,9 @@
 -- A delivery is refused with 11 exactly where it does not answer the open fetch (`deliver-tested`), and else never (`deliver-number`): in a state that
 -- number 12 does not name the fetch is the header's, or the next read towards the tile that is needed, which lies in the grid.
-use Prim.Native.Nat.{ℕ, _+_, _<_, _≤_}
+use Prim.Native.Nat.{ℕ}
 use mathlib.Core.Path.{_≡_, refl, sym, ap, _∙_, subst}
 use mathlib.Core.Bool.{Bool, true, false, _&&_, cond, true≢false}
 use mathlib.Core.List.{List}
-use native.Mathlib.Omega.{arith}
 use borrow.Author.Tests.{ltb-true, ltb-false, le-leb, lt-leb}
 use lib.Dec.{eqb, ltb, leb}
 use lib.ListN.{length}
@@ -17,7 +16,7 @@ use Rattle.pack.specs.declared.TileKey.{TileKey}
 use Rattle.cache.specs.Keys.{sameKey}
 use Rattle.cache.specs.Lookups.{nextStep}
 use Rattle.cache.specs.Loads as Loads
-use Rattle.cache.specs.Loads.{fits, readLen, takes}
+use Rattle.cache.specs.Loads.{fits, readLen}
 use Rattle.cache.specs.Numbers.{refusedProgress}
 use Rattle.cache.specs.State.{isEntry, isChunk, wantsChunkOf}
 use Rattle.cache.specs.declared.Cache.{Cache}

@@ -1,10 +1,9 @@
 -- The causes that a lookup, a read or an entry brings: which they are by the next step towards a tile.
-use Prim.Native.Nat.{ℕ, _+_, _<_}
-use mathlib.Core.Path.{_≡_, refl, sym, ap, _∙_}
+use Prim.Native.Nat.{ℕ, _+_}
+use mathlib.Core.Path.{_≡_, refl, sym, _∙_}
 use mathlib.Core.Bool.{Bool, true, false, _&&_, _||_, cond, true≢false}
 use mathlib.Core.List.{List, [], _∷_}
 use native.Mathlib.Omega.{arith}
-use borrow.Author.Tests.{eqb-true, ltb-true}
 use lib.Dec.{eqb, ltb, leb}
 use lib.ListN.{length}
 use Rattle.pack.specs.Bytes.{u32At}
@@ -18,13 +17,12 @@ use Rattle.pack.specs.declared.Located.the-variants as Located
 use Rattle.cache.specs.Begin.{begun}
 use Rattle.cache.specs.Keys.{sameKey}
 use Rattle.cache.specs.Lookups.{landsOn, touched, passes, lenAt, gotReady, gotAt, got, nextRead, nextAt, nextStep}
-use Rattle.cache.specs.Direct.{Look, ready, stale, look, lookAt}
+use Rattle.cache.specs.Direct.{ready, stale, look, lookAt}
 use Rattle.cache.specs.Loads.{After, over, refused, failed, done, forgot, fetched, readLen, fits, takes, beganAt, began, located, entryStep, chunkLen, chunkStep, stepped, steppedFrom, dropped, packBytes}
-use Rattle.cache.specs.Calls.{gotNothing, load, loadFrom, fetch}
+use Rattle.cache.specs.Calls.{gotNothing, loadFrom, fetch}
 use Rattle.cache.specs.State.{cacheOk}
 use Rattle.cache.specs.Numbers.{numberOfLookup, numberOfRequest, numberOfProgress, refusedProgress}
 use Rattle.cache.specs.declared.Cache.{Cache}
-use Rattle.cache.specs.declared.Got.{Got}
 use Rattle.cache.specs.declared.Loaded.{Loaded}
 use Rattle.cache.specs.declared.Loading.{Loading}
 use Rattle.cache.specs.declared.MaybeLoading.{MaybeLoading}
@@ -39,7 +37,7 @@ use Rattle.cache.specs.declared.next.Next.the-variants as Next
 use Rattle.cache.specs.declared.victim.Found.{Found}
 use Rattle.cache.specs.declared.victim.Found.the-variants as Found
 use Rattle.cache.proofs.FromLaws.{from-steps}
-use Rattle.refusals.specs.Causes.{_unless_, firstOf, Refuses, NothingLent}
+use Rattle.refusals.specs.Causes.{_unless_, firstOf, Refuses, NothingMore}
 use Rattle.refusals.specs.Refusals.{entryInside, entryRead, stillPasses, inPack}
 
 -- ---- an entry
@@ -243,7 +241,7 @@ Dropped c arena r = (r .cache ≡ dropped c) × (r .arena ≡ arena)
 
 abbrev Fails : Cache → List ℕ → ℕ → Bool → Bool → After → Type 0
 Fails c arena failure came inside r =
-    Refuses ((failure unless came) ∷ (4 unless inside) ∷ []) (numberOfProgress (r .answer)) (Dropped c arena r) NothingLent
+    Refuses ((failure unless came) ∷ (4 unless inside) ∷ []) (numberOfProgress (r .answer)) (Dropped c arena r) NothingMore
 
 module _ (c : Cache) (arena : List ℕ) (failure : ℕ) where
   -- a step that answers no failure

@@ -1,7 +1,7 @@
 -- The table of refusals holds: each line by the law of its causes, which its function's definition tests one after another.
-use Prim.Native.Nat.{ℕ, _+_, _<_}
+use Prim.Native.Nat.{ℕ}
 use mathlib.Core.Path.{_≡_, refl, sym, ap, _∙_}
-use mathlib.Core.Bool.{Bool, true, false, _&&_, not, cond, true≢false}
+use mathlib.Core.Bool.{Bool, true, false, _&&_, not, cond}
 use mathlib.Core.List.{List, [], _∷_, _++_}
 use native.Mathlib.Omega.{arith}
 use borrow.Author.Tests.{ltb-true, ltb-false, le-leb, lt-leb}
@@ -58,7 +58,6 @@ use Rattle.view.specs.Views as Views
 use Rattle.view.specs.Numbers.{numberOfNodeFound}
 use Rattle.view.specs.declared.NodeFound.the-variants as NodeFound
 use Rattle.cache.specs.Lookups.{nextStep}
-use Rattle.cache.specs.Lookups as Lookups
 use Rattle.cache.specs.Direct.{look}
 use Rattle.cache.specs.State.{cacheOk}
 use Rattle.cache.specs.Loads.{takes, over, refused}
@@ -106,8 +105,8 @@ use Rattle.writer.specs.Numbers.{numberOfAnswer as numberOfWritten}
 use Rattle.writer.specs.declared.Answer.the-variants as Written
 use Rattle.profile_text.specs.Page as Page
 use Rattle.profile_text.specs.declared.page.Printed.the-variants as Printed
-use Rattle.refusals.specs.Causes.{_unless_, Cause, firstOf, Refuses, Tests, NothingLent}
-use Rattle.refusals.specs.Refusals.{entryInside, stillPasses, answers, openFetch, numberOfPrinted, Refusals}
+use Rattle.refusals.specs.Causes.{_unless_, firstOf, Refuses}
+use Rattle.refusals.specs.Refusals.{stillPasses, numberOfPrinted, Refusals}
 use Rattle.refusals.proofs.CauseLaws.{tests, refuses, plainly, both, three, asked-at}
 use Rattle.refusals.proofs.LoadLaws.{step-fails, from-fails, entry-refused, entry-number, got-refused, got-number, still-next, fetched-refused, fetched-number, stepped-refused, stepped-runs, from-tested, from-refused, from-runs}
 use Rattle.refusals.proofs.DeliverLaws.{deliver-tested, deliver-number}

@@ -25,7 +25,6 @@ use Rattle.cache.specs.Direct.{Look, ready, missing, absent, stale, look, lookA
 use Rattle.cache.specs.Loads.{fetched, chunkLen, packBytes}
 use Rattle.cache.specs.Lookups.{landsOn, passes, lenAt, gotReady, gotAt, got, nextStep}
 use Rattle.cache.specs.Reader.{Reader, plain}
-use Rattle.cache.specs.State.{stateOk}
 use Rattle.cache.specs.declared.Cache.{Cache}
 use Rattle.cache.specs.declared.Loading.{Loading}
 use Rattle.cache.specs.declared.MaybeKey.{MaybeKey}
@@ -42,7 +41,7 @@ use Rattle.cache.specs.declared.next.Next.the-variants as Next
 use Rattle.cache.proofs.Below.{and-left, and-right}
 use Rattle.cache.proofs.FromLaws.{bytes-left}
 use Rattle.cache.proofs.LookLaws.{looked-aged}
-use Rattle.matcher.specs.Gather.{Matching, cacheAfter, matchingBy, outcome, runOver, updateOver, updated}
+use Rattle.matcher.specs.Gather.{cacheAfter, matchingBy, outcome, runOver, updateOver, updated}
 use Rattle.matcher.specs.Settle.{matched}
 use Rattle.matcher.specs.Score.{sameId}
 use Rattle.matcher.specs.Numbers.{numberOfOutcome as numberOfMatch}
@@ -78,9 +77,9 @@ use Rattle.engine.specs.Fixes.{placeOf}
 use Rattle.engine.specs.Calls as Calls
 use Rattle.engine.specs.Deliver.{After, over, arrived}
 use Rattle.engine.specs.Numbers.{numberOfStatus}
-use Rattle.engine.specs.State.{refused, isReady, needOk, pendingOk, reloadLimit, engineOk}
+use Rattle.engine.specs.State.{refused, needOk, pendingOk, reloadLimit, engineOk}
 use Rattle.engine.specs.Work.{ended, mayAsk, matchEndedBy, matchStep, roadEndedBy, roadStep, roadDueBy, inGridStep, atFixBy, atFix, workedBy, worked, counted}
-use Rattle.engine.specs.Steps.{chunkRequest, requestOf, repeated, needStep, readyBy, startedBy, started, steppedBy, stepped}
+use Rattle.engine.specs.Steps.{chunkRequest, requestOf, repeated, readyBy, startedBy, started, steppedBy, stepped}
 use Rattle.engine.specs.declared.Engine.{Engine}
 use Rattle.engine.specs.declared.Fix.{Fix}
 use Rattle.engine.specs.declared.Follower.{Follower}
@@ -276,9 +275,6 @@ module _ (c : Cache) (arena : List ℕ) (h : Header) (m : Matched) (horizon : Fl
     start-by missing q = record { is = λ some. refl; as-it-was = λ some. (sym (got-kept (rw q)), (refl, refl)); goes-on = λ none. absurd (omega (arith, none)) }
     start-by (ready bs) q = by (sameId (Layout.idOf bs) (m .tile)) (startOk bs m)
       where
-        keys : List TileKey
-        keys = m .tile .key ∷ []
-
         road : List ℕ → Forecast (List TileKey)
         road b = Predict.roadOver (plain at₁) (c .pages .count) (Predict.tripOf h m horizon) m forward (m .tile .key ∷ []) b samples behind
 

@@ -45,3 +45,7 @@ pub record Works (numbers : List ℕ) (number : ℕ) (AsItWas : Type 0) : Type 0
 -- of a call that is lent nothing that it could change, and whose refusal has no value but its number
 abbrev pub NothingLent : Type 0
 NothingLent = Unit
+
+-- of a line that says no more of a call that is not refused
+abbrev pub NothingMore : Type 0
+NothingMore = Unit

@@ -5,12 +5,12 @@
 -- tested before its work, and `Works` has the numbers that the work is refused with. `lines` of proofs/Table proves it.
 --
 -- A function that isn't here refuses nothing, or has the definition of one that is: a view's readers that of `tile` and `geo`, geo's `bearing` that of `angle`,
--- the cache's `settled` that of `loaded` with failure 0 and no bytes.
+-- the cache's `settled` that of `loaded` with failure 0 and no bytes. The functions for C have definitions over these (crate terrain).
 use Prim.Native.Nat.{ℕ, _+_, max}
 use mathlib.Core.Path.{_≡_}
 use mathlib.Core.Bool.{Bool, true, false, _&&_, _||_, cond}
 use mathlib.Core.List.{List, [], _∷_, _++_}
-use lib.Dec.{eqb, ltb, leb}
+use lib.Dec.{eqb, leb}
 use lib.Ieee.{Float}
 use lib.IntN.{ℤ}
 use lib.ListN.{length, drop}
@@ -60,7 +60,7 @@ use Rattle.crossing.specs.Numbers.{numberOfCrossed}
 use Rattle.crossing.specs.declared.Crossed.{Crossed}
 use Rattle.view.specs.Views as Views
 use Rattle.view.specs.Numbers.{numberOfNodeFound}
-use Rattle.cache.specs.State.{stateOk, lentOk, cacheOk}
+use Rattle.cache.specs.State.{lentOk, cacheOk}
 use Rattle.cache.specs.State as States
 use Rattle.cache.specs.Lookups.{nextStep}
 use Rattle.cache.specs.Lookups as Lookups
@@ -115,7 +115,7 @@ use Rattle.writer.specs.declared.Answer.the-variants as Written
 use Rattle.profile_text.specs.Page as Page
 use Rattle.profile_text.specs.declared.page.Printed.{Printed}
 use Rattle.profile_text.specs.declared.page.Printed.the-variants as Printed
-use Rattle.refusals.specs.Causes.{_unless_, firstOf, Refuses, Tests, Works, NothingLent}
+use Rattle.refusals.specs.Causes.{_unless_, firstOf, Refuses, Tests, Works, NothingLent, NothingMore}
 
 -- ---- what is asked, where the crates have no word for it
 
@@ -283,12 +283,12 @@ pub record Refusals : Type 0 where
       takes (nextStep c k) h k failure (length bs) ≡ true → inGrid h k ≡ true → stillPasses (look c arena (h .tile) k) ≡ true →
       let r = Loads.stepped c (nextStep c k) arena h k failure bs in
       Refuses (failure unless eqb failure 0 ∷ 4 unless entryRead (nextStep c k) h bs ∷ [])
-      (numberOfProgress (r .answer)) ((r .cache ≡ Loads.dropped c) × (r .arena ≡ arena)) NothingLent
+      (numberOfProgress (r .answer)) ((r .cache ≡ Loads.dropped c) × (r .arena ≡ arena)) NothingMore
   pub load-from-fails : (c : Cache) (arena : List ℕ) (h : Header) (k : TileKey) (pack : List ℕ) → stillPasses (look c arena (h .tile) k) ≡ true →
       let r = Loads.steppedFrom c (nextStep c k) arena h k pack in
       Refuses
       (2 unless inPack (Loads.fetched c (nextStep c k) arena h k) pack ∷ 4 unless entryRead (nextStep c k) h (packBytes pack (Grid.entryOf h k) 8) ∷ [])
-      (numberOfProgress (r .answer)) ((r .cache ≡ Loads.dropped c) × (r .arena ≡ arena)) NothingLent
+      (numberOfProgress (r .answer)) ((r .cache ≡ Loads.dropped c) × (r .arena ≡ arena)) NothingMore
   -- matcher
   pub nearby : (h : Header) (p : Point) → let r = Matched.nearby h p in
       Refuses (12 unless rules h ∷ 8 unless isPoint (p .lat) (p .lon) ∷ []) (numberOfNearby (r .answer)) (r .near ≡ Near.noKeys)
