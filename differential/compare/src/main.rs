@@ -22,6 +22,7 @@ mod expected;
 mod ffi;
 mod ffi_format;
 mod ffi_terrain;
+mod ffi_write;
 mod format;
 mod geometry;
 mod list;

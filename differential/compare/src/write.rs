@@ -1,9 +1,11 @@
 //! The program `write_pack`, and by it both writers: a pack of the comparison's own generator is
 //! told as text, field by field, and the program has to write it, byte for byte, in whatever order
 //! its tiles are told. The Rust parses and drives over such packs in the other parts. Of a text that
-//! makes no pack the program has to say so with the line and number that the account has.
+//! makes no pack the program has to say so with the line and number that the account has. Packs of
+//! some megabytes go through the library's two functions.
 mod account;
 pub mod bench;
+mod large;
 mod texts;
 
 use crate::Scale;
@@ -158,5 +160,5 @@ pub fn compare(scale: &Scale) -> Vec<Tally> {
     };
     let mut told = Tally::over("write_pack, messages", scale, scale.written, spoilt);
     texts::met(&mut told);
-    vec![Tally::over("write_pack", scale, scale.written, step), told]
+    vec![Tally::over("write_pack", scale, scale.written, step), told, large::compare(scale)]
 }

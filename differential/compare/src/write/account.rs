@@ -8,9 +8,9 @@ pub type Refusal = (&'static str, usize, u32);
 /// The most records of a kind that a tile of 49,152 bytes has, and the program's room.
 const MOST: [usize; 3] = [6_140, 2_456, 8_186];
 const TILE: usize = 49_152;
-const TILES: usize = 1_048_576;
-const COUNT: usize = 4_096;
-const PACK: usize = 1_638_400;
+const TILES: usize = 3_145_728;
+const COUNT: usize = 16_384;
+const PACK: usize = 3_932_160;
 const LIMIT: i64 = 360_000_000;
 /// The longest line that is read.
 const LINE: usize = 4_095;

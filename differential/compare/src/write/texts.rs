@@ -134,23 +134,24 @@ fn tiles(rows: usize, cols: usize, count: usize, nodes: usize) -> String {
 
 /// What no small change makes: the program's room, and the ends of it.
 fn large() -> Vec<String> {
-    let full = |nodes| tiles(5, 5, 21, 6_120) + &tiles(5, 5, 22, nodes).split_off(22);
-    let twice = tiles(300, 300, 20, 6_120);
+    // One tile more, with so many nodes: 1,276 fill the room of the tiles.
+    let full = |nodes| tiles(9, 9, 64, 6_120) + "tile 8 8 41023\n" + &"node 0 0 0\n".repeat(nodes);
+    let twice = tiles(500, 500, 41, 6_120);
     vec![
         tiles(1, 1, 1, 6_140),
         tiles(1, 1, 1, 6_141),
-        tiles(65, 65, 4_096, 0),
-        tiles(65, 65, 4_097, 0),
-        tiles(5, 5, 21, 6_120),
-        tiles(5, 5, 22, 6_120),
-        full(0),
-        tiles(300, 300, 18, 6_120),
-        tiles(300, 300, 19, 6_120),
+        tiles(129, 129, 16_384, 0),
+        tiles(129, 129, 16_385, 0),
+        tiles(9, 9, 65, 6_120),
+        full(1_276),
+        full(1_277),
+        tiles(500, 500, 39, 6_120),
+        tiles(500, 500, 40, 6_120),
         twice.clone() + "tile 0 0 41023\n",
-        twice + "tile 300 0 41023\n",
-        tiles(452, 452, 0, 0),
-        tiles(453, 453, 0, 0),
-        tiles(453, 453, 3, 1) + "node 0 0 0\n",
+        twice + "tile 500 0 41023\n",
+        tiles(701, 701, 0, 0),
+        tiles(702, 702, 0, 0),
+        tiles(702, 702, 3, 1) + "node 0 0 0\n",
         tiles(65_535, 65_535, 2, 0),
     ]
 }
