@@ -48,15 +48,16 @@ use Rattle.terrain.specs.declared.records.TerrainPoint.{TerrainPoint}
 use Rattle.terrain.specs.declared.roads.TerrainHeading.{TerrainHeading}
 use Rattle.terrain.proofs.BackLaws.{engine-words, accepted-words}
 use Rattle.direct.specs.Lists as Direct
+use Rattle.direct.specs.Story.{after}
 use Rattle.direct.specs.Lists.{World, Call, Answer, exec, number, numberOfKnown}
 use Rattle.terrain_lists.specs.Calls as Calls
-use Rattle.terrain_lists.specs.Calls.{HostCall, hostExec, Meant, call, atInterface, meant, callsOf, answerTold, cacheTold, told, toldBy, hostTold, left, wordsOf}
+use Rattle.terrain_lists.specs.Calls.{HostCall, hostExec, Meant, call, atInterface, meant, callsOf, answerTold, cacheTold, told, toldBy, hostTold, wordsOf}
 use Rattle.terrain_lists.specs.Claims.{TypedWorld, isTwelve, OwnTwelve}
 
 -- ---- a call
 
 abbrev Agrees : HostCall → World → Type 0
-Agrees c w = hostExec c (wordsOf w) ≡ record { world = wordsOf (left (callsOf c) w); answer = hostTold c w }
+Agrees c w = hostExec c (wordsOf w) ≡ record { world = wordsOf (after (callsOf c) w); answer = hostTold c w }
 
 module _ (w : World) (t : TypedWorld w) where
   taken : accepted (words (w .engine)) ≡ true
@@ -66,91 +67,91 @@ module _ (w : World) (t : TypedWorld w) where
   read = engine-words (w .engine) (t .engine)
 
   fix-agreed : (lat lon : ℤ) (at : ℕ) → Agrees (Calls.fix lat lon at) w
-  unfolding hostExec meant told left exec Host.fix
+  unfolding hostExec meant told after exec Host.fix
   fix-agreed lat lon at = rw (taken, read)
 
   lost-agreed : Agrees Calls.lost w
-  unfolding hostExec meant told left exec Host.lost
+  unfolding hostExec meant told after exec Host.lost
   lost-agreed = rw (taken, read)
 
   reset-agreed : (P : List ℕ) → Agrees (Calls.reset P) w
-  unfolding hostExec meant told left exec Host.reset
+  unfolding hostExec meant told after exec Host.reset
   reset-agreed P = rw (taken, read)
 
   step-agreed : Agrees Calls.step w
-  unfolding hostExec meant told left exec Host.step
+  unfolding hostExec meant told after exec Host.step
   step-agreed = rw (taken, read)
 
   deliver-agreed : (failure : ℕ) (bs : List ℕ) → Agrees (Calls.deliver failure bs) w
-  unfolding hostExec meant told left exec Host.deliver
+  unfolding hostExec meant told after exec Host.deliver
   deliver-agreed failure bs = rw (taken, read)
 
   step-from-agreed : (Q : List ℕ) → Agrees (Calls.stepFrom Q) w
-  unfolding hostExec meant told left exec Host.stepFrom
+  unfolding hostExec meant told after exec Host.stepFrom
   step-from-agreed Q = rw (taken, read)
 
   ahead-agreed : Agrees Calls.ahead w
-  unfolding hostExec meant told left exec Host.ahead
+  unfolding hostExec meant told after exec Host.ahead
   ahead-agreed = rw (taken, read)
 
   header-agreed : Agrees Calls.header w
-  unfolding hostExec meant told left exec Host.header
+  unfolding hostExec meant told after exec Host.header
   header-agreed = rw (taken, read)
 
   heading-agreed : Agrees Calls.heading w
-  unfolding hostExec meant told left exec Host.heading
+  unfolding hostExec meant told after exec Host.heading
   heading-agreed = rw (taken, read)
 
   loads-agreed : Agrees Calls.loads w
-  unfolding hostExec meant told left exec Host.loads
+  unfolding hostExec meant told after exec Host.loads
   loads-agreed = rw (taken, read)
 
   steps-agreed : Agrees Calls.steps w
-  unfolding hostExec meant told left exec Host.steps
+  unfolding hostExec meant told after exec Host.steps
   steps-agreed = rw (taken, read)
 
   -- ---- of the cache
 
   capacity-agreed : Agrees Calls.cacheCapacity w
-  unfolding hostExec meant told left exec Cached.exec
+  unfolding hostExec meant told after exec Cached.exec
   capacity-agreed = rw (taken, read)
 
   cache-loads-agreed : Agrees Calls.cacheLoads w
-  unfolding hostExec meant told left exec Cached.exec
+  unfolding hostExec meant told after exec Cached.exec
   cache-loads-agreed = rw (taken, read)
 
   pages-agreed : (h : TerrainHeader) (key : TerrainKey) → Agrees (Calls.cachePages h key) w
-  unfolding hostExec meant told left exec Cached.exec
+  unfolding hostExec meant told after exec Cached.exec
   pages-agreed h key = rw (taken, read)
 
   get-agreed : (h : TerrainHeader) (key : TerrainKey) → Agrees (Calls.cacheGet h key) w
-  unfolding hostExec meant told left exec Cached.exec
+  unfolding hostExec meant told after exec Cached.exec
   get-agreed h key = rw (taken, read)
 
   clear-agreed : Agrees Calls.cacheClear w
-  unfolding hostExec meant told left exec Cached.exec
+  unfolding hostExec meant told after exec Cached.exec
   clear-agreed = rw (taken, read)
 
   fetch-agreed : (h : TerrainHeader) (key : TerrainKey) → Agrees (Calls.cacheFetch h key) w
-  unfolding hostExec meant told left exec Cached.exec
+  unfolding hostExec meant told after exec Cached.exec
   fetch-agreed h key = rw (taken, read)
 
   load-agreed : (h : TerrainHeader) (key : TerrainKey) (failure : ℕ) (bs : List ℕ) → Agrees (Calls.cacheLoad h key failure bs) w
-  unfolding hostExec meant told left exec Cached.exec
+  unfolding hostExec meant told after exec Cached.exec
   load-agreed h key failure bs = rw (taken, read)
 
   load-from-agreed : (h : TerrainHeader) (key : TerrainKey) (Q : List ℕ) → Agrees (Calls.cacheLoadFrom h key Q) w
-  unfolding hostExec meant told left exec Cached.exec
+  unfolding hostExec meant told after exec Cached.exec
   load-from-agreed h key Q = rw (taken, read)
 
   -- ---- of the matcher and of the road
 
   nearby-agreed : (h : TerrainHeader) (p : TerrainPoint) → Agrees (Calls.nearby h p) w
-  unfolding hostExec meant told left exec
+  unfolding hostExec meant told after exec
   nearby-agreed h p = refl
 
   current-agreed : (ms : List ℕ) → Agrees (Calls.current ms) w
-  unfolding hostExec meant told left exec
+  unfolding hostExec meant told after exec
   current-agreed ms = by (Roads.isMatcher ms) refl
     where
       by : (b : Bool) → Roads.isMatcher ms ≡ b → Agrees (Calls.current ms) w
@@ -158,7 +159,7 @@ module _ (w : World) (t : TypedWorld w) where
       by false e = rw e
 
   update-agreed : (ms : List ℕ) (h : TerrainHeader) (p : TerrainPoint) (way : TerrainHeading) → Agrees (Calls.update ms h p way) w
-  unfolding hostExec meant told left exec
+  unfolding hostExec meant told after exec
   update-agreed ms h p way = by (Roads.isMatcher ms) (leb (way .known) 1) refl refl
     where
       by : (b c : Bool) → Roads.isMatcher ms ≡ b → leb (way .known) 1 ≡ c → Agrees (Calls.update ms h p way) w
@@ -167,7 +168,7 @@ module _ (w : World) (t : TypedWorld w) where
       by false c e f = rw e
 
   predict-agreed : (h : TerrainHeader) (start : MatchTold) (horizon : Float) (samples behind : List ℤ) → Agrees (Calls.predict h start horizon samples behind) w
-  unfolding hostExec meant told left exec
+  unfolding hostExec meant told after exec
   predict-agreed h start horizon samples behind = by (Roads.isGiven start) refl
     where
       by : (b : Bool) → Roads.isGiven start ≡ b → Agrees (Calls.predict h start horizon samples behind) w

@@ -25,8 +25,9 @@ use Rattle.predict.specs.Predict.{predictOver, predictedIn}
 use Rattle.engine.specs.declared.Engine.{Engine}
 use Rattle.terrain.specs.Typed.{Single, TypedCache, TypedMatcher, Typed}
 use Rattle.direct.specs.Lists as Direct
+use Rattle.direct.specs.Story.{after}
 use Rattle.direct.specs.Lists.{World, Call, exec, start, Along}
-use Rattle.terrain_lists.specs.Calls.{Bytes, TypedCached, left, AllTyped}
+use Rattle.terrain_lists.specs.Calls.{Bytes, TypedCached, AllTyped}
 use Rattle.terrain_lists.specs.Claims.{TypedWorld, TypedKept, TypedAlways}
 use Rattle.terrain_lists.proofs.CacheTyped.{TypedAfter, load-typed, load-from-typed, get-typed, clear-typed}
 use Rattle.terrain_lists.proofs.MatchTyped.{look-bytes, update-typed}
@@ -116,11 +117,11 @@ typed-kept (Direct.predict h m horizon samples behind) w g t = record {
 pub start-typed : (n : ℕ) → n ≤ 96 → (horizon : Float) → Single horizon → (arena : List ℕ) → Bytes arena → TypedWorld (start n horizon arena)
 start-typed n few horizon h arena a = record { engine = new-typed n horizon (omega (arith, few)) h; arena = a }
 
-pub along-typed : (cs : List Call) (w : World) → AllTyped cs → TypedWorld w → Along (λ (w : World) (c : Call). TypedWorld w) cs w × TypedWorld (left cs w)
-unfolding AllTyped Along left
+pub along-typed : (cs : List Call) (w : World) → AllTyped cs → TypedWorld w → Along (λ (w : World) (c : Call). TypedWorld w) cs w × TypedWorld (after cs w)
+unfolding AllTyped Along after
 along-typed [] w g t = (tt, t)
 along-typed (c ∷ cs) w g t =
-    let next : Along (λ (w : World) (c : Call). TypedWorld w) cs (exec c w .world) × TypedWorld (left cs (exec c w .world)) =
+    let next : Along (λ (w : World) (c : Call). TypedWorld w) cs (exec c w .world) × TypedWorld (after cs (exec c w .world)) =
     along-typed cs (exec c w .world) (g .1) (typed-kept c w (g .0) t) in
     ((t, next .0), next .1)
 

@@ -1,4 +1,4 @@
--- A list of calls through C is a list of demand 3 (`words-list`), so that what is proved of those holds of these (`host-safe`, `host-direct`, `host-open`). The idea: induction over the list,
+-- A list of calls through C is a list of demand 3 (`words-list`), so that what is proved of those holds of these (`host-safe`, `host-direct`, `host-open`, `host-read`). The idea: induction over the list,
 -- one call by one, in worlds whose engine is within its types.
 use Prim.Native.Nat.{ℕ, _≤_}
 use mathlib.Core.Path.{_≡_, refl, sym, ap, subst, _∙_}
@@ -21,9 +21,12 @@ use Rattle.terrain.proofs.BackLaws.{accepted-words}
 use Rattle.terrain.proofs.WordsLaws.{words-engine}
 use Rattle.direct.specs.Claims.{Safe, Open, AllFair, tolds, shows, madeOf}
 use Rattle.direct.specs.Direct.{directly, newDirect, directShows}
+use Rattle.direct.specs.Published.{Read, readOf}
+use Rattle.direct.specs.Story.{after}
 use Rattle.direct.specs.Lists.{World, Call, exec, start, Along}
 use Rattle.direct.proofs.Claim.{all-safe, all-direct, all-open}
-use Rattle.terrain_lists.specs.Calls.{HostWorld, HostCall, HostAnswer, HostDone, hostExec, Meant, call, atInterface, meant, callsBy, callsOf, hostTold, Bytes, GivenBy, left, AllTyped, AllGiven, callsIn, hostLeft, hostAnswers, hostTolds, wordsOf, hostStart, pagesIn}
+use Rattle.direct.proofs.Published.{all-read}
+use Rattle.terrain_lists.specs.Calls.{HostWorld, HostCall, HostAnswer, HostDone, hostExec, Meant, call, atInterface, meant, callsBy, callsOf, hostTold, Bytes, GivenBy, AllTyped, AllGiven, callsIn, hostLeft, hostAnswers, hostTolds, wordsOf, hostStart, pagesIn}
 use Rattle.terrain_lists.specs.Claims.{TypedWorld, HostAlong, OwnTwelves, SameList, WordsList, AreWords, readFrom, WordsFrom, MatcherWords}
 use Rattle.terrain_lists.proofs.Agreed.{agreed, twelve-own}
 use Rattle.terrain_lists.proofs.Kept.{along-typed, start-typed, update-matcher}
@@ -39,20 +42,20 @@ given-typed (atInterface a) g = tt
 
 -- ---- the lists
 
-left-append : (xs ys : List Call) (w : World) → left (xs ++ ys) w ≡ left ys (left xs w)
-unfolding left
-left-append [] ys w = refl
-left-append (x ∷ xs) ys w = left-append xs ys (exec x w .world)
+after-append : (xs ys : List Call) (w : World) → after (xs ++ ys) w ≡ after ys (after xs w)
+unfolding after
+after-append [] ys w = refl
+after-append (x ∷ xs) ys w = after-append xs ys (exec x w .world)
 
 same-list : (cs : List HostCall) (w : World) → AllGiven cs → TypedWorld w → SameList cs (wordsOf w) w
-unfolding AllGiven callsIn hostLeft hostAnswers hostTolds HostAlong OwnTwelves left
+unfolding AllGiven callsIn hostLeft hostAnswers hostTolds HostAlong OwnTwelves after
 same-list [] w g t = record { world = refl; answers = refl; accepted = accepted-words (w .engine) (t .engine); twelves = tt }
 same-list (c ∷ cs) w g t =
-    let next : World = left (callsOf c) w in
+    let next : World = after (callsOf c) w in
     let done : hostExec c (wordsOf w) ≡ record { world = wordsOf next; answer = hostTold c w } = agreed w t c in
     let rest : SameList cs (wordsOf next) next = same-list cs next (g .1) (along-typed (callsOf c) w (given-typed (meant c) (g .0)) t .1) in
     record {
-      world = ap (λ (d : HostDone). hostLeft cs (d .world)) done ∙ rest .world ∙ ap wordsOf (sym (left-append (callsOf c) (callsIn cs) w));
+      world = ap (λ (d : HostDone). hostLeft cs (d .world)) done ∙ rest .world ∙ ap wordsOf (sym (after-append (callsOf c) (callsIn cs) w));
       answers = ap (λ (d : HostDone). d .answer ∷ hostAnswers cs (d .world)) done ∙ ap (λ (more : List HostAnswer). hostTold c w ∷ more) (rest .answers);
       accepted = (
         accepted-words (w .engine) (t .engine),
@@ -103,6 +106,10 @@ matcher-again = record {
 module _ (arena : List ℕ) (horizon : Float) (cs : List HostCall) where
   pub host-safe : Along Safe (callsIn cs) (start (pagesIn arena) horizon arena)
   host-safe = all-safe (pagesIn arena) (few arena) horizon arena (callsIn cs)
+
+  -- the road that `terrain_ahead` then tells
+  pub host-read : Read (shows (callsIn cs) (start (pagesIn arena) horizon arena)) (readOf (after (callsIn cs) (start (pagesIn arena) horizon arena)))
+  host-read = all-read (pagesIn arena) horizon arena (callsIn cs)
 
   module _ (P : List ℕ) (fair : AllFair P (callsIn cs) (start (pagesIn arena) horizon arena)) where
     pub host-direct : directShows (directly (pagesIn arena)) (madeOf (pagesIn arena) horizon) P (callsIn cs) (tolds (callsIn cs) (start (pagesIn arena) horizon arena)) newDirect

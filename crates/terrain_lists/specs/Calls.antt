@@ -36,6 +36,7 @@ use Rattle.terrain.specs.declared.roads.TerrainNear.{TerrainNear}
 use Rattle.terrain.specs.declared.roads.TerrainPredicted.{TerrainPredicted}
 use Rattle.terrain.specs.declared.roads.TerrainUpdated.{TerrainUpdated}
 use Rattle.direct.specs.Lists as Direct
+use Rattle.direct.specs.Story.{after}
 use Rattle.direct.specs.Lists.{World, Call, Answer, itsAhead, itsHeader, itsHeading, itsLoads, itsSteps, exec}
 
 -- ---- the calls
@@ -283,11 +284,6 @@ Given c = GivenBy (meant c)
 
 -- ---- lists
 
--- the world that a list of demand 3's calls leaves
-unfoldable pub left : List Call → World → World
-left [] w = w
-left (c ∷ cs) w = left cs (exec c w .world)
-
 unfoldable pub AllTyped : List Call → Type 0
 AllTyped [] = Unit
 AllTyped (c ∷ cs) = TypedCall c × AllTyped cs
@@ -313,7 +309,7 @@ hostAnswers (c ∷ cs) v = hostExec c v .answer ∷ hostAnswers cs (hostExec c v
 -- what it is to answer, each in the world that the calls before it left
 unfoldable pub hostTolds : List HostCall → World → List HostAnswer
 hostTolds [] w = []
-hostTolds (c ∷ cs) w = hostTold c w ∷ hostTolds cs (left (callsOf c) w)
+hostTolds (c ∷ cs) w = hostTold c w ∷ hostTolds cs (after (callsOf c) w)
 
 -- the words of a world's engine, and its arena
 abbrev pub wordsOf : World → HostWorld

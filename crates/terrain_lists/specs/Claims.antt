@@ -13,8 +13,9 @@ use Rattle.terrain.specs.Roads as Roads
 use Rattle.terrain.specs.Typed.{Word, Single, Typed}
 use Rattle.terrain.specs.Words.{engineOf, accepted, matcherWords}
 use Rattle.terrain.specs.declared.roads.TerrainHeading.{TerrainHeading}
+use Rattle.direct.specs.Story.{after}
 use Rattle.direct.specs.Lists.{World, Call, exec, number, start, Along}
-use Rattle.terrain_lists.specs.Calls.{HostWorld, HostCall, HostAnswer, numbered, stepped, roadRead, headerRead, headingRead, countRead, counted, lookedUp, requested, progressed, nearRead, currentRead, updated, predicted, hostExec, Meant, call, atInterface, meant, callsOf, hostTold, Bytes, TypedCall, left, AllTyped, AllGiven, callsIn, hostLeft, hostAnswers, hostTolds, wordsOf, hostStart, pagesIn}
+use Rattle.terrain_lists.specs.Calls.{HostWorld, HostCall, HostAnswer, numbered, stepped, roadRead, headerRead, headingRead, countRead, counted, lookedUp, requested, progressed, nearRead, currentRead, updated, predicted, hostExec, Meant, call, atInterface, meant, callsOf, hostTold, Bytes, TypedCall, AllTyped, AllGiven, callsIn, hostLeft, hostAnswers, hostTolds, wordsOf, hostStart, pagesIn}
 
 -- ---- within their types
 
@@ -30,7 +31,7 @@ TypedKept = (c : Call) (w : World) → TypedCall c → TypedWorld w → TypedWor
 abbrev pub TypedAlways : Type 0
 TypedAlways =
     (n : ℕ) → n ≤ 96 → (horizon : Float) → Single horizon → (arena : List ℕ) → Bytes arena → (cs : List Call) → AllTyped cs →
-    Along (λ (w : World) (c : Call). TypedWorld w) cs (start n horizon arena) × TypedWorld (left cs (start n horizon arena))
+    Along (λ (w : World) (c : Call). TypedWorld w) cs (start n horizon arena) × TypedWorld (after cs (start n horizon arena))
 
 -- ---- calls through C
 
@@ -63,12 +64,12 @@ OwnTwelve (atInterface a) w = Unit
 
 unfoldable pub OwnTwelves : List HostCall → World → Type 0
 OwnTwelves [] w = Unit
-OwnTwelves (c ∷ cs) w = (isTwelve (hostTold c w) ≡ true → OwnTwelve (meant c) w) × OwnTwelves cs (left (callsOf c) w)
+OwnTwelves (c ∷ cs) w = (isTwelve (hostTold c w) ≡ true → OwnTwelve (meant c) w) × OwnTwelves cs (after (callsOf c) w)
 
 -- calls through C from words v beside demand 3's calls from a world w: they leave its engine's words and its arena, answer what its calls answer, meet accepted words alone, and answer 12 only
 -- at the interface or where the call itself is refused with 12
 pub record SameList (cs : List HostCall) (v : HostWorld) (w : World) : Type 0 where
-  pub world : hostLeft cs v ≡ wordsOf (left (callsIn cs) w)
+  pub world : hostLeft cs v ≡ wordsOf (after (callsIn cs) w)
   pub answers : hostAnswers cs v ≡ hostTolds cs w
   pub accepted : HostAlong (λ (x : HostWorld). accepted (x .words) ≡ true) cs v
   pub twelves : OwnTwelves cs w
