@@ -1,5 +1,5 @@
 -- What the Rust types say of an engine, as far as writing it as words asks it: each number that could be cut within its field, each float a single float, each array of its length; and that the counts that the Rust has as `usize` fit a word, which
--- number 12 says of them (`small` of the proofs). An engine that the code holds is so by its types; no theorem says it of the definitions.
+-- number 12 says of them (`small` of the proofs). An engine that the code holds is so by its types; that every call's definition leaves one so is `typed-kept` of crate terrain_lists.
 use Prim.Native.Nat.{ℕ, _<_, _^_}
 use mathlib.Core.Path.{_≡_}
 use mathlib.Core.List.{List}
