@@ -1,30 +1,36 @@
--- The code's loop over the tiles around a fix is the run over the cache's look: where it starts (`gather-start`), and one tile more
--- (`gather-turn`). The idea: the lookups so far changed clock and ages alone, so that `get` in the cache that they left answers as the look at
--- the cache given.
+-- The code's loop over the tiles around a fix is the run over the cache's look: where it starts (`run-start`), one tile more (`run-turn`), and a place
+-- without one (`run-none`). The idea: the lookups so far changed clock and ages alone, so that `get` in the cache that they left answers as in the
+-- cache given, and these two are all that has to be carried (`updated-uses`).
 use Prim.Native.Nat.{ℕ, _+_, _*_}
-use mathlib.Core.Path.{_≡_, refl, ap, _∙_}
+use mathlib.Core.Path.{_≡_, refl, sym, ap, _∙_}
 use mathlib.Core.Bool.{Bool, true, false}
-use mathlib.Core.List.{List}
+use mathlib.Core.List.{List, [], _∷_, _++_}
 use borrow.Author.Tests.{le-leb}
 use lib.ListN.{length}
+use Rattle.pack.specs.declared.Header.{Header}
 use Rattle.pack.specs.declared.TileKey.{TileKey}
+use Rattle.geo.specs.declared.Point.{Point}
 use Rattle.cache.specs.declared.MaybeKey.{MaybeKey}
 use Rattle.cache.specs.declared.MaybeKey.the-variants as MaybeKey
 use Rattle.cache.specs.declared.Cache.{Cache}
+use Rattle.cache.specs.declared.Slot.{Slot}
+use Rattle.cache.specs.Runs.{slotAt}
 use Rattle.cache.specs.declared.look.Landing.{Landing}
 use Rattle.cache.specs.declared.look.Landing.the-variants as Landing
 use Rattle.cache.specs.Lookups.{landsOn, runBytes, passes, lenAt, gotReady, gotAt, got}
-use Rattle.cache.specs.Direct.{Look, lookAt, look, looked}
-use Rattle.cache.proofs.LookLaws.{looked-look, passes-inside}
+use Rattle.cache.specs.Direct.{lookAt, look, looked, Aged}
+use Rattle.cache.specs.Uses.{usesOf, usedAt, withUses}
+use Rattle.cache.proofs.LookLaws.{passes-inside, looked-aged, looked-more, got-touched, aged-lands, aged-uses, touched-uses}
 use Rattle.num.proofs.FoldLaws.{up-start, up-turn}
 use Rattle.matcher.specs.Keeping.{noneKept}
+use Rattle.matcher.specs.declared.Heading.{Heading}
+use Rattle.matcher.specs.declared.Matcher.{Matcher}
 use Rattle.matcher.specs.declared.Query.{Query}
 use Rattle.matcher.specs.declared.gather.Ending.{Ending}
 use Rattle.matcher.specs.declared.gather.Ending.the-variants as Ending
 use Rattle.matcher.specs.declared.NearKeys.{NearKeys}
 use Rattle.matcher.specs.Near.{keyAt}
-use Rattle.matcher.specs.Gather.{Run, lookStep, runStep, noRun, runTo, gatheredOf, bytesOf, gatheredWith, gatherBy, gatherStep}
-use Rattle.cache.proofs.LookLaws.{looked-more, got-touched}
+use Rattle.matcher.specs.Gather.{Run, lookStep, runStep, noRun, runTo, runOver, cacheAfter, updated, gatheredOf, bytesOf, gatheredWith, gatherBy, gatherStep}
 
 -- a run that passes lies in the arena, so its bytes are all there
 pub bytes-are : (arena : List ℕ) (first len : ℕ) (key : TileKey) (size : ℕ) → passes arena first len key size ≡ true
@@ -33,8 +39,8 @@ unfolding bytesOf
 bytes-are arena first len key size e = rw (le-leb (first * 8192 + len) (length arena) (passes-inside arena first len key size e))
 
 -- before the first tile
-pub gather-start : (c : Cache) (arena : List ℕ) (size : ℕ)
-    → gatheredOf c arena size noRun ≡ record { kept = noneKept; cache = c; end = Ending.All }
+gather-start : (c : Cache) (arena : List ℕ) (size : ℕ)
+    → gatheredOf c arena size noRun ≡ record { kept = noneKept; uses = usesOf c; end = Ending.All }
 unfolding looked
 gather-start c arena size = refl
 
@@ -49,52 +55,86 @@ module _ (c : Cache) (arena : List ℕ) (q : Query) where
     abbrev now : Cache
     now = looked c arena (q .header .tile) (r .found)
 
-    ready-turn : (i : ℕ) → landsOn now key ≡ Landing.At i → (ok : Bool) → passes arena i (lenAt now i) key size ≡ ok
-        → gatheredWith (gatheredOf c arena size r) (gotReady ok now i) arena q key
-        ≡ gatheredOf c arena size (lookStep (lookAt (Landing.At i) (now .pages .slots) arena size key) r q key)
+    aged : Aged c now
+    aged = looked-aged arena (q .header .tile) (r .found) c
+
+    ready-turn : (i : ℕ) → landsOn c key ≡ Landing.At i → (ok : Bool) → passes arena i (lenAt c i) key size ≡ ok
+        → gatheredWith (gatheredOf c arena size r) (gotReady ok c i .answer) arena q key
+        ≡ gatheredOf c arena size (lookStep (lookAt (Landing.At i) (c .pages .slots) arena size key) r q key)
     ready-turn i e true p =
-        rw (p, bytes-are arena i (lenAt now i) key size p, looked-more arena size (r .found) c key, got-touched arena size now key i e p)
+        let same : lenAt now i ≡ lenAt c i = ap (λ (s : List Slot). slotAt s i .len) (aged .slots) in
+        let lands : landsOn now key ≡ Landing.At i = aged-lands c now key aged ∙ e in
+        let later : usesOf (looked c arena size (r .found ++ (key ∷ []))) ≡ usedAt (usesOf now) i
+        = ap usesOf (looked-more arena size (r .found) c key ∙ got-touched arena size now key i lands (rw same p)) ∙ touched-uses now i in
+        rw (p, bytes-are arena i (lenAt c i) key size p, later)
     ready-turn i e false p = rw p
 
-    land-turn : (l : Landing) → landsOn now key ≡ l
-        → gatheredWith (gatheredOf c arena size r) (gotAt l now arena size key) arena q key
-        ≡ gatheredOf c arena size (lookStep (lookAt l (now .pages .slots) arena size key) r q key)
+    land-turn : (l : Landing) → landsOn c key ≡ l
+        → gatheredWith (gatheredOf c arena size r) (gotAt l c arena size key .answer) arena q key
+        ≡ gatheredOf c arena size (lookStep (lookAt l (c .pages .slots) arena size key) r q key)
     land-turn Landing.Missing e = refl
     land-turn Landing.Nothing e = refl
-    land-turn (Landing.At i) e = ready-turn i e (passes arena i (lenAt now i) key size) refl
+    land-turn (Landing.At i) e = ready-turn i e (passes arena i (lenAt c i) key size) refl
 
-    key-turn : gatheredWith (gatheredOf c arena size r) (got now arena size key) arena q key
-        ≡ gatheredOf c arena size (lookStep (look now arena size key) r q key)
+    key-turn : gatheredWith (gatheredOf c arena size r) (got c arena size key .answer) arena q key
+        ≡ gatheredOf c arena size (lookStep (look c arena size key) r q key)
     unfolding got look
-    key-turn = land-turn (landsOn now key) refl
+    key-turn = land-turn (landsOn c key) refl
 
   -- ---- one tile
 
-  turn-by : (end : Ending) (m : MaybeKey) (r : Run)
-      → gatherBy end m (gatheredOf c arena size r) arena q ≡ gatheredOf c arena size (runStep end m (look c arena size) r q)
-  turn-by Ending.All MaybeKey.Nothing r = refl
-  turn-by Ending.All (MaybeKey.Key key) r =
-      key-turn r key ∙ ap (λ (at : TileKey → Look). gatheredOf c arena size (lookStep (at key) r q key)) (looked-look arena size (r .found) c)
-  turn-by (Ending.Need key) m r = refl
-  turn-by Ending.Stale m r = refl
+  turn-by : (end : Ending) (key : TileKey) (r : Run)
+      → gatherBy end (gatheredOf c arena size r) c arena q key ≡ gatheredOf c arena size (runStep end (MaybeKey.Key key) (look c arena size) r q)
+  turn-by Ending.All key r = key-turn r key
+  turn-by (Ending.Need other) key r = refl
+  turn-by Ending.Stale key r = refl
 
-  pub gather-turn : (m : MaybeKey) (r : Run)
-      → gatherStep (gatheredOf c arena (q .header .tile) r) arena q m
-      ≡ gatheredOf c arena (q .header .tile) (runStep (r .end) m (look c arena (q .header .tile)) r q)
-  gather-turn m r = turn-by (r .end) m r
+  -- a place without a key adds nothing
+  no-key : (end : Ending) (r : Run) → runStep end MaybeKey.Nothing (look c arena size) r q ≡ r
+  no-key Ending.All r = refl
+  no-key (Ending.Need key) r = refl
+  no-key Ending.Stale r = refl
 
   -- ---- the loop
 
   module _ (near : NearKeys) where
+    abbrev run : ℕ → Run
+    run i = runTo (look c arena (q .header .tile)) near q i
+
     pub run-start : gatheredOf c arena (q .header .tile) (runTo (look c arena (q .header .tile)) near q 0)
-        ≡ record { kept = noneKept; cache = c; end = Ending.All }
+        ≡ record { kept = noneKept; uses = usesOf c; end = Ending.All }
     unfolding runTo
     run-start = rw (up-start (λ (r : Run) (i : ℕ). runStep (r .end) (keyAt near i) (look c arena size) r q) noRun) (gather-start c arena size)
 
-    pub run-turn : (i : ℕ)
-        → gatherStep (gatheredOf c arena (q .header .tile) (runTo (look c arena (q .header .tile)) near q i)) arena q (keyAt near i)
-        ≡ gatheredOf c arena (q .header .tile) (runTo (look c arena (q .header .tile)) near q (i + 1))
+    run-more : (i : ℕ) → run (i + 1) ≡ runStep (run i .end) (keyAt near i) (look c arena size) (run i) q
     unfolding runTo
-    run-turn i =
-        rw (up-turn (λ (r : Run) (i : ℕ). runStep (r .end) (keyAt near i) (look c arena size) r q) noRun i)
-        (gather-turn (keyAt near i) (runTo (look c arena size) near q i))
+    run-more i = up-turn (λ (r : Run) (i : ℕ). runStep (r .end) (keyAt near i) (look c arena size) r q) noRun i
+
+    pub run-turn : (i : ℕ) (key : TileKey) → keyAt near i ≡ MaybeKey.Key key
+        → gatherStep (gatheredOf c arena (q .header .tile) (runTo (look c arena (q .header .tile)) near q i)) c arena q key
+        ≡ gatheredOf c arena (q .header .tile) (runTo (look c arena (q .header .tile)) near q (i + 1))
+    run-turn i key at =
+        turn-by (run i .end) key (run i)
+        ∙ ap (gatheredOf c arena size) (ap (λ (m : MaybeKey). runStep (run i .end) m (look c arena size) (run i) q) (sym at) ∙ sym (run-more i))
+
+    pub run-none : (i : ℕ) → keyAt near i ≡ MaybeKey.Nothing
+        → gatheredOf c arena (q .header .tile) (runTo (look c arena (q .header .tile)) near q i)
+        ≡ gatheredOf c arena (q .header .tile) (runTo (look c arena (q .header .tile)) near q (i + 1))
+    run-none i at =
+        ap (gatheredOf c arena size)
+        (sym (no-key (run i .end) (run i)) ∙ ap (λ (m : MaybeKey). runStep (run i .end) m (look c arena size) (run i) q) (sym at) ∙ sym (run-more i))
+
+-- ---- what a match leaves of the cache is the cache given, with its clock and ages
+
+module _ (m : Matcher) (c : Cache) (arena : List ℕ) (h : Header) (fix : Point) (heading : Heading) where
+  aged-by : (end : Ending) (keys : List TileKey) → Aged c (cacheAfter end c (looked c arena (h .tile) keys))
+  unfolding looked
+  aged-by Ending.All keys = looked-aged arena (h .tile) keys c
+  aged-by (Ending.Need key) keys = looked-aged arena (h .tile) keys c
+  aged-by Ending.Stale keys = looked-aged arena (h .tile) [] c
+
+  pub updated-uses : withUses c (usesOf (updated m c arena h fix heading .cache)) ≡ updated m c arena h fix heading .cache
+  unfolding updated
+  updated-uses =
+      let r : Run = runOver (look c arena (h .tile)) m h fix heading in
+      aged-uses c (cacheAfter (r .end) c (looked c arena (h .tile) (r .found))) (aged-by (r .end) (r .found))

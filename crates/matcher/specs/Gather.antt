@@ -12,11 +12,11 @@ use Rattle.cache.specs.declared.MaybeKey.{MaybeKey}
 use Rattle.cache.specs.declared.MaybeKey.the-variants as MaybeKey
 use Rattle.geo.specs.declared.Point.{Point}
 use Rattle.cache.specs.declared.Cache.{Cache}
-use Rattle.cache.specs.declared.Got.{Got}
 use Rattle.cache.specs.declared.Lookup.{Lookup}
 use Rattle.cache.specs.declared.Lookup.the-variants as Lookup
 use Rattle.cache.specs.Lookups.{runBytes, got}
 use Rattle.cache.specs.Direct.{Look, ready, missing, absent, stale, look, looked}
+use Rattle.cache.specs.Uses.{usesOf, usedAt}
 use Rattle.num.specs.Fold.{upTo}
 use Rattle.matcher.specs.Keeping.{noneKept}
 use Rattle.matcher.specs.Tile.{search}
@@ -25,6 +25,7 @@ use Rattle.matcher.specs.declared.Query.{Query}
 use Rattle.matcher.specs.declared.Current.{Current}
 use Rattle.matcher.specs.declared.Current.the-variants as Current
 use Rattle.matcher.specs.declared.Heading.{Heading}
+use Rattle.matcher.specs.declared.Made.{Made}
 use Rattle.matcher.specs.declared.Matcher.{Matcher}
 use Rattle.matcher.specs.declared.NearKeys.{NearKeys}
 use Rattle.matcher.specs.declared.Outcome.{Outcome}
@@ -92,13 +93,6 @@ updateOver at m h fix heading = let r = runOver at m h fix heading in matchingBy
 
 -- ---- at the cache's look
 
--- what was gathered: clock and ages as the lookups of the keys found left them
-abbrev pub gatheredOf : Cache → List ℕ → ℕ → Run → Gathered
-gatheredOf c arena size r = record { kept = r .kept; cache = looked c arena size (r .found); end = r .end }
-
-unfoldable pub gathered : Cache → List ℕ → Query → NearKeys → Gathered
-gathered c arena q near = gatheredOf c arena (q .header .tile) (runTo (look c arena (q .header .tile)) near q 4)
-
 -- on the late 12 the state is the one given
 abbrev pub cacheAfter : Ending → Cache → Cache → Cache
 cacheAfter Ending.All c d = d
@@ -112,33 +106,38 @@ updated m c arena h fix heading =
     let u = updateOver at m h fix heading in
     record { answer = u .answer; matcher = u .matcher; cache = cacheAfter (r .end) c (looked c arena (h .tile) (r .found)) }
 
--- ---- the code's steps
+-- ---- the code's steps: this restates private code. Clock and ages are carried beside the cache, which every lookup looks into as it was given
+
+-- what was gathered: clock and ages as the lookups of the keys found left them
+abbrev pub gatheredOf : Cache → List ℕ → ℕ → Run → Gathered
+gatheredOf c arena size r = record { kept = r .kept; uses = usesOf (looked c arena size (r .found)); end = r .end }
+
+unfoldable pub gathered : Cache → List ℕ → Query → NearKeys → Gathered
+gathered c arena q near = gatheredOf c arena (q .header .tile) (runTo (look c arena (q .header .tile)) near q 4)
 
 -- the bytes of a run; none where it would pass the arena's end, which a run that a lookup answered never does
 unfoldable pub bytesOf : List ℕ → ℕ → ℕ → List ℕ
 bytesOf arena first len = cond (leb (first * 8192 + len) (length arena)) (runBytes arena first len) []
 
-abbrev pub answerStep : Lookup → Gathered → Cache → List ℕ → Query → TileKey → Gathered
-answerStep (Lookup.Ready first len) g d arena q key = record { kept = search (g .kept) q (bytesOf arena first len); cache = d; end = Ending.All }
-answerStep Lookup.Missing g d arena q key = g
-answerStep Lookup.Absent g d arena q key = record { kept = g .kept; cache = d; end = Ending.Need key }
-answerStep (Lookup.Refused number) g d arena q key = record { kept = g .kept; cache = d; end = Ending.Stale }
+abbrev pub gatheredWith : Gathered → Lookup → List ℕ → Query → TileKey → Gathered
+gatheredWith g (Lookup.Ready first len) arena q key =
+    record { kept = search (g .kept) q (bytesOf arena first len); uses = usedAt (g .uses) first; end = Ending.All }
+gatheredWith g Lookup.Missing arena q key = g
+gatheredWith g Lookup.Absent arena q key = record { kept = g .kept; uses = g .uses; end = Ending.Need key }
+gatheredWith g (Lookup.Refused number) arena q key = record { kept = g .kept; uses = g .uses; end = Ending.Stale }
 
-abbrev pub gatheredWith : Gathered → Got → List ℕ → Query → TileKey → Gathered
-gatheredWith g r arena q key = answerStep (r .answer) g (r .cache) arena q key
+abbrev pub gatherBy : Ending → Gathered → Cache → List ℕ → Query → TileKey → Gathered
+gatherBy Ending.All g c arena q key = gatheredWith g (got c arena (q .header .tile) key .answer) arena q key
+gatherBy (Ending.Need other) g c arena q key = g
+gatherBy Ending.Stale g c arena q key = g
 
-abbrev pub gatherKey : MaybeKey → Gathered → List ℕ → Query → Gathered
-gatherKey MaybeKey.Nothing g arena q = g
-gatherKey (MaybeKey.Key key) g arena q = gatheredWith g (got (g .cache) arena (q .header .tile) key) arena q key
+abbrev pub gatherStep : Gathered → Cache → List ℕ → Query → TileKey → Gathered
+gatherStep g c arena q key = gatherBy (g .end) g c arena q key
 
-abbrev pub gatherBy : Ending → MaybeKey → Gathered → List ℕ → Query → Gathered
-gatherBy Ending.All m g arena q = gatherKey m g arena q
-gatherBy (Ending.Need key) m g arena q = g
-gatherBy Ending.Stale m g arena q = g
-
-abbrev pub gatherStep : Gathered → List ℕ → Query → MaybeKey → Gathered
-gatherStep g arena q m = gatherBy (g .end) m g arena q
-
-unfoldable pub finished : Matcher → Gathered → Heading → Updated
+unfoldable pub finished : Matcher → Gathered → Heading → Made
 finished m g heading =
-    let next = matched m (g .kept) heading in record { answer = outcome (next .current); matcher = next; cache = g .cache }
+    let next = matched m (g .kept) heading in record { answer = outcome (next .current); matcher = next; uses = g .uses }
+
+-- a match with clock and ages in place of the cache
+abbrev pub madeOf : Updated → Made
+madeOf u = record { answer = u .answer; matcher = u .matcher; uses = usesOf (u .cache) }

@@ -2,13 +2,14 @@
 use crate::Current;
 use crate::Heading;
 use crate::Kept;
+use crate::Made;
 use crate::Matcher;
 use crate::NearKeys;
 use crate::Outcome;
 use crate::Query;
 use crate::Updated;
+use cache::Aging;
 use cache::Cache;
-use cache::Got;
 use cache::Lookup;
 use cache::MaybeKey;
 use geo::Point;
@@ -27,10 +28,10 @@ pub enum Ending {
     Stale,
 }
 
-// The candidates so far, the cache with clock and ages as the lookups left them, and how they ended.
+// The candidates so far, clock and ages as the lookups left them, and how they ended.
 pub(crate) struct Gathered {
     pub kept: Kept,
-    pub cache: Cache,
+    pub uses: Aging,
     pub end: Ending,
 }
 
@@ -48,30 +49,30 @@ fn run_bytes(arena: &[u8], first: usize, len: usize) -> &[u8]
     &arena[at..at + len]
 }
 
-// What a lookup of `key` does to what was gathered.
-fn gathered_with(g: Gathered, got: Got, arena: &[u8], q: Query, key: TileKey) -> Gathered
-    ensures { λ r. ⌜ r ≡ Gather.gatheredWith g got (now (arena .entry)) q key ⌝ }
+// What the answer to a lookup of `key` does to what was gathered.
+fn gathered_with(g: Gathered, answer: Lookup, arena: &[u8], q: Query, key: TileKey) -> Gathered
+    ensures { λ r. ⌜ r ≡ Gather.gatheredWith g answer (now (arena .entry)) q key ⌝ }
 {
-    let answer = got.answer;
-    let cache = got.cache;
     let kept = g.kept;
+    let uses = g.uses;
     match answer {
         Lookup::Missing => g,
         Lookup::Absent => Gathered {
             kept,
-            cache,
+            uses,
             end: Ending::Need(key),
         },
         Lookup::Refused(_) => Gathered {
             kept,
-            cache,
+            uses,
             end: Ending::Stale,
         },
         Lookup::Ready(first, len) => {
             let more = crate::search(kept, q, run_bytes(arena, first, len));
+            let later = cache::uses::used_at(uses, first);
             Gathered {
                 kept: more,
-                cache,
+                uses: later,
                 end: Ending::All,
             }
         }
@@ -79,22 +80,18 @@ fn gathered_with(g: Gathered, got: Got, arena: &[u8], q: Query, key: TileKey) ->
 }
 
 // One tile more, once all before it were found or missing.
-fn gather_step(g: Gathered, arena: &[u8], q: Query, near: MaybeKey) -> Gathered
-    ensures { λ r. ⌜ r ≡ Gather.gatherStep g (now (arena .entry)) q near ⌝ }
+fn gather_step(g: Gathered, c: Cache, arena: &[u8], q: Query, key: TileKey) -> Gathered
+    ensures { λ r. ⌜ r ≡ Gather.gatherStep g c (now (arena .entry)) q key ⌝ }
 {
     let end = g.end;
     match end {
         Ending::Need(_) => g,
         Ending::Stale => g,
-        Ending::All => match near {
-            MaybeKey::Nothing => g,
-            MaybeKey::Key(k) => {
-                let cache = g.cache;
-                let header = q.header;
-                let got = cache::look::got(cache, arena, header.tile, k);
-                gathered_with(g, got, arena, q, k)
-            }
-        },
+        Ending::All => {
+            let header = q.header;
+            let answer = cache::look::found(c, arena, header.tile, key);
+            gathered_with(g, answer, arena, q, key)
+        }
     }
 }
 
@@ -104,7 +101,7 @@ fn gather(c: Cache, arena: &[u8], q: Query, near: NearKeys) -> Gathered
 {
     let mut g = Gathered {
         kept: crate::keep::none_kept(),
-        cache: c,
+        uses: cache::uses::uses_of(c),
         end: Ending::All,
     };
     let mut i = 0;
@@ -112,11 +109,11 @@ fn gather(c: Cache, arena: &[u8], q: Query, near: NearKeys) -> Gathered
         let place = near.keys[i];
         let key = place.key;
         i += 1;
-        // Without a key there is nothing to gather, and the state is not copied.
-        let MaybeKey::Key(_) = key else {
+        // Without a key there is nothing to gather, and nothing is copied.
+        let MaybeKey::Key(k) = key else {
             continue;
         };
-        g = gather_step(g, arena, q, key);
+        g = gather_step(g, c, arena, q, k);
     }
     g
 }
@@ -132,30 +129,30 @@ fn outcome(current: Current) -> Outcome
 }
 
 // Every tile was found or missing: the match is made.
-fn finished(m: Matcher, g: Gathered, heading: Heading) -> Updated
+fn finished(m: Matcher, g: Gathered, heading: Heading) -> Made
     ensures { λ r. ⌜ r ≡ Gather.finished m g heading ⌝ }
 {
     let kept = g.kept;
     let next = crate::settle::matched(m, kept, heading);
     let current = next.current;
-    let cache = g.cache;
-    Updated {
+    let uses = g.uses;
+    Made {
         answer: outcome(current),
         matcher: next,
-        cache,
+        uses,
     }
 }
 
-// A match of a point and a heading that have passed.
-fn match_around(
+// A match of a point and a heading that have passed, in a state that has been tested; what it does to clock and ages beside the cache.
+pub fn made(
     m: Matcher,
     c: Cache,
     arena: &[u8],
     header: Header,
     fix: Point,
     heading: Heading,
-) -> Updated
-    ensures { λ r. ⌜ r ≡ Gather.updated m c (now (arena .entry)) header fix heading ⌝ }
+) -> Made
+    ensures { λ r. ⌜ r ≡ Gather.madeOf (Gather.updated m c (now (arena .entry)) header fix heading) ⌝ }
 {
     let current = m.current;
     let q = Query {
@@ -167,17 +164,41 @@ fn match_around(
     let near = crate::near::near_of(header, fix);
     let g = gather(c, arena, q, near);
     let end = g.end;
+    let uses = g.uses;
     match end {
         Ending::All => finished(m, g, heading),
-        Ending::Need(k) => {
-            let cache = g.cache;
-            Updated {
-                answer: Outcome::Need(k),
-                matcher: m,
-                cache,
-            }
-        }
-        Ending::Stale => crate::state::refused(m, c, 12),
+        Ending::Need(k) => Made {
+            answer: Outcome::Need(k),
+            matcher: m,
+            uses,
+        },
+        Ending::Stale => Made {
+            answer: Outcome::Refused(12),
+            matcher: m,
+            uses: cache::uses::uses_of(c),
+        },
+    }
+}
+
+// The match with the cache that it leaves.
+fn match_around(
+    m: Matcher,
+    c: Cache,
+    arena: &[u8],
+    header: Header,
+    fix: Point,
+    heading: Heading,
+) -> Updated
+    ensures { λ r. ⌜ r ≡ Gather.updated m c (now (arena .entry)) header fix heading ⌝ }
+{
+    let u = made(m, c, arena, header, fix, heading);
+    let answer = u.answer;
+    let matcher = u.matcher;
+    let cache = cache::uses::with_uses(c, u.uses);
+    Updated {
+        answer,
+        matcher,
+        cache,
     }
 }
 

@@ -17,6 +17,7 @@ pub mod score;
 mod settle;
 pub mod state;
 
+use cache::Aging;
 use cache::Cache;
 use cache::MaybeKey;
 use geo::Metres;
@@ -25,7 +26,10 @@ use pack::Header;
 use pack::TileKey;
 use tile::TileId;
 ghost use Rattle.matcher.specs.Calls as Calls;
+ghost use Rattle.tile.specs.Layout as Layout;
+ghost use Rattle.matcher.specs.Scan as Scan;
 ghost use Rattle.matcher.specs.Tile as Tile;
+ghost use Rattle.matcher.specs.declared.scan.MaybeNearest.the-variants as MaybeNearest;
 ghost use mathlib.Core.Path.{_≡_};
 
 // A heading is either none or a degree figure.
@@ -99,23 +103,33 @@ pub struct Query {
     pub current: Current,
 }
 
-// One edge more of a tile: a candidate, if it is in reach.
-fn edge_step(k: Kept, q: Query, id: TileId, lon_um: u32, bytes: &[u8], number: u16) -> Kept
-    ensures { λ r. ⌜ r ≡ Tile.edgeStep k q id «lon_um» (now (bytes .entry)) number ⌝ }
+// The closest segment of an edge of a tile, if one is in reach.
+fn reached(q: Query, key: TileKey, lon_um: u32, bytes: &[u8], number: u16) -> scan::MaybeNearest
+    ensures { λ r. ⌜ r ≡ Scan.scan (q .header) (now (bytes .entry)) key (Layout.edgeOf (now (bytes .entry)) number) (q .fix) «lon_um» ⌝ }
 {
     let edge = tile::raw::edge(bytes, number);
     let header = q.header;
     let fix = q.fix;
-    match scan::scan(header, bytes, id.key, edge, fix, lon_um) {
-        scan::MaybeNearest::Nothing => k,
-        scan::MaybeNearest::At(n) => {
-            let c = score::candidate_at(q, id, lon_um, bytes, number, n);
-            keep::insert(k, c)
-        }
-    }
+    scan::scan(header, bytes, key, edge, fix, lon_um)
 }
 
-// The edges of a tile, in order.
+// One candidate more.
+fn with_edge(
+    k: Kept,
+    q: Query,
+    id: TileId,
+    lon_um: u32,
+    bytes: &[u8],
+    number: u16,
+    n: Nearest,
+) -> Kept
+    ensures { λ r. ⌜ r ≡ Tile.keptWith (MaybeNearest.At n) k q id «lon_um» (now (bytes .entry)) number ⌝ }
+{
+    let c = score::candidate_at(q, id, lon_um, bytes, number, n);
+    keep::insert(k, c)
+}
+
+// The edges of a tile, in order. What is kept is copied for an edge in reach alone.
 pub(crate) fn search(k: Kept, q: Query, bytes: &[u8]) -> Kept
     ensures { λ r. ⌜ r ≡ Tile.search k q (now (bytes .entry)) ⌝ }
 {
@@ -126,8 +140,12 @@ pub(crate) fn search(k: Kept, q: Query, bytes: &[u8]) -> Kept
     let mut d = k;
     let mut number: u16 = 0;
     while number < edges {
-        d = edge_step(d, q, id, lon_um, bytes, number);
+        let at = number;
         number += 1;
+        let scan::MaybeNearest::At(n) = reached(q, id.key, lon_um, bytes, at) else {
+            continue;
+        };
+        d = with_edge(d, q, id, lon_um, bytes, at, n);
     }
     d
 }
@@ -180,6 +198,13 @@ pub enum Outcome {
     Nothing,
     Need(TileKey),
     Refused(u32),
+}
+
+// A match with what it does to clock and ages beside the cache.
+pub struct Made {
+    pub answer: Outcome,
+    pub matcher: Matcher,
+    pub uses: Aging,
 }
 
 pub struct Updated {

@@ -1,14 +1,32 @@
--- `matcher::search` meets its contract. The loop's invariant: the candidates kept so far are the definition's after as many turns.
+-- `matcher::search` meets its contract. The loop's invariant: the candidates kept so far are the definition's after as many turns. An edge out of reach
+-- adds nothing (`skips`).
 use Prim.Native.Nat.{ℕ, _-_, _≤_}
-use mathlib.Core.Path.{_≡_, sym}
+use mathlib.Core.Path.{_≡_, sym, _∙_}
+use mathlib.Core.List.{List}
 use native.Mathlib.Omega.{arith}
 use borrow.Author.Needs.{needs}
+use Rattle.tile.specs.Layout as Layout
+use Rattle.tile.specs.declared.TileId.{TileId}
 use Rattle.matcher.specs.declared.Kept.{Kept}
+use Rattle.matcher.specs.declared.Nearest.{Nearest}
+use Rattle.matcher.specs.declared.Query.{Query}
+use Rattle.matcher.specs.declared.scan.MaybeNearest.the-variants as MaybeNearest
 use Rattle.num.specs.Fold.{upTo}
+use Rattle.matcher.specs.Scan.{scan}
 use Rattle.matcher.specs.Tile as Tile
 use Rattle.num.proofs.FoldLaws.{up-start, up-turn}
 use Rattle.matcher.proofs.search.Statement.{statement}
 use Rattle.matcher.proofs.search.Tie as tie
+
+module _ (k : Kept) (q : Query) (id : TileId) (lonUm : ℕ) (bs : List ℕ) (number : ℕ) where
+  skips : scan (q .header) bs (id .key) (Layout.edgeOf bs number) (q .fix) lonUm ≡ MaybeNearest.Nothing → Tile.edgeStep k q id lonUm bs number ≡ k
+  unfolding Tile.edgeStep
+  skips e = rw e
+
+  keeps : (n : Nearest) → scan (q .header) bs (id .key) (Layout.edgeOf bs number) (q .fix) lonUm ≡ MaybeNearest.At n
+      → Tile.edgeStep k q id lonUm bs number ≡ Tile.keptWith (MaybeNearest.At n) k q id lonUm bs number
+  unfolding Tile.edgeStep
+  keeps n e = rw e
 
 abbrev Inv-loop : tie.InvT-loop
 Inv-loop q bytes id lon-um edges d₀ number₀ d number =
@@ -26,17 +44,50 @@ id-requires c κs = tt
 loop-holds : tie.Need-loop-holds Inv-loop μ-loop
 loop-holds c = (search needs, sym (up-start _ _))
 
-edge-step-requires : tie.Need-edge-step-requires Inv-loop μ-loop
-edge-step-requires c κs = tt
-
 add-number : tie.Need-add-number Inv-loop μ-loop
 add-number c = search needs
+
+reached-requires : tie.Need-reached-requires Inv-loop μ-loop
+reached-requires c κs = tt
+
+enum-known-n : tie.Need-enum-known-n Inv-loop μ-loop
+enum-known-n c = search needs
+
+enum-told : tie.Need-enum-told Inv-loop μ-loop
+enum-told c = search needs
 
 loop-less : tie.Need-loop-less Inv-loop μ-loop
 loop-less c = search needs
 
 loop-again : tie.Need-loop-again Inv-loop μ-loop
-loop-again c = (omega arith, rw (up-turn, c .edge-step .ensures, c .before .before .loop .inv .1))
+loop-again c =
+    let looked = c .before .before in
+    let at-loop = looked .before .before .loop in
+    let id = looked .before .before .before .id .result in
+    let head = looked .before .before .before .before .head .result in
+    let args = looked .before .before .before .before .before .before .args in
+    let told = sym (looked .reached .ensures) ∙ c .enum-told .given .1 in (
+      omega (arith, looked .before .loop-test .taken),
+      rw (up-turn, ← at-loop .inv .1, skips (at-loop .d) (args .q) id (head .«lon_um») (args .bytes .now) (at-loop .number) told),
+    )
+
+with-edge-requires : tie.Need-with-edge-requires Inv-loop μ-loop
+with-edge-requires c κs = tt
+
+loop-less-2 : tie.Need-loop-less-2 Inv-loop μ-loop
+loop-less-2 c = search needs
+
+loop-again-2 : tie.Need-loop-again-2 Inv-loop μ-loop
+loop-again-2 c =
+    let looked = c .before .before .before .before in
+    let at-loop = looked .before .before .loop in
+    let id = looked .before .before .before .id .result in
+    let head = looked .before .before .before .before .head .result in
+    let args = looked .before .before .before .before .before .before .args in
+    let told = sym (looked .reached .ensures) ∙ c .before .before .n .given .1 in (
+      omega (arith, looked .before .loop-test .taken),
+      rw (up-turn, ← at-loop .inv .1, keeps (at-loop .d) (args .q) id (head .«lon_um») (args .bytes .now) (at-loop .number) _ told) (c .with-edge .ensures),
+    )
 
 returns : tie.Need-returns Inv-loop μ-loop
 unfolding Tile.search
@@ -54,8 +105,13 @@ search-spec =
     head-requires
     id-requires
     loop-holds
-    edge-step-requires
     add-number
+    reached-requires
+    enum-known-n
+    enum-told
     loop-less
     loop-again
+    with-edge-requires
+    loop-less-2
+    loop-again-2
     returns)

@@ -1,41 +1,32 @@
 -- `matcher::gather::gather` meets its contract. The loop's invariant: what was gathered is the definition's over as many tiles. A place without
 -- a key adds nothing.
-use Prim.Native.Nat.{ℕ, _-_, _≤_}
-use mathlib.Core.Path.{_≡_, refl, sym, _∙_}
-use mathlib.Core.List.{List}
+use Prim.Native.Nat.{_-_, _≤_}
+use mathlib.Core.Path.{_≡_, sym, _∙_}
 use native.Mathlib.Omega.{arith}
 use borrow.Author.Needs.{needs}
 use Rattle.cache.specs.Direct.{look}
-use Rattle.cache.specs.declared.MaybeKey.the-variants as MaybeKey
-use Rattle.matcher.specs.declared.Query.{Query}
-use Rattle.matcher.specs.declared.gather.Ending.{Ending}
-use Rattle.matcher.specs.declared.gather.Ending.the-variants as Ending
-use Rattle.matcher.specs.declared.gather.Gathered.{Gathered}
-use Rattle.matcher.specs.Gather.{runTo, gatheredOf, gathered, gatherBy}
-use Rattle.matcher.proofs.GatherLaws.{run-start, run-turn}
+use Rattle.matcher.specs.Gather.{runTo, gatheredOf, gathered}
+use Rattle.matcher.proofs.GatherLaws.{run-start, run-turn, run-none}
 use Rattle.matcher.proofs.gather.gather.Statement.{statement}
 use Rattle.matcher.proofs.gather.gather.Tie as tie
 
-no-key : (end : Ending) (g : Gathered) (arena : List ℕ) (q : Query) → gatherBy end MaybeKey.Nothing g arena q ≡ g
-no-key Ending.All g arena q = refl
-no-key (Ending.Need key) g arena q = refl
-no-key Ending.Stale g arena q = refl
-
 abbrev Inv-loop : tie.InvT-loop
-Inv-loop arena q near g₀ i₀ g i =
-    let size = q .header .tile in
-    (i ≤ 4) × (g ≡ gatheredOf (g₀ .cache) arena size (runTo (look (g₀ .cache) arena size) near q i))
+Inv-loop c arena q near g₀ i₀ g i =
+    let size = q .header .tile in (i ≤ 4) × (g ≡ gatheredOf c arena size (runTo (look c arena size) near q i))
 
 abbrev μ-loop : tie.MeasureT-loop
-μ-loop arena q near g₀ i₀ g i = 4 - i
+μ-loop c arena q near g₀ i₀ g i = 4 - i
 
 none-kept-requires : tie.Need-none-kept-requires Inv-loop μ-loop
 none-kept-requires c κs = tt
 
+uses-of-requires : tie.Need-uses-of-requires Inv-loop μ-loop
+uses-of-requires c κs = tt
+
 loop-holds : tie.Need-loop-holds Inv-loop μ-loop
 loop-holds c =
-    let args = c .before .before .args in
-    (search needs, rw (c .none-kept .ensures) (sym (run-start (args .c) (args .arena .now) (args .q) (args .t4))))
+    let args = c .before .before .before .args in
+    (search needs, rw (c .before .none-kept .ensures, c .uses-of .ensures) (sym (run-start (args .c) (args .arena .now) (args .q) (args .t4))))
 
 mul-place : tie.Need-mul-place Inv-loop μ-loop
 mul-place c = search needs
@@ -46,11 +37,11 @@ element-copy-out-place c = search needs
 add-i : tie.Need-add-i Inv-loop μ-loop
 add-i c = search needs
 
+enum-known-key : tie.Need-enum-known-key Inv-loop μ-loop
+enum-known-key c = search needs
+
 enum-told : tie.Need-enum-told Inv-loop μ-loop
 enum-told c = search needs
-
-enum-told-2 : tie.Need-enum-told-2 Inv-loop μ-loop
-enum-told-2 c = search needs
 
 loop-less : tie.Need-loop-less Inv-loop μ-loop
 loop-less c = search needs
@@ -58,12 +49,9 @@ loop-less c = search needs
 loop-again : tie.Need-loop-again Inv-loop μ-loop
 loop-again c =
     let at-loop = c .before .before .before .before .loop in
-    let args = c .before .before .before .before .before .before .before .args in
-    let size = args .q .header .tile in
-    let so-far = gatheredOf (args .c) (args .arena .now) size (runTo (look (args .c) (args .arena .now) size) (args .t4) (args .q) (at-loop .i)) in
-    let turn = run-turn (args .c) (args .arena .now) (args .q) (args .t4) (at-loop .i) in (
+    let args = c .before .before .before .before .before .before .before .before .args in (
       omega (arith, c .before .before .before .loop-test .taken),
-      at-loop .inv .1 ∙ (sym (no-key (so-far .end) so-far (args .arena .now) (args .q)) ∙ rw (c .enum-told2 .given .1) at turn),
+      at-loop .inv .1 ∙ run-none (args .c) (args .arena .now) (args .q) (args .t4) (at-loop .i) (c .enum-told .given .1),
     )
 
 gather-step-requires : tie.Need-gather-step-requires Inv-loop μ-loop
@@ -74,10 +62,11 @@ loop-less-2 c = search needs
 
 loop-again-2 : tie.Need-loop-again-2 Inv-loop μ-loop
 loop-again-2 c =
-    let at-loop = c .before .before .before .before .before .loop in
-    let args = c .before .before .before .before .before .before .before .before .args in (
-      omega (arith, c .before .before .before .before .loop-test .taken),
-      rw (c .gather-step .ensures, at-loop .inv .1) (run-turn (args .c) (args .arena .now) (args .q) (args .t4) (at-loop .i)),
+    let at-loop = c .before .before .before .before .before .before .loop in
+    let args = c .before .before .before .before .before .before .before .before .before .before .args in (
+      omega (arith, c .before .before .before .before .before .loop-test .taken),
+      rw (c .gather-step .ensures, at-loop .inv .1)
+          (run-turn (args .c) (args .arena .now) (args .q) (args .t4) (at-loop .i) _ (c .before .before .key .given .1)),
     )
 
 returns : tie.Need-returns Inv-loop μ-loop
@@ -94,12 +83,13 @@ gather-spec =
     Inv-loop
     μ-loop
     none-kept-requires
+    uses-of-requires
     loop-holds
     mul-place
     element-copy-out-place
     add-i
+    enum-known-key
     enum-told
-    enum-told-2
     loop-less
     loop-again
     gather-step-requires

@@ -21,6 +21,9 @@ run-bytes-requires c κs = tt
 search-requires : tie.Need-search-requires
 search-requires c κs = tt
 
+used-at-requires : tie.Need-used-at-requires
+used-at-requires c κs = tt
+
 returns : tie.Need-returns
 returns c = rw (c .enum-told .given .1)
 
@@ -31,7 +34,9 @@ returns-3 : tie.Need-returns-3
 returns-3 c = rw (c .enum-told3 .given .1)
 
 returns-4 : tie.Need-returns-4
-returns-4 c = rw (c .before .before .before .answer .given .1, c .search .ensures, c .before .run-bytes .ensures)
+returns-4 c =
+    let found = c .before in
+    rw (found .before .before .before .answer .given .1, c .used-at .ensures, found .search .ensures, found .before .run-bytes .ensures)
 
 pub gathered-with-spec : {M : Type 1} → statement M
 gathered-with-spec =
@@ -43,6 +48,7 @@ gathered-with-spec =
     enum-known-answer
     run-bytes-requires
     search-requires
+    used-at-requires
     returns
     returns-2
     returns-3
