@@ -11,3 +11,5 @@ pub mod Steps
 pub mod Calls
 -- The number of each answer.
 pub mod Numbers
+-- When a step has nothing to do.
+pub mod Idle

@@ -14,6 +14,8 @@ use cache::Progress;
 use pack::Header;
 use pack::TileKey;
 ghost use mathlib.Core.Path.{_≡_};
+ghost use Prim.Native.Nat.{_≤_};
+ghost use lib.ListN.{length};
 ghost use Rattle.engine.specs.Deliver as Deliver;
 
 // ---- the header
@@ -60,8 +62,22 @@ fn header_failed(e: Engine, failure: u32) -> Stepped
     with_failures(e, d, f.failures, Status::NoPack)
 }
 
-// The first 512 bytes of an answer.
-fn sector_of(bytes: &[u8]) -> [u8; 512]
+// The first 512 bytes of an answer that has as many: one copy.
+fn whole_sector(bytes: &[u8]) -> [u8; 512]
+    requires { ⌜ 512 ≤ length (now bytes) ⌝ }
+    ensures { λ r. ⌜ r ≡ Deliver.sectorOf (now (bytes .entry)) ⌝ }
+{
+    let mut out = [0u8; 512];
+    let mut i = 0;
+    while i < 512 {
+        out[i] = bytes[i];
+        i += 1;
+    }
+    out
+}
+
+// The first 512 bytes of an answer, 0 where it is shorter.
+fn short_sector(bytes: &[u8]) -> [u8; 512]
     ensures { λ r. ⌜ r ≡ Deliver.sectorOf (now (bytes .entry)) ⌝ }
 {
     let mut out = [0u8; 512];
@@ -71,6 +87,16 @@ fn sector_of(bytes: &[u8]) -> [u8; 512]
         i += 1;
     }
     out
+}
+
+// The first 512 bytes of an answer.
+fn sector_of(bytes: &[u8]) -> [u8; 512]
+    ensures { λ r. ⌜ r ≡ Deliver.sectorOf (now (bytes .entry)) ⌝ }
+{
+    if bytes.len() < 512 {
+        return short_sector(bytes);
+    }
+    whole_sector(bytes)
 }
 
 // The header came.

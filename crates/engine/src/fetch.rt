@@ -1,6 +1,9 @@
 // A step: the fetch that it opens, or the work that needs none. Opening a fetch changes nothing but that it is open. What the last
 // three ask of the state is what number 12's test has shown: `Engine::step` makes it first.
+use crate::Due;
 use crate::Engine;
+use crate::Fix;
+use crate::MaybeFix;
 use crate::Phase;
 use crate::Shared;
 use crate::Status;
@@ -11,10 +14,13 @@ use cache::MaybeLoading;
 use cache::Pending;
 use cache::Progress;
 use pack::Header;
+use pack::Keyed;
 use pack::TileKey;
 ghost use mathlib.Core.Path.{_≡_};
 ghost use mathlib.Core.Bool.{true};
 ghost use lib.ListN.{length};
+ghost use Rattle.pack.specs.Grid.{keyOf};
+ghost use Rattle.engine.specs.Idle as Idle;
 ghost use Rattle.engine.specs.State.{engineOk};
 ghost use Rattle.engine.specs.declared.Phase.the-variants as PhaseIs;
 ghost use Rattle.engine.specs.Steps as Steps;
@@ -155,19 +161,67 @@ fn started(e: Engine, arena: &[u8]) -> Stepped
     }
 }
 
-// A step in a state that has been tested: while a fetch is open it is repeated, and nothing changes.
-pub(crate) fn stepped(e: Engine, arena: &[u8]) -> Stepped
+// Whether a fix lies in the grid.
+fn is_in(header: Header, fix: Fix) -> bool
+    ensures { λ r. ⌜ r ≡ Idle.isIn (keyOf header (fix .lat) (fix .lon)) ⌝ }
+{
+    match pack::grid::key_of(header, fix.lat, fix.lon) {
+        Keyed::In(_) => true,
+        Keyed::Outside | Keyed::Refused(_) => false,
+    }
+}
+
+// Whether a step that needs no tile has nothing to do: no fix, or one in the grid with neither a match nor a road due.
+fn is_idle(header: Header, fix: MaybeFix, due: Due) -> bool
+    ensures { λ r. ⌜ r ≡ Idle.isIdle header fix due ⌝ }
+{
+    match fix {
+        MaybeFix::Nothing => true,
+        MaybeFix::Is(at) => {
+            if due.matching {
+                return false;
+            }
+            if due.road {
+                return false;
+            }
+            is_in(header, at)
+        }
+    }
+}
+
+// A step in a state that has been tested: while a fetch is open it is repeated, and nothing changes. A step with nothing to do is told here, where the
+// state is written in place; every other hands the state on.
+pub(crate) fn stepped(mut e: Engine, arena: &[u8]) -> Stepped
     requires { ⌜ engineOk e (length (now arena)) ≡ true ⌝ }
     ensures { λ r. ⌜ r ≡ Steps.stepped e (now (arena .entry)) ⌝ }
 {
     let s = e.shared;
     let c = s.cache;
     let pending = c.pending;
-    match pending {
-        Pending::Nothing => started(e, arena),
-        Pending::Header | Pending::Entry(_) | Pending::Chunk => {
-            let answer = request_of(s, pending);
-            Stepped { answer, engine: e }
-        }
+    let Pending::Nothing = pending else {
+        let answer = request_of(s, pending);
+        return Stepped { answer, engine: e };
+    };
+    let phase = s.phase;
+    let Phase::Ready = phase else {
+        return started(e, arena);
+    };
+    let f = e.follower;
+    let due = f.due;
+    let need = due.need;
+    let MaybeKey::Nothing = need else {
+        return started(e, arena);
+    };
+    let header = s.header;
+    let sight = f.sight;
+    let fix = sight.fix;
+    if !is_idle(header, fix, due) {
+        return started(e, arena);
+    }
+    let steps = std::num::wrapping_add_u32(e.follower.steps, 1);
+    e.follower.steps = steps;
+    Stepped {
+        answer: Status::Idle,
+        engine: e,
     }
 }
