@@ -1,4 +1,5 @@
-/* How deep the engine's calls get: each runs on a thread whose stack was filled with a pattern, over a drive with misses. stack PACK DRIVE K */
+/* How deep the engine's calls get: each runs on a thread whose stack was filled with a pattern, over a drive with misses. stack PACK DRIVE K MOST
+ * Exits with 1 where step or deliver takes more than MOST bytes. */
 #include <inttypes.h>
 #include <pthread.h>
 #include <stdio.h>
@@ -12,8 +13,8 @@
 #define STACK (1024 * 1024)
 #define PATTERN 0xa5
 
-static struct terrain_engine engine;
-static uint8_t arena[PAGES * 8192];
+static struct terrain_engine engine, whole;
+static uint8_t arena[PAGES * 8192], whole_arena[PAGES * 8192];
 static uint8_t pack[1 << 24], chunk[CHUNK];
 static uint8_t *stack;
 static size_t pack_len, deepest;
@@ -47,6 +48,15 @@ static void *deliver(void *unused)
     return unused;
 }
 
+/* An engine of its own, over the pack in memory. */
+static void *step_from(void *unused)
+{
+    volatile uint8_t top = 0;
+    told = terrain_step_from(&whole, whole_arena, sizeof whole_arena, pack, pack_len);
+    measure(&top);
+    return unused;
+}
+
 static void *read_ahead(void *unused)
 {
     volatile uint8_t top = 0;
@@ -73,16 +83,18 @@ static size_t painted(void *(*call)(void *), size_t before)
 
 int main(int count, char **words)
 {
-    size_t steps = 0, deliveries = 0, reads_ahead = 0, calls = 0;
+    size_t steps = 0, deliveries = 0, steps_from = 0, reads_ahead = 0, calls = 0, most;
     unsigned long reads = 0, every;
     int32_t lat, lon;
     uint64_t at_ms;
     FILE *file, *list;
-    if (count != 4 || !(file = fopen(words[1], "rb")) || !(list = fopen(words[2], "r")) || !(stack = aligned_alloc(4096, STACK)))
-        return puts("usage: stack PACK DRIVE K"), 2;
+    if (count != 5 || !(file = fopen(words[1], "rb")) || !(list = fopen(words[2], "r")) || !(stack = aligned_alloc(4096, STACK)))
+        return puts("usage: stack PACK DRIVE K MOST"), 2;
     every = strtoul(words[3], NULL, 10);
+    most = strtoul(words[4], NULL, 10);
     pack_len = fread(pack, 1, sizeof pack, file);
     terrain_new(&engine, arena, sizeof arena, 10000.0f);
+    terrain_new(&whole, whole_arena, sizeof whole_arena, 10000.0f);
     while (fscanf(list, "%" SCNd32 " %" SCNd32 " %" SCNu64, &lat, &lon, &at_ms) == 3) {
         terrain_fix(&engine, arena, sizeof arena, lat / 10, lon / 10, at_ms);
         do {
@@ -97,7 +109,15 @@ int main(int count, char **words)
             }
         } while (told.status == TERRAIN_WORKING);
         reads_ahead = painted(read_ahead, reads_ahead);
+        terrain_fix(&whole, whole_arena, sizeof whole_arena, lat / 10, lon / 10, at_ms);
+        do {
+            steps_from = painted(step_from, steps_from);
+        } while (told.status == TERRAIN_WORKING);
     }
-    printf("stack: at most %zu bytes of terrain_step, %zu of terrain_deliver, %zu of terrain_ahead (%zu steps, %lu deliveries)\n", steps, deliveries, reads_ahead, calls, reads);
-    return 0;
+    printf("stack: at most %zu bytes of terrain_step, %zu of terrain_deliver, %zu of terrain_step_from, %zu of terrain_ahead (%zu steps, %lu deliveries)\n",
+           steps, deliveries, steps_from, reads_ahead, calls, reads);
+    if (steps <= most && deliveries <= most)
+        return 0;
+    printf("stack: step and deliver may take %zu bytes\n", most);
+    return 1;
 }

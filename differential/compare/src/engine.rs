@@ -2,6 +2,7 @@
 //! deliveries, each answer with the published road, every height of it, what is due, the open
 //! fetch, the clock and sums of the ages and of the arena.
 pub mod bench;
+pub mod caches;
 pub mod finding;
 pub mod list;
 pub mod oracle;

@@ -81,6 +81,7 @@ impl Header {
     }
 }
 
+#[derive(Debug)]
 pub enum Status {
     Idle,
     Working,

@@ -15,8 +15,8 @@ use std::{hint::black_box, mem::ManuallyDrop, ptr};
 
 const PASSES: usize = 201;
 const TIMES: u32 = 200;
-const SOUTH: i32 = 47_000_000;
-const WEST: i32 = 8_000_000;
+pub const SOUTH: i32 = 47_000_000;
+pub const WEST: i32 = 8_000_000;
 /// No kind of record.
 const NO_KIND: u32 = 8;
 
@@ -37,7 +37,7 @@ unsafe extern "C" {
     safe fn clock_gettime(clock: i32, time: &mut [i64; 2]) -> i32;
 }
 
-fn now() -> f64 {
+pub fn now() -> f64 {
     let mut time = [0; 2];
     assert_eq!(clock_gettime(OF_THREAD, &mut time), 0);
     time[0] as f64 * 1e9 + time[1] as f64
@@ -50,7 +50,7 @@ fn nanoseconds(run: impl FnOnce()) -> f64 {
     (now() - start) / f64::from(TIMES)
 }
 
-fn median(mut times: Vec<f64>) -> f64 {
+pub fn median(mut times: Vec<f64>) -> f64 {
     times.sort_by(f64::total_cmp);
     times[times.len() / 2]
 }
