@@ -19,12 +19,12 @@ use Rattle.cache.specs.Evict.{headOf}
 
 -- `now.wrapping_sub(then)` of two clocks
 unfoldable pub since : ℕ → ℕ → ℕ
-since now then = (now + 4294967296 - then) % 4294967296
+since now then = (now + 0x1_0000_0000 - then) % 0x1_0000_0000
 
 -- the age of the run of slot s, last used at `used`; `u32::MAX` where it starts none. On well-formed runs a page has a key just where a run
 -- starts (`key-is-run`)
 abbrev pub slotAge : Slot → ℕ → ℕ → ℕ
-slotAge s clock used = cond (isRun (kindOf s)) (since clock used) 4294967295
+slotAge s clock used = cond (isRun (kindOf s)) (since clock used) 0xffff_ffff
 
 -- of the run at h
 abbrev pub headAge : Pages → ℕ → ℕ
@@ -39,7 +39,7 @@ lesser a b = cond (ltb a b) a b
 
 -- the least of f below the bound, `u32::MAX` of none
 unfoldable pub leastOf : (ℕ → ℕ) → ℕ → ℕ
-leastOf f zero = 4294967295
+leastOf f zero = 0xffff_ffff
 leastOf f (suc n) = lesser (f n) (leastOf f n)
 
 -- the age of the youngest of n pages from `start` on
@@ -81,7 +81,7 @@ pub record Chosen (g : Pages) (pages s : ℕ) : Type 0 where
 
 -- the age of the run at h, of slot s and last used at `used`; past the last page there is none
 abbrev pub ageAt : Slot → ℕ → ℕ → ℕ → ℕ
-ageAt s h clock used = cond (ltb h 96) (slotAge s clock used) 4294967295
+ageAt s h clock used = cond (ltb h 96) (slotAge s clock used) 0xffff_ffff
 
 -- l holds the age of each page below n
 abbrev pub Aged : Pages → List ℕ → ℕ → Type 0

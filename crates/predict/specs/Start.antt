@@ -20,7 +20,7 @@ use Rattle.predict.specs.Outgoing.{lastOf}
 
 -- held to 32 bits, which nothing that a start within the rules leads to reaches
 abbrev pub held : ℤ → ℤ
-held z = cond (ltZ z (negsuc 2147483647)) (negsuc 2147483647) (cond (ltZ (pos 2147483647) z) (pos 2147483647) z)
+held z = cond (ltZ z (negsuc 0x7fff_ffff)) (negsuc 0x7fff_ffff) (cond (ltZ (pos 0x7fff_ffff) z) (pos 0x7fff_ffff) z)
 
 abbrev pub less : ℤ → ℤ → ℤ
 less a b = held (a -ℤ b)

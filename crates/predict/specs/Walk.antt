@@ -241,7 +241,7 @@ module _ {S : Type 0} (rd : Reader S) where
       let a = arrivalOf h w incoming in
       let node = nodeOf leg in
       let at = Layout.nodeOf bs node in
-      crossOver rd a (w .visited) s (consider noChoices a (w .visited) bs (w .way .tile) node) (boundaryTwins (at .x) (at .y) (h .tile % 65536))
+      crossOver rd a (w .visited) s (consider noChoices a (w .visited) bs (w .way .tile) node) (boundaryTwins (at .x) (at .y) (h .tile % 0x1_0000))
 
   unfoldable pub crossedOver : Header → Walk → S → List ℕ → Leg → Stride S
   crossedOver h w s bs leg =

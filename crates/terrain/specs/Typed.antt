@@ -50,16 +50,16 @@ use Rattle.terrain.specs.Words.{noPoint}
 -- ---- numbers
 
 abbrev pub Word : ℕ → Type 0
-Word n = n < 4294967296
+Word n = n < 0x1_0000_0000
 
 abbrev pub Short : ℕ → Type 0
-Short n = n < 65536
+Short n = n < 0x1_0000
 
 abbrev pub Byte : ℕ → Type 0
 Byte n = n < 256
 
 abbrev pub Signed : ℤ → Type 0
-Signed z = mag z < 2147483648
+Signed z = mag z < 0x8000_0000
 
 abbrev pub Height : ℤ → Type 0
 Height z = mag z < 32768

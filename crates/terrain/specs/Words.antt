@@ -94,13 +94,13 @@ abbrev pub isSet : ℕ → Bool
 isSet n = eqb n 1
 
 abbrev pub lowWord : ℕ → ℕ
-lowWord n = n % 4294967296
+lowWord n = n % 0x1_0000_0000
 
 abbrev pub highWord : ℕ → ℕ
-highWord n = n / 4294967296
+highWord n = n / 0x1_0000_0000
 
 abbrev pub longOf : ℕ → ℕ → ℕ
-longOf low high = low + high * 4294967296
+longOf low high = low + high * 0x1_0000_0000
 
 -- a float's bits, 0x7fc00000 for not-a-number; and back, where every not-a-number's bits are one
 abbrev pub floatWord : Float → ℕ
@@ -114,10 +114,10 @@ abbrev pub heightOf : ℕ → ℤ
 heightOf n = low16 (signed32 n)
 
 abbrev pub keyWord : TileKey → ℕ
-keyWord k = k .row * 65536 + k .col
+keyWord k = k .row * 0x1_0000 + k .col
 
 abbrev pub keyOf : ℕ → TileKey
-keyOf n = record { row = n / 65536; col = n % 65536 }
+keyOf n = record { row = n / 0x1_0000; col = n % 0x1_0000 }
 
 -- a key or none
 abbrev pub keyTag : MaybeKey → ℕ
@@ -167,8 +167,8 @@ headerBy w = record {
   tile = w 0;
   south = signed32 (w 1);
   west = signed32 (w 2);
-  rows = w 3 % 65536;
-  cols = w 4 % 65536;
+  rows = w 3 % 0x1_0000;
+  cols = w 4 % 0x1_0000;
   directory = w 5;
   «data» = w 6;
   total = w 7;
@@ -195,7 +195,7 @@ slotWords s = (keyTag (s .key) + 2 * bit (s .ready) + 4 * partWord (s .part)) �
 abbrev pub slotBy : (ℕ → ℕ) → Slot
 slotBy w = record {
   key = maybeKeyOf (w 0 % 2) (w 1);
-  len = w 2 % 65536;
+  len = w 2 % 0x1_0000;
   ready = isSet (w 0 / 2 % 2);
   part = partOf (w 0 / 4);
 }
@@ -341,7 +341,7 @@ abbrev pub forwardOf : ℕ → Forward
 forwardOf n = cond (eqb n 1) (Forward.Is false) (cond (eqb n 2) (Forward.Is true) Forward.Unknown)
 
 abbrev pub idOf : ℕ → ℕ → ℕ → TileId
-idOf n crc edges = record { key = keyOf n; crc = crc; edges = edges % 65536 }
+idOf n crc edges = record { key = keyOf n; crc = crc; edges = edges % 0x1_0000 }
 
 -- 13 words behind a tag
 abbrev pub matchedWords : Matched → List ℕ
@@ -364,8 +364,8 @@ matchedWords m =
 abbrev pub matchedBy : (ℕ → ℕ) → Matched
 matchedBy w = record {
   tile = idOf (w 1) (w 2) (w 3);
-  edge = w 4 % 65536;
-  segment = w 5 % 65536;
+  edge = w 4 % 0x1_0000;
+  segment = w 5 % 0x1_0000;
   fraction = floatOf (w 6);
   forward = forwardOf (w 7);
   «offset_m» = floatOf (w 8);
@@ -389,7 +389,7 @@ challengerWords Challenger.Nothing = 0 ∷ 0 ∷ 0 ∷ 0 ∷ 0 ∷ 0 ∷ []
 challengerWords (Challenger.Is tile edge count) = 1 ∷ keyWord (tile .key) ∷ tile .crc ∷ tile .edges ∷ edge ∷ count ∷ []
 
 abbrev pub challengerBy : (ℕ → ℕ) → Challenger
-challengerBy w = cond (isSet (w 0)) (Challenger.Is (idOf (w 1) (w 2) (w 3)) (w 4 % 65536) (w 5 % 256)) Challenger.Nothing
+challengerBy w = cond (isSet (w 0)) (Challenger.Is (idOf (w 1) (w 2) (w 3)) (w 4 % 0x1_0000) (w 5 % 256)) Challenger.Nothing
 
 -- 22 words
 unfoldable pub matcherWords : Matcher → List ℕ
@@ -424,7 +424,7 @@ dueOf ws at = record {
   road = isSet (from ws at 1);
   «last_road» = timeOf (from ws at 2) (from ws at 3) (from ws at 4);
   need = maybeKeyOf (from ws at 5) (from ws at 6);
-  reloads = from ws at 7 % 65536;
+  reloads = from ws at 7 % 0x1_0000;
 }
 
 -- ---- the road
