@@ -145,7 +145,7 @@ kindOf (get h key) = keeps
 kindOf (fetch h key) = keeps
 kindOf clear = keeps
 
--- which bytes of the arena a call of a kind may write: "a chunk writes its own bytes of the arena and no others", and no other call any
+-- which bytes of the arena a call of a kind may write: a chunk its own and no others, and no other call any; beyond what demand 3 asks
 abbrev pub MayWrite : Kind → Cache → ℕ → Type 0
 MayWrite keeps c b = ⊥
 MayWrite brings c b = OfChunk (c .loading) b
