@@ -1,4 +1,4 @@
--- A step with nothing to do counts itself and answers Idle (`idle-step`): by whether there is a fix, what is due, and where it lies.
+-- A step with nothing to do counts itself and answers Idle (`rest-step`): by whether the pack is read and a tile is needed, whether there is a fix, what is due, and where it lies.
 use Prim.Native.Nat.{ℕ}
 use mathlib.Core.Path.{_≡_, refl, sym, ap, _∙_}
 use mathlib.Core.Bool.{Bool, true, false, cond, true≢false}
@@ -14,7 +14,7 @@ use Rattle.cache.specs.declared.MaybeKey.{MaybeKey}
 use Rattle.cache.specs.declared.MaybeKey.the-variants as MaybeKey
 use Rattle.cache.specs.declared.Pending.{Pending}
 use Rattle.cache.specs.declared.Pending.the-variants as Pending
-use Rattle.engine.specs.Idle.{isIn, isIdle}
+use Rattle.engine.specs.Idle.{isIn, isIdle, restBy, atRest}
 use Rattle.engine.specs.Steps.{readyBy, startedBy, started, steppedBy, stepped}
 use Rattle.engine.specs.Work.{counted, ended, matchStep, roadDue, atFixBy, atFix, workedBy, worked}
 use Rattle.engine.specs.declared.Engine.{Engine}
@@ -53,11 +53,17 @@ module _ (e : Engine) (arena : List ℕ) where
   fix-by (MaybeFix.Is fix) ok =
       in-by (keyOf (e .shared .header) (fix .lat) (fix .lon)) fix (e .follower .due .matching) (e .follower .due .road) ok refl refl
 
-  pub idle-step : e .shared .cache .pending ≡ Pending.Nothing → e .shared .phase ≡ Phase.Ready → e .follower .due .need ≡ MaybeKey.Nothing
-      → isIdle (e .shared .header) (e .follower .sight .fix) (e .follower .due) ≡ true
-      → stepped e arena ≡ ended e (e .shared .cache) (counted (e .follower)) Status.Idle
+  rest-by : (p : Phase) (k : MaybeKey) → e .shared .cache .pending ≡ Pending.Nothing → e .shared .phase ≡ p → e .follower .due .need ≡ k
+      → restBy p k (e .shared .header) (e .follower .sight .fix) (e .follower .due) ≡ true → stepped e arena ≡ idle
   unfolding stepped started worked
-  idle-step pending phase need ok =
+  rest-by Phase.Unread k pending phase need ok = absurd (true≢false (sym ok))
+  rest-by Phase.Failed k pending phase need ok = absurd (true≢false (sym ok))
+  rest-by Phase.Ready (MaybeKey.Key key) pending phase need ok = absurd (true≢false (sym ok))
+  rest-by Phase.Ready MaybeKey.Nothing pending phase need ok =
       ap (λ (p : Pending). steppedBy p e arena) pending ∙ ap (λ (p : Phase). startedBy p e arena) phase
       ∙ ap (λ (k : MaybeKey). readyBy k e arena) need
       ∙ fix-by (e .follower .sight .fix) ok
+
+  pub rest-step : e .shared .cache .pending ≡ Pending.Nothing → atRest (e .shared .phase) (e .shared .header) (e .follower .sight .fix) (e .follower .due) ≡ true
+      → stepped e arena ≡ ended e (e .shared .cache) (counted (e .follower)) Status.Idle
+  rest-step pending ok = rest-by (e .shared .phase) (e .follower .due .need) pending refl refl ok

@@ -189,6 +189,23 @@ fn is_idle(header: Header, fix: MaybeFix, due: Due) -> bool
     }
 }
 
+// Whether a step where no fetch is open has nothing to do.
+fn at_rest(phase: Phase, header: Header, fix: MaybeFix, due: Due) -> bool
+    ensures { λ r. ⌜ r ≡ Idle.atRest phase header fix due ⌝ }
+{
+    match phase {
+        Phase::Unread => false,
+        Phase::Failed => false,
+        Phase::Ready => {
+            let need = due.need;
+            match need {
+                MaybeKey::Key(_) => false,
+                MaybeKey::Nothing => is_idle(header, fix, due),
+            }
+        }
+    }
+}
+
 // A step in a state that has been tested: while a fetch is open it is repeated, and nothing changes. A step with nothing to do is told here, where the
 // state is written in place; every other hands the state on.
 pub(crate) fn stepped(mut e: Engine, arena: &[u8]) -> Stepped
@@ -203,19 +220,12 @@ pub(crate) fn stepped(mut e: Engine, arena: &[u8]) -> Stepped
         return Stepped { answer, engine: e };
     };
     let phase = s.phase;
-    let Phase::Ready = phase else {
-        return started(e, arena);
-    };
     let f = e.follower;
     let due = f.due;
-    let need = due.need;
-    let MaybeKey::Nothing = need else {
-        return started(e, arena);
-    };
     let header = s.header;
     let sight = f.sight;
     let fix = sight.fix;
-    if !is_idle(header, fix, due) {
+    if !at_rest(phase, header, fix, due) {
         return started(e, arena);
     }
     let steps = std::num::wrapping_add_u32(e.follower.steps, 1);
