@@ -1,11 +1,13 @@
--- Laws of the words: loops that fill arrays and put pieces, equal words; and of the parts over them.
+-- Laws of the words: loops that fill arrays and put pieces, equal words, pieces held at their places; and of the parts over them.
 pub mod ArrayLaws
 pub mod PutLaws
 pub mod PieceLaws
 pub mod SameLaws
+pub mod HeldLaws
 pub mod WordsLaws
 pub mod NumberLaws
 pub mod TripLaws
+pub mod KeptLaws
 pub mod BackLaws
 pub mod SmallLaws
 pub mod KeepLaws

@@ -1,5 +1,5 @@
--- The pieces of each struct's words, with their lengths: put one behind the other they are the struct's words (`pages-put`, .., `engine-put`), and an engine has 1,150 words
--- (`words-length`), whatever its arrays hold.
+-- The pieces of each struct's words, with their lengths: put one behind the other they are the struct's words (`pages-put`, .., `engine-put`), held one behind the
+-- other they are held as one (`pages-held`, .., `engine-held`), and an engine has 1,150 words (`words-length`), whatever its arrays hold.
 use Prim.Native.Nat.{ℕ, _+_}
 use mathlib.Core.Path.{_≡_, refl, sym, ap, _∙_}
 use mathlib.Core.List.{List, [], _∷_, _++_}
@@ -36,8 +36,10 @@ use Rattle.engine.specs.declared.Places.{Places}
 use Rattle.engine.specs.declared.Shared.{Shared}
 use Rattle.engine.specs.declared.Sight.{Sight}
 use Rattle.terrain.specs.Put.{put}
+use Rattle.terrain.specs.Held.{heldAt}
 use Rattle.terrain.specs.Words.{flat, bit, lowWord, highWord, floatWord, keyTag, keyHeld, phaseWord, headerWords, slotsWords, usedWords, pagesWords, keysWords, ringWords, loadingWords, pendingWords, cacheWords, sharedWords, fixWords, pointsWords, placesWords, headingWords, sightWords, currentWords, challengerWords, matcherWords, timeWords, dueWords, heightsWords, endWord, aheadWords, followerWords, words}
 use Rattle.terrain.proofs.PutLaws.{putBy, Long, pieces, together, put-all, length-spread}
+use Rattle.terrain.proofs.HeldLaws.{heldBy, held-flat}
 
 -- ---- lengths
 
@@ -115,6 +117,10 @@ pub pages-put : (g : Pages) (ws : List ℕ) → length ws ≡ 1150 → putBy 15 
 unfolding pagesWords
 pages-put g ws h = together 15 (pagesPieces g) ws (pages-each g) (omega (arith, h))
 
+pub pages-held : (g : Pages) (ws : List ℕ) → heldAt 15 (pagesWords g) ws ≡ heldBy 15 (pagesPieces g) ws
+unfolding pagesWords
+pages-held g ws = held-flat 15 (pagesPieces g) ws (pages-each g)
+
 -- ---- ring
 
 abbrev ringPieces : Ring → List (ℕ × List ℕ)
@@ -130,6 +136,10 @@ ring-long r = long-flat (ringPieces r) (ring-each r)
 pub ring-put : (r : Ring) (ws : List ℕ) → length ws ≡ 1150 → putBy 401 (ringPieces r) ws ≡ put 401 (ringWords r) ws
 unfolding ringWords
 ring-put r ws h = together 401 (ringPieces r) ws (ring-each r) (omega (arith, h))
+
+pub ring-held : (r : Ring) (ws : List ℕ) → heldAt 401 (ringWords r) ws ≡ heldBy 401 (ringPieces r) ws
+unfolding ringWords
+ring-held r ws = held-flat 401 (ringPieces r) ws (ring-each r)
 
 -- ---- cache
 
@@ -147,6 +157,10 @@ pub cache-put : (c : Cache) (ws : List ℕ) → length ws ≡ 1150 → putBy 15 
 unfolding cacheWords
 cache-put c ws h = together 15 (cachePieces c) ws (cache-each c) (omega (arith, h))
 
+pub cache-held : (c : Cache) (ws : List ℕ) → heldAt 15 (cacheWords c) ws ≡ heldBy 15 (cachePieces c) ws
+unfolding cacheWords
+cache-held c ws = held-flat 15 (cachePieces c) ws (cache-each c)
+
 -- ---- shared
 
 abbrev sharedPieces : Shared → List (ℕ × List ℕ)
@@ -162,6 +176,10 @@ shared-long s = long-flat (sharedPieces s) (shared-each s)
 pub shared-put : (s : Shared) (ws : List ℕ) → length ws ≡ 1150 → putBy 0 (sharedPieces s) ws ≡ put 0 (sharedWords s) ws
 unfolding sharedWords
 shared-put s ws h = together 0 (sharedPieces s) ws (shared-each s) (omega (arith, h))
+
+pub shared-held : (s : Shared) (ws : List ℕ) → heldAt 0 (sharedWords s) ws ≡ heldBy 0 (sharedPieces s) ws
+unfolding sharedWords
+shared-held s ws = held-flat 0 (sharedPieces s) ws (shared-each s)
 
 -- ---- places
 
@@ -179,6 +197,10 @@ pub places-put : (p : Places) (ws : List ℕ) → length ws ≡ 1150 → putBy 5
 unfolding placesWords
 places-put p ws h = together 544 (placesPieces p) ws (places-each p) (omega (arith, h))
 
+pub places-held : (p : Places) (ws : List ℕ) → heldAt 544 (placesWords p) ws ≡ heldBy 544 (placesPieces p) ws
+unfolding placesWords
+places-held p ws = held-flat 544 (placesPieces p) ws (places-each p)
+
 -- ---- sight
 
 abbrev sightPieces : Sight → List (ℕ × List ℕ)
@@ -194,6 +216,10 @@ sight-long s = long-flat (sightPieces s) (sight-each s)
 pub sight-put : (s : Sight) (ws : List ℕ) → length ws ≡ 1150 → putBy 539 (sightPieces s) ws ≡ put 539 (sightWords s) ws
 unfolding sightWords
 sight-put s ws h = together 539 (sightPieces s) ws (sight-each s) (omega (arith, h))
+
+pub sight-held : (s : Sight) (ws : List ℕ) → heldAt 539 (sightWords s) ws ≡ heldBy 539 (sightPieces s) ws
+unfolding sightWords
+sight-held s ws = held-flat 539 (sightPieces s) ws (sight-each s)
 
 -- ---- matcher
 
@@ -211,6 +237,10 @@ pub matcher-put : (m : Matcher) (ws : List ℕ) → length ws ≡ 1150 → putBy
 unfolding matcherWords
 matcher-put m ws h = together 581 (matcherPieces m) ws (matcher-each m) (omega (arith, h))
 
+pub matcher-held : (m : Matcher) (ws : List ℕ) → heldAt 581 (matcherWords m) ws ≡ heldBy 581 (matcherPieces m) ws
+unfolding matcherWords
+matcher-held m ws = held-flat 581 (matcherPieces m) ws (matcher-each m)
+
 -- ---- due
 
 abbrev duePieces : Due → List (ℕ × List ℕ)
@@ -226,6 +256,10 @@ due-long d = long-flat (duePieces d) (due-each d)
 pub due-put : (d : Due) (ws : List ℕ) → length ws ≡ 1150 → putBy 603 (duePieces d) ws ≡ put 603 (dueWords d) ws
 unfolding dueWords
 due-put d ws h = together 603 (duePieces d) ws (due-each d) (omega (arith, h))
+
+pub due-held : (d : Due) (ws : List ℕ) → heldAt 603 (dueWords d) ws ≡ heldBy 603 (duePieces d) ws
+unfolding dueWords
+due-held d ws = held-flat 603 (duePieces d) ws (due-each d)
 
 -- ---- ahead
 
@@ -243,6 +277,10 @@ pub ahead-put : (a : Ahead) (ws : List ℕ) → length ws ≡ 1150 → putBy 611
 unfolding aheadWords
 ahead-put a ws h = together 611 (aheadPieces a) ws (ahead-each a) (omega (arith, h))
 
+pub ahead-held : (a : Ahead) (ws : List ℕ) → heldAt 611 (aheadWords a) ws ≡ heldBy 611 (aheadPieces a) ws
+unfolding aheadWords
+ahead-held a ws = held-flat 611 (aheadPieces a) ws (ahead-each a)
+
 -- ---- follower
 
 abbrev followerPieces : Follower → List (ℕ × List ℕ)
@@ -259,6 +297,10 @@ pub follower-put : (f : Follower) (ws : List ℕ) → length ws ≡ 1150 → put
 unfolding followerWords
 follower-put f ws h = together 539 (followerPieces f) ws (follower-each f) (omega (arith, h))
 
+pub follower-held : (f : Follower) (ws : List ℕ) → heldAt 539 (followerWords f) ws ≡ heldBy 539 (followerPieces f) ws
+unfolding followerWords
+follower-held f ws = held-flat 539 (followerPieces f) ws (follower-each f)
+
 -- ---- engine
 
 abbrev enginePieces : Engine → List (ℕ × List ℕ)
@@ -274,3 +316,7 @@ words-length e = long-flat (enginePieces e) (engine-each e)
 pub engine-put : (e : Engine) (ws : List ℕ) → length ws ≡ 1150 → putBy 0 (enginePieces e) ws ≡ words e
 unfolding words
 engine-put e ws h = together 0 (enginePieces e) ws (engine-each e) (omega (arith, h)) ∙ put-all (words e) ws (words-length e ∙ sym h)
+
+pub engine-held : (e : Engine) (ws : List ℕ) → heldAt 0 (words e) ws ≡ heldBy 0 (enginePieces e) ws
+unfolding words
+engine-held e ws = held-flat 0 (enginePieces e) ws (engine-each e)

@@ -32,7 +32,7 @@ module _ (ws : List ℕ) (at : ℕ) (x : List ℕ) (xs : List (List ℕ)) (zs : 
 -- ---- arrays
 
 module _ {A : Type 0} (f : ℕ → A) (d : A) where
-  table-at : (n i : ℕ) → i < n → getD (table f n) i d ≡ f i
+  pub table-at : (n i : ℕ) → i < n → getD (table f n) i d ≡ f i
   unfolding table
   table-at zero i h = absurd (omega arith)
   table-at (suc n) i h = by (ltb i n) refl (table-at n i)

@@ -8,6 +8,7 @@ pub mod Page
 pub mod Write
 pub mod Words
 pub mod Put
+pub mod Held
 pub mod Typed
 pub mod Host
 pub mod Parts

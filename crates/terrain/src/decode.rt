@@ -51,14 +51,14 @@ pub(crate) fn byte(n: u32) -> u8
     (n % 256) as u8
 }
 
-fn size(n: u32) -> usize
+pub(crate) fn size(n: u32) -> usize
     ensures { λ r. ⌜ r ≡ n ⌝ }
 {
     n as usize
 }
 
 // Two words, the low one first.
-fn long(low: u32, high: u32) -> u64
+pub(crate) fn long(low: u32, high: u32) -> u64
     ensures { λ r. ⌜ r ≡ Words.longOf low high ⌝ }
 {
     (low as u64) + (high as u64) * 4294967296
@@ -84,7 +84,7 @@ fn key(n: u32) -> TileKey
     }
 }
 
-fn maybe_key(tag: u32, n: u32) -> MaybeKey
+pub(crate) fn maybe_key(tag: u32, n: u32) -> MaybeKey
     ensures { λ r. ⌜ r ≡ Words.maybeKeyOf tag n ⌝ }
 {
     if tag == 1 {
@@ -95,7 +95,7 @@ fn maybe_key(tag: u32, n: u32) -> MaybeKey
 
 // ---- the pack
 
-fn phase(tag: u32) -> Phase
+pub(crate) fn phase(tag: u32) -> Phase
     ensures { λ r. ⌜ r ≡ Words.phaseOf tag ⌝ }
 {
     if tag == 1 {
@@ -107,7 +107,7 @@ fn phase(tag: u32) -> Phase
     Phase::Unread
 }
 
-fn header(ws: &[u32; words::WORDS]) -> Header
+pub(crate) fn header(ws: &[u32; words::WORDS]) -> Header
     ensures { λ r. ⌜ r ≡ Words.headerBy (Words.from (now (ws .entry)) 2) ⌝ }
 {
     Header {
@@ -139,7 +139,7 @@ fn part(n: u32) -> Part
 }
 
 // The slot whose words begin at `at`.
-fn slot(ws: &[u32; words::WORDS], at: usize) -> Slot
+pub(crate) fn slot(ws: &[u32; words::WORDS], at: usize) -> Slot
     requires { ⌜ at + 3 ≤ 1150 ⌝ }
     ensures { λ r. ⌜ r ≡ Words.slotBy (Words.from (now (ws .entry)) at) ⌝ }
 {
@@ -183,7 +183,7 @@ fn pages(ws: &[u32; words::WORDS]) -> Pages
 }
 
 // The place of the ring whose words begin at `at`.
-fn place(ws: &[u32; words::WORDS], at: usize) -> RingKey
+pub(crate) fn place(ws: &[u32; words::WORDS], at: usize) -> RingKey
     requires { ⌜ at + 2 ≤ 1150 ⌝ }
     ensures { λ r. ⌜ r ≡ Words.placeBy (Words.from (now (ws .entry)) at) ⌝ }
 {
@@ -211,7 +211,7 @@ fn ring(ws: &[u32; words::WORDS]) -> Ring
     r
 }
 
-fn loading(ws: &[u32; words::WORDS]) -> MaybeLoading
+pub(crate) fn loading(ws: &[u32; words::WORDS]) -> MaybeLoading
     ensures { λ r. ⌜ r ≡ Words.loadingBy (Words.from (now (ws .entry)) 530) ⌝ }
 {
     if ws[530] == 1 {
@@ -226,7 +226,7 @@ fn loading(ws: &[u32; words::WORDS]) -> MaybeLoading
     MaybeLoading::Nothing
 }
 
-fn pending(tag: u32, at: u32) -> Pending
+pub(crate) fn pending(tag: u32, at: u32) -> Pending
     ensures { λ r. ⌜ r ≡ Words.pendingOf tag at ⌝ }
 {
     if tag == 1 {
@@ -272,7 +272,7 @@ fn shared(ws: &[u32; words::WORDS]) -> Shared
 
 // ---- the fixes
 
-fn fix(ws: &[u32; words::WORDS]) -> MaybeFix
+pub(crate) fn fix(ws: &[u32; words::WORDS]) -> MaybeFix
     ensures { λ r. ⌜ r ≡ Words.fixBy (Words.from (now (ws .entry)) 539) ⌝ }
 {
     if ws[539] == 1 {
@@ -286,7 +286,7 @@ fn fix(ws: &[u32; words::WORDS]) -> MaybeFix
 }
 
 // The place whose words begin at `at`.
-fn point(ws: &[u32; words::WORDS], at: usize) -> Point
+pub(crate) fn point(ws: &[u32; words::WORDS], at: usize) -> Point
     requires { ⌜ at + 2 ≤ 1150 ⌝ }
     ensures { λ r. ⌜ r ≡ Words.pointBy (Words.from (now (ws .entry)) at) ⌝ }
 {
@@ -314,7 +314,7 @@ fn places(ws: &[u32; words::WORDS]) -> Places
     h
 }
 
-fn heading(tag: u32, degrees: u32) -> Heading
+pub(crate) fn heading(tag: u32, degrees: u32) -> Heading
     ensures { λ r. ⌜ r ≡ Words.headingOf tag degrees ⌝ }
 {
     if tag == 1 {
@@ -384,7 +384,7 @@ fn matched(ws: &[u32; words::WORDS], at: usize) -> Matched
 }
 
 // Tag and match, 14 words from `at` on.
-fn current(ws: &[u32; words::WORDS], at: usize) -> Current
+pub(crate) fn current(ws: &[u32; words::WORDS], at: usize) -> Current
     requires { ⌜ at + 14 ≤ 1150 ⌝ }
     ensures { λ r. ⌜ r ≡ Words.currentBy (Words.from (now (ws .entry)) at) ⌝ }
 {
@@ -395,7 +395,7 @@ fn current(ws: &[u32; words::WORDS], at: usize) -> Current
     Current::Nothing
 }
 
-fn challenger(ws: &[u32; words::WORDS]) -> Challenger
+pub(crate) fn challenger(ws: &[u32; words::WORDS]) -> Challenger
     ensures { λ r. ⌜ r ≡ Words.challengerBy (Words.from (now (ws .entry)) 595) ⌝ }
 {
     if ws[595] == 1 {
@@ -420,7 +420,7 @@ fn matcher(ws: &[u32; words::WORDS]) -> Matcher
 
 // ---- what is due
 
-fn time(tag: u32, low: u32, high: u32) -> MaybeTime
+pub(crate) fn time(tag: u32, low: u32, high: u32) -> MaybeTime
     ensures { λ r. ⌜ r ≡ Words.timeOf tag low high ⌝ }
 {
     if tag == 1 {
@@ -446,7 +446,7 @@ fn due(ws: &[u32; words::WORDS]) -> Due
 // ---- the road
 
 // A height: 16 bits of a word in two's complement.
-fn height(n: u32) -> i16
+pub(crate) fn height(n: u32) -> i16
     ensures { λ r. ⌜ r ≡ Words.heightOf n ⌝ }
 {
     num::cast::i16_of_i32(pack::bytes::signed_32(n))
@@ -476,7 +476,7 @@ fn behind(ws: &[u32; words::WORDS]) -> [i16; predict::BEHIND_SAMPLES]
     out
 }
 
-fn end(tag: u32) -> End
+pub(crate) fn end(tag: u32) -> End
     ensures { λ r. ⌜ r ≡ Words.endOf tag ⌝ }
 {
     if tag == 1 {

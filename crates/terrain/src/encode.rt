@@ -51,19 +51,19 @@ fn put(out: &mut [u32; words::WORDS], at: usize, piece: &[u32])
 
 // ---- numbers
 
-fn low(n: u64) -> u32
+pub(crate) fn low(n: u64) -> u32
     ensures { λ r. ⌜ r ≡ Words.lowWord n ⌝ }
 {
     (n % 4294967296) as u32
 }
 
-fn high(n: u64) -> u32
+pub(crate) fn high(n: u64) -> u32
     ensures { λ r. ⌜ r ≡ Words.highWord n ⌝ }
 {
     (n / 4294967296) as u32
 }
 
-fn wide(n: u16) -> u32
+pub(crate) fn wide(n: u16) -> u32
     ensures { λ r. ⌜ r ≡ n ⌝ }
 {
     n as u32
@@ -75,13 +75,13 @@ pub(crate) fn byte(n: u8) -> u32
     n as u32
 }
 
-fn size(n: usize) -> u32
+pub(crate) fn size(n: usize) -> u32
     ensures { λ r. ⌜ r ≡ Words.lowWord n ⌝ }
 {
     (n % 4294967296) as u32
 }
 
-fn bit(b: bool) -> u32
+pub(crate) fn bit(b: bool) -> u32
     ensures { λ r. ⌜ r ≡ Words.bit b ⌝ }
     ensures { λ r. ⌜ r ≤ 1 ⌝ }
 {
@@ -108,7 +108,7 @@ fn of_key(key: TileKey) -> u32
 }
 
 // Whether there is a key, and the key.
-fn has(key: MaybeKey) -> u32
+pub(crate) fn has(key: MaybeKey) -> u32
     ensures { λ r. ⌜ r ≡ Words.keyTag key ⌝ }
     ensures { λ r. ⌜ r ≤ 1 ⌝ }
 {
@@ -118,7 +118,7 @@ fn has(key: MaybeKey) -> u32
     }
 }
 
-fn held(key: MaybeKey) -> u32
+pub(crate) fn held(key: MaybeKey) -> u32
     ensures { λ r. ⌜ r ≡ Words.keyHeld key ⌝ }
 {
     match key {
@@ -129,7 +129,7 @@ fn held(key: MaybeKey) -> u32
 
 // ---- the pack
 
-fn phase(phase: Phase) -> u32
+pub(crate) fn phase(phase: Phase) -> u32
     ensures { λ r. ⌜ r ≡ Words.phaseWord phase ⌝ }
 {
     match phase {
@@ -139,7 +139,7 @@ fn phase(phase: Phase) -> u32
     }
 }
 
-fn header(h: Header) -> [u32; 13]
+pub(crate) fn header(h: Header) -> [u32; 13]
     ensures { λ r. ⌜ r ≡ Words.headerWords h ⌝ }
 {
     [
@@ -172,7 +172,7 @@ fn part(part: Part) -> u32
     }
 }
 
-fn slot(s: Slot) -> [u32; 3]
+pub(crate) fn slot(s: Slot) -> [u32; 3]
     ensures { λ r. ⌜ r ≡ Words.slotWords s ⌝ }
 {
     let key = s.key;
@@ -246,7 +246,7 @@ fn put_ring(ring: Ring, out: &mut [u32; words::WORDS])
     put(out, 529, &next);
 }
 
-fn loading(loading: MaybeLoading) -> [u32; 6]
+pub(crate) fn loading(loading: MaybeLoading) -> [u32; 6]
     ensures { λ r. ⌜ r ≡ Words.loadingWords loading ⌝ }
 {
     match loading {
@@ -258,7 +258,7 @@ fn loading(loading: MaybeLoading) -> [u32; 6]
     }
 }
 
-fn pending(pending: Pending) -> [u32; 2]
+pub(crate) fn pending(pending: Pending) -> [u32; 2]
     ensures { λ r. ⌜ r ≡ Words.pendingWords pending ⌝ }
 {
     match pending {
@@ -305,7 +305,7 @@ fn put_shared(s: Shared, out: &mut [u32; words::WORDS])
 
 // ---- the fixes
 
-fn fix(fix: MaybeFix) -> [u32; 5]
+pub(crate) fn fix(fix: MaybeFix) -> [u32; 5]
     ensures { λ r. ⌜ r ≡ Words.fixWords fix ⌝ }
 {
     match fix {
@@ -320,7 +320,7 @@ fn fix(fix: MaybeFix) -> [u32; 5]
     }
 }
 
-fn point(p: Point) -> [u32; 2]
+pub(crate) fn point(p: Point) -> [u32; 2]
     ensures { λ r. ⌜ r ≡ Words.pointWords p ⌝ }
 {
     [num::cast::u32_of_i32(p.lat), num::cast::u32_of_i32(p.lon)]
@@ -349,7 +349,7 @@ fn put_places(h: Places, out: &mut [u32; words::WORDS])
     put(out, 576, &len);
 }
 
-fn heading(heading: Heading) -> [u32; 2]
+pub(crate) fn heading(heading: Heading) -> [u32; 2]
     ensures { λ r. ⌜ r ≡ Words.headingWords heading ⌝ }
 {
     match heading {
@@ -460,7 +460,7 @@ fn put_matcher(m: Matcher, out: &mut [u32; words::WORDS])
 
 // ---- what is due
 
-fn time(t: MaybeTime) -> [u32; 3]
+pub(crate) fn time(t: MaybeTime) -> [u32; 3]
     ensures { λ r. ⌜ r ≡ Words.timeWords t ⌝ }
 {
     match t {
@@ -486,7 +486,7 @@ fn put_due(d: Due, out: &mut [u32; words::WORDS])
 
 // ---- the road
 
-fn height(z: i16) -> u32
+pub(crate) fn height(z: i16) -> u32
     ensures { λ r. ⌜ r ≡ bits32 z ⌝ }
 {
     num::cast::u32_of_i32(z as i32)

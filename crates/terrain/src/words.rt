@@ -54,21 +54,7 @@ fn count(ws: &[u32]) -> usize
     ws.len()
 }
 
-fn same(a: &[u32; WORDS], b: &[u32; WORDS]) -> bool
-    requires { ⌜ (length (now a) ≡ 1150) × (length (now b) ≡ 1150) ⌝ }
-    ensures { λ r. ⌜ r ≡ Words.sameWords (now (a .entry)) (now (b .entry)) ⌝ }
-{
-    let mut i = 0;
-    while i < WORDS {
-        if a[i] != b[i] {
-            return false;
-        }
-        i += 1;
-    }
-    true
-}
-
-// What was read is written again: words that no engine has come out as others.
+// What is read, written again, has to be the same words: those that no engine has come out as others.
 pub fn read(ws: &[u32; WORDS]) -> Reading
     ensures { λ r. ⌜ (r .accepted ≡ Words.accepted (now (ws .entry))) × (r .engine ≡ Words.engineOf (now (ws .entry))) ⌝ }
 {
@@ -79,10 +65,8 @@ pub fn read(ws: &[u32; WORDS]) -> Reading
             engine,
         };
     }
-    let mut again = [0u32; WORDS];
-    crate::encode::engine(engine, &mut again);
     Reading {
-        accepted: same(&again, ws),
+        accepted: crate::kept::engine(ws),
         engine,
     }
 }
@@ -90,6 +74,10 @@ pub fn read(ws: &[u32; WORDS]) -> Reading
 pub fn write(e: Engine, out: &mut [u32; WORDS])
     ensures { λ r. ⌜ now (out .exit) ≡ Words.words e ⌝ }
 {
+    if count(&*out) == WORDS {
+        crate::encode::engine(e, out);
+        return;
+    }
     let mut ws = [0u32; WORDS];
     crate::encode::engine(e, &mut ws);
     *out = ws;

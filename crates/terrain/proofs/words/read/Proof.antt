@@ -1,5 +1,5 @@
 -- `words::read` meets its contract.
-use Rattle.terrain.specs.Words.{accepted}
+use Rattle.terrain.proofs.KeptLaws.{accepted-kept}
 use Rattle.terrain.proofs.WordsLaws.{refused}
 use mathlib.Core.Path.{sym, _∙_}
 use borrow.Author.Needs.{needs}
@@ -18,14 +18,11 @@ returns c = (sym (refused _ (λ e. c .if1 .taken (c .before .count .ensures ∙ 
 engine-requires-2 : tie.Need-engine-requires-2
 engine-requires-2 c κs = search needs
 
-same-requires : tie.Need-same-requires
-same-requires c κs = search needs
-
 returns-2 : tie.Need-returns-2
-unfolding accepted
-returns-2 c = (rw (c .same .ensures, c .before .before .engine2 .ensures .0, c .before .before .before .before .before .before .before .engine .ensures), c .before .before .before .before .before .before .before .engine .ensures)
+returns-2 c = (
+  c .engine2 .ensures ∙ sym (accepted-kept (c .before .before .before .before .before .args .ws .now) (sym (c .before .before .count .ensures) ∙ c .before .if1 .left)),
+  c .before .before .before .before .engine .ensures,
+)
 
 pub read-spec : {M : Type 1} → statement M
-read-spec =
-    tie.close
-    (tie.spec engine-requires count-requires returns engine-requires-2 same-requires returns-2)
+read-spec = tie.close (tie.spec engine-requires count-requires returns engine-requires-2 returns-2)
