@@ -125,17 +125,17 @@ module _ (e : Engine) (arena : List ℕ) (failure : ℕ) (bs : List ℕ) where
   asks false x z = no-fetch
 
   module _ (ok : engineOk e (length arena) ≡ true) where
-    due-rest : (needOk (e .shared) (e .follower .due .need) && pendingOk (e .shared) (e .follower .due .need)) ≡ true
-    due-rest = and-right (leb (e .follower .due .reloads) (reloadLimit (c₁ .pages .count))) _ (apart e (length arena) ok .due)
+    need-known : needOk (e .shared) (e .follower .due .need) ≡ true
+    need-known = and-right (leb (e .follower .due .reloads) (reloadLimit (c₁ .pages .count))) _ (apart e (length arena) ok .holds .due)
 
     fetch-open : pendingOk (e .shared) (e .follower .due .need) ≡ true
-    fetch-open = and-right (needOk (e .shared) (e .follower .due .need)) _ due-rest
+    fetch-open = apart e (length arena) ok .pending
 
     -- the read of the tile needed
     part-asks : (k : TileKey) (n : Next) → isReady (e .shared .phase) ≡ true → e .follower .due .need ≡ MaybeKey.Key k → nextStep c₁ k ≡ n
         → refusedProgress (Loads.stepped c₁ n arena h₁ k failure bs .answer) ≡ 0 → Asks (fits (readLen n) failure (length bs)) (partCame e arena k failure bs)
     part-asks k n ready need q runs =
-        let held : needOk (e .shared) (MaybeKey.Key k) ≡ true = rw need at (and-left (needOk (e .shared) (e .follower .due .need)) _ due-rest) in
+        let held : needOk (e .shared) (MaybeKey.Key k) ≡ true = rw need at need-known in
         let grid : inGrid h₁ k ≡ true = rw (ready-is (e .shared .phase) ready) at held in
         let x = Loads.stepped c₁ n arena h₁ k failure bs in
         let is : partCame e arena k failure bs ≡ cond (fits (readLen n) failure (length bs)) (over (loaded e (Loads.told x)) (x .arena)) (over (refused e 11) arena)

@@ -373,9 +373,9 @@ module _ (e : Engine) (arena : List ℕ) where
   module _ (ok : engineOk e (length arena) ≡ true) where
     need-grid : (key : TileKey) → e .shared .phase ≡ Phase.Ready → e .follower .due .need ≡ MaybeKey.Key key → inGrid (e .shared .header) key ≡ true
     need-grid key on need =
-        let due : (needOk (e .shared) (e .follower .due .need) && pendingOk (e .shared) (e .follower .due .need)) ≡ true
-        = and-right (leb (e .follower .due .reloads) (reloadLimit (e .shared .cache .pages .count))) _ (apart e (length arena) ok .due) in
-        rw (need, on) at (and-left (needOk (e .shared) (e .follower .due .need)) _ due)
+        let known : needOk (e .shared) (e .follower .due .need) ≡ true
+        = and-right (leb (e .follower .due .reloads) (reloadLimit (e .shared .cache .pages .count))) _ (apart e (length arena) ok .holds .due) in
+        rw (need, on) at known
 
     ready-late : e .shared .phase ≡ Phase.Ready → (m : MaybeKey) → e .follower .due .need ≡ m → Late (readyBy m e arena)
     unfolding worked

@@ -363,7 +363,7 @@ module _ (e : Engine) (t : Typed e) (arena : List ℕ) (a : Bytes arena) where
     started-typed Phase.Unread q = opened-typed Pending.Header tt
     started-typed Phase.Ready q =
         ready-typed (e .follower .due .need) (t .follower .due .need)
-        (standing-of (e .shared) (e .follower .matcher) q (apart e (length arena) ok .matcher) .current)
+        (standing-of (e .shared) (e .follower .matcher) q (apart e (length arena) ok .holds .matcher) .current)
 
     stepped-typed : (x : Pending) → Steps (steppedBy x e arena)
     unfolding started
