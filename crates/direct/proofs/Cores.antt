@@ -12,6 +12,7 @@ use Rattle.pack.specs.Grid.{inGrid}
 use Rattle.pack.specs.declared.Header.{Header}
 use Rattle.pack.specs.declared.TileKey.{TileKey}
 use Rattle.cache.specs.declared.Cache.{Cache}
+use Rattle.cache.specs.declared.Aging.{Aging}
 use Rattle.cache.specs.declared.Carried.{Carried}
 use Rattle.cache.specs.declared.look.Landing.{Landing}
 use Rattle.cache.specs.declared.look.Landing.the-variants as Landing
@@ -83,6 +84,7 @@ module _ (P : List ℕ) (n : ℕ) (horizon : Float) (w : World) (s : Stays P n h
   harmless = record {
     cores = public-is;
     aged = λ (a : Carried). record { slots = refl; count = refl; missing = refl; loading = refl; pending = refl; loads = refl };
+    uses = λ (a : Aging). record { slots = refl; count = refl; missing = refl; loading = refl; pending = refl; loads = refl };
   }
 
 cores-along : (n : ℕ) (horizon : Float) (cs : List Call) (P : List ℕ) (w : World) → Stays P n horizon w → AllFair P cs w → Throughout Harmless P cs w

@@ -13,6 +13,8 @@ use Rattle.pack.specs.declared.Header.{Header}
 use Rattle.pack.specs.declared.TileKey.{TileKey}
 use Rattle.geo.specs.declared.Point.{Point}
 use Rattle.cache.specs.declared.Cache.{Cache}
+use Rattle.cache.specs.Uses as Uses
+use Rattle.cache.specs.declared.Aging.{Aging}
 use Rattle.cache.specs.declared.Carried.{Carried}
 use Rattle.cache.specs.declared.Clearing.the-variants as Clearing
 use Rattle.cache.specs.declared.Lookup.{Lookup}
@@ -86,10 +88,11 @@ Public w h (updated m p heading) =
     (countsOk m && keyOk (m .current) h) ≡ true → does h (updated m p heading) w ≡ exec (Calls.update m h p heading) w
 Public w h (predicted m reach samples behind) = does h (predicted m reach samples behind) w ≡ exec (Calls.predict h m reach samples behind) w
 
--- and `ages::aged`, with whatever it is given, changes clock and ages alone
+-- and `ages::aged` and `uses::with_uses`, with whatever they are given, change clock and ages alone
 pub record Harmless (P : List ℕ) (w : World) : Type 0 where
   pub cores : (h : Header) → Parsed P h → (k : Core) → Public w h k
   pub aged : (a : Carried) → Aged (w .engine .shared .cache) (Ages.aged (w .engine .shared .cache) a)
+  pub uses : (a : Aging) → Aged (w .engine .shared .cache) (Uses.withUses (w .engine .shared .cache) a)
 
 -- in every world of a list, the last one too, with the pack that is read there
 unfoldable pub Throughout : (List ℕ → World → Type 0) → List ℕ → List Call → World → Type 0

@@ -5,7 +5,9 @@
 -- tested before its work, and `Works` has the numbers that the work is refused with. `lines` of proofs/Table proves it.
 --
 -- A function that isn't here refuses nothing, or has the definition of one that is: a view's readers that of `tile` and `geo`, geo's `bearing` that of `angle`,
--- the cache's `settled` that of `loaded` with failure 0 and no bytes. The functions for C have definitions over these (crate terrain).
+-- the cache's `settled` that of `loaded` with failure 0 and no bytes; or it is a core whose refusals are the work's of one that is: `look::got`, `look::found` and
+-- `ages::look_up` the late 12 of `get`, `gather::made` those of `updated`. What the engine makes of 1, 2, 3 and 4 (Working, NoPack) is `Deliver.delivered`, and
+-- which key goes with 5 the core's own answer. The functions for C have definitions over these (crate terrain).
 use Prim.Native.Nat.{ℕ, _+_, max}
 use mathlib.Core.Path.{_≡_}
 use mathlib.Core.Bool.{Bool, true, false, _&&_, _||_, cond}
@@ -329,7 +331,7 @@ pub record Refusals : Type 0 where
       ((r .predicted .cache ≡ Lookups.got c arena (h .tile) (m .tile .key) .cache) × ((r .samples ≡ samples) × (r .behind ≡ behind)))
       ((bs : List ℕ) → l ≡ ready bs → Predict.predictOver at (c .pages .count) h m horizon samples behind
       ≡ Predict.roadOver (plain at) (c .pages .count) (Predict.tripOf h m horizon) m forward (m .tile .key ∷ []) bs samples behind)
-  -- then at each lookup of the walk the late 12 and 5; the heights set before stay
+  -- then at each lookup of the walk the late 12 and 5. Which heights are set by then, and which tiles' ages moved, is the core's definition
   pub predict-works : (c : Cache) (arena : List ℕ) (h : Header) (m : Match.Matched) (horizon : Float) (samples behind : List ℤ) →
       let r = Predict.predictedIn c arena h m horizon samples behind in
       Works (12 ∷ 5 ∷ 6 ∷ 10 ∷ []) (numberOfRoad (r .predicted .answer))

@@ -21,25 +21,32 @@ use Rattle.predict.specs.Meets.{budget, meet, hasMet}
 use Rattle.predict.specs.Ridden.{lastSample}
 use Rattle.predict.specs.Samples.{heightAt, pushFrom}
 use Rattle.predict.specs.Vertex.{passed}
+use Rattle.matcher.specs.declared.Matched.{Matched}
+use Rattle.predict.specs.declared.End.{End}
+use Rattle.predict.specs.declared.Prediction.{Prediction}
 use Rattle.predict.specs.declared.Track.{Track}
 use Rattle.writer.specs.TileWritten.{entriesFrom, entriesBelow}
 use Rattle.writer.specs.PackWritten.{sumOf}
-use Rattle.engine.specs.Publish.{nothingAhead}
+use Rattle.engine.specs.Publish.{nothingAhead, withMatch, withoutMatch}
 use Rattle.engine.specs.declared.Ahead.{Ahead}
 use Rattle.taken_wrongly.specs.Cases.{Cases}
 
 pub cases : Cases
-unfolding Ieee.span Ieee.climb Ieee.size Ieee.odd Ieee.units Ieee.round Ieee.neg Ieee.sum Ieee.add Ieee.sub Ieee.mul Ieee.div Ieee.lt Ieee.eq Ieee.le Ieee.isNan Ieee.ofInt Ieee.toUnsigned Ieee.toSigned Ieee.ofFields Ieee.ofBits upTo age leastOf bestOf dearestOf insert pickStep pickTo push decide Loads.chunkStep Loads.readied Loads.moved touched lowest hasMet meet lastSample heightAt pushFrom passed nothingAhead entriesFrom entriesBelow sumOf
+unfolding Ieee.span Ieee.climb Ieee.size Ieee.odd Ieee.units Ieee.round Ieee.neg Ieee.sum Ieee.add Ieee.sub Ieee.mul Ieee.div Ieee.lt Ieee.eq Ieee.le Ieee.isNan Ieee.ofInt Ieee.toUnsigned Ieee.toSigned Ieee.ofFields Ieee.ofBits upTo age leastOf bestOf dearestOf insert pickStep pickTo push decide Loads.chunkStep Loads.readied Loads.moved Loads.further Loads.forgot Loads.dropped touched lowest hasMet meet lastSample heightAt pushFrom passed nothingAhead withMatch withoutMatch entriesFrom entriesBelow sumOf
 cases = record {
   lowest-start = refl;
   equal-costs-fork = λ (confidence : Float). refl;
   as-dear-dropped = refl;
   low-bits-kept = refl;
-  chunk-leaves-more = λ (c : Cache) (l : Loading) (arena : List ℕ) (size : ℕ) (bs : List ℕ) e. rw e;
+  others-clamped = refl;
+  chunk-leaves-more = λ (c : Cache) (l : Loading) (arena : List ℕ) (size : ℕ) (bs : List ℕ) e. rw e (refl, (refl, (refl, refl)));
   first-tile-fits = λ (count : ℕ) (key : TileKey). rw (le-leb 1 (budget count) (le-max-left 1 (count - 12)));
   road-rises = λ (t : Track) e. rw e;
   loads-by-one = λ (c : Cache) (l : Loading). refl;
+  no-load-missing = λ (c : Cache) (key : TileKey). refl;
   generation-by-one = λ (a : Ahead). refl;
+  generation-published = λ (a : Ahead) (at : ℕ) (m : Matched) (p : Prediction). refl;
+  generation-emptied = λ (a : Ahead) (at : ℕ) (end : End). refl;
   start-before-end = refl;
   second-place = refl;
   total-at-the-end = refl;
