@@ -51,4 +51,10 @@ cases = record {
   second-place = refl;
   total-at-the-end = refl;
   total-at-the-data = refl;
+  y-before-x = refl;
+  then-x = refl;
+  equal-allowed = refl;
+  rounded-down = refl;
+  rounded-below-zero = refl;
+  half-away = refl;
 }

@@ -1,4 +1,4 @@
--- Document 01, "Easily taken wrongly", of "These fail" the programs that answer otherwise in one place, and what request 1 of document 02 fixes of orders and totals: each as a case of the
+-- Document 01, "Easily taken wrongly", of "These fail" the programs that answer otherwise in one place, and what requests 1, 3 and 7 of document 02 fix of orders, totals and rounding: each as a case of the
 -- definitions in which the wrong answer shows. The rest of both lists stands elsewhere: `from_e7` and `key` in the bench lines, engines that are always Working, always NoPack or hand the state
 -- back in `new-steps` of engine_states, and a whole road, computed, which is neither flat nor Memory, in `finished` of direct_witness.
 use Prim.Native.Nat.{ℕ, _+_, _%_, _^_}
@@ -10,6 +10,9 @@ use lib.IntN.{ℤ, pos, negsuc}
 use lib.Ieee.{Float}
 use lib.ListN.{replicate, getD}
 use Rattle.pack.specs.declared.TileKey.{TileKey}
+use Rattle.profile_text.specs.Text.{wholeMetres}
+use Rattle.tile.specs.Order.{isBelow}
+use Rattle.tile.specs.declared.Node.{Node}
 use Rattle.geo.specs.Flat.{whole}
 use Rattle.cache.specs.Runs.{emptySlot}
 use Rattle.cache.specs.Victim.{victim}
@@ -85,6 +88,10 @@ atStart = record { len = 1; distance = whole 0; z = pos 0 }
 abbrev gridOf : ℕ → ℕ → List ℕ → GivenPack
 gridOf rows cols lengths = PackWritten.given (pos 0) (pos 0) 1000 rows cols [] lengths
 
+-- a node at x, y
+abbrev nodeAt : ℕ → ℕ → Node
+nodeAt x y = record { x = x; y = y; z = 0 }
+
 pub record Cases : Type 0 where
   -- "Last of equal maxima over a reversed range is the lowest start."
   pub lowest-start : victim fourEmpty 1 ≡ Found.At 0
@@ -116,3 +123,11 @@ pub record Cases : Type 0 where
   -- "total where the last ends or, with none, at the data"
   pub total-at-the-end : total (gridOf 1 1 (40 ∷ [])) ≡ 560
   pub total-at-the-data : total (gridOf 1 1 []) ≡ 520
+  -- Requests 1 and 7, "in order of y, then x, equal ones allowed"
+  pub y-before-x : isBelow (nodeAt 0 1) (nodeAt 1 0) ≡ false
+  pub then-x : isBelow (nodeAt 0 1) (nodeAt 1 1) ≡ true
+  pub equal-allowed : isBelow (nodeAt 1 1) (nodeAt 1 1) ≡ false
+  -- Request 3, "rounded to nearest, halves away from zero": 14, -6 and 25 decimetres
+  pub rounded-down : wholeMetres (pos 14) ≡ pos 1
+  pub rounded-below-zero : wholeMetres (negsuc 5) ≡ negsuc 0
+  pub half-away : wholeMetres (pos 25) ≡ pos 3
