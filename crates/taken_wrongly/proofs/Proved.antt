@@ -37,6 +37,7 @@ cases = record {
   lowest-start = refl;
   equal-costs-fork = λ (confidence : Float). refl;
   as-dear-dropped = refl;
+  cheaper-kept = refl;
   low-bits-kept = refl;
   others-clamped = refl;
   chunk-leaves-more = λ (c : Cache) (l : Loading) (arena : List ℕ) (size : ℕ) (bs : List ℕ) e. rw e (refl, (refl, (refl, refl)));

@@ -99,6 +99,8 @@ pub record Cases : Type 0 where
   pub equal-costs-fork : (confidence : Float) → decide (push (push noChoices (choiceOf 3)) (choiceOf 3)) false confidence .ending ≡ Ending.Stops Ends.Fork
   -- "Once eight are kept, a candidate as dear as the worst of them is dropped."
   pub as-dear-dropped : insert eight ninth ≡ eight
+  -- and a cheaper one takes the place of the last of the dearest
+  pub cheaper-kept : getD (insert eight (candidateOf 4) .v) 7 noCandidate ≡ candidateOf 4
   -- "The extra last sample of `ridden` keeps the low 16 bits; others are clamped.": 40,000 is -25,536 there, and 32,767 elsewhere
   pub low-bits-kept : getD (lastSample rideUp (replicate 11 (pos 0)) .heights) 1 (pos 0) ≡ negsuc 25535
   pub others-clamped : heightAt atStart (whole 20) (whole 20) (pos 40000) ≡ pos 32767
