@@ -22,5 +22,7 @@ pub mod LookLaws
 pub mod StepLaws
 pub mod FromLaws
 pub mod UnreadLaws
--- Laws of the lookups of one call, for callers to cite. ReaderLaws: what is carried stands for the keys found.
+-- Laws of the lookups of one call, for callers to cite. LooksLaws: what stands at each place of the numbers that are carried. ReaderLaws: they
+-- stand for the cache and the keys found.
+pub mod LooksLaws
 pub mod ReaderLaws

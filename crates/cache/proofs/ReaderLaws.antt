@@ -1,16 +1,17 @@
--- What the code carries stands for the keys found: before the first lookup (`stands-start`) and after each tile found (`stands-found`). While
--- it does, a lookup answers as the look at the cache given (`stands-at`), and a run that was answered lies in the arena (`found-length`).
--- The idea: a slot is one key's, so that a mark spares only a check that would pass.
-use Prim.Native.Nat.{ℕ, zero, suc, _+_, _*_, _≤_}
+-- The numbers that the code carries stand for the cache and the keys found: before the first lookup (`stands-start`) and after each tile found
+-- (`stands-found`). While they do, a lookup answers as the look at the cache given (`stands-at`).
+-- The idea: row + 1 and column tell a key, so that a lookup by the numbers lands where one by the cache does; and a slot is one key's, so that a
+-- mark spares only a check that would pass.
+use Prim.Native.Nat.{ℕ, _+_, _*_, _<_, _≤_, min}
 use mathlib.Core.Path.{_≡_, refl, sym, ap, _∙_}
-use mathlib.Core.Bool.{Bool, true, false, cond, true≢false}
+use mathlib.Core.Bool.{Bool, true, false, _&&_, cond, true≢false}
 use mathlib.Core.List.{List, [], _∷_, _++_}
 use mathlib.Core.Logic.{⊎-elim}
 use native.Mathlib.Omega.{arith}
-use borrow.Author.Tests.{le-leb, eqb-true}
-use lib.Dec.{eqb}
-use lib.ListN.{length, drop, getD, replicate, length-drop}
-use lib.Seq.{length-take-le, getD-set-other}
+use borrow.Author.Tests.{le-leb, lt-leb, lt-ltb, eqb-true}
+use lib.Dec.{eqb, ltb}
+use lib.ListN.{length, getD, set, replicate, length-set, length-replicate, getD-replicate, List·getD-eq-default}
+use lib.Seq.{getD-set-same, getD-set-other}
 use Rattle.pack.specs.declared.TileKey.{TileKey}
 use Rattle.pack.proofs.Laws.{and-left, and-right}
 use Rattle.cache.specs.declared.Slot.{Slot}
@@ -18,20 +19,59 @@ use Rattle.cache.specs.declared.MaybeKey.{MaybeKey}
 use Rattle.cache.specs.declared.MaybeKey.the-variants as MaybeKey
 use Rattle.cache.specs.declared.victim.Found.{Found}
 use Rattle.cache.specs.declared.victim.Found.the-variants as Found
-use Rattle.cache.specs.Runs.{slotAt}
-use Rattle.cache.proofs.Below.{same-or}
 use Rattle.cache.specs.declared.Cache.{Cache}
 use Rattle.cache.specs.declared.Lookup.the-variants as Lookup
 use Rattle.cache.specs.declared.look.Landing.{Landing}
 use Rattle.cache.specs.declared.look.Landing.the-variants as Landing
-use Rattle.cache.specs.Keys.{sameKey, holds, inRing, isReady, readyAt}
+use Rattle.cache.specs.Runs.{emptySlot, slotAt}
+use Rattle.cache.specs.Search.{lowest, isFound}
+use Rattle.cache.specs.Keys as Keys
+use Rattle.cache.specs.Keys.{sameKey, holds, keyAt, isReady, readyAt}
 use Rattle.cache.specs.Lookups.{landedOn, landsOn, runBytes, passes, lenAt, touched, got}
 use Rattle.cache.specs.Direct.{ready, stale, lookAt, look, looked}
-use Rattle.cache.proofs.SearchLaws.{lowest-at}
+use Rattle.cache.proofs.Below.{same-or, below-or}
+use Rattle.cache.proofs.SearchLaws.{lowest-at, lowest-same, lowest-end}
 use Rattle.cache.proofs.LookLaws.{looked-more, got-touched, passes-inside}
-use Rattle.cache.specs.declared.Carried.{Carried}
-use Rattle.cache.specs.Ages.{carriedOf, aged, inside, known, marked, hitReady, hitAt, lookUp, bytesOf}
-use Rattle.cache.specs.Reader.{inBytes, inCache, Sound, Stands}
+use Rattle.cache.specs.Ages.{
+  pagesIn,
+  ringIn,
+  most,
+  lookupsOf,
+  agesTo,
+  aged,
+  isKeyAt,
+  inRing,
+  orPast,
+  pageOf,
+  inside,
+  known,
+  marked,
+  Hit,
+  hitRun,
+  hitPage,
+  lookUp,
+  bytesOf,
+}
+use Rattle.cache.specs.Reader.{inBytes, inLooks, Sized, Read, Sound, Stands}
+use Rattle.cache.proofs.LooksLaws.{
+  key-tells,
+  ready-tells,
+  pages-length,
+  pages-marks,
+  pages-age,
+  pages-row,
+  pages-col,
+  pages-len,
+  ring-length,
+  ring-below,
+  ring-row,
+  ring-col,
+  ages-are,
+  marked-length,
+  marked-other,
+  marked-clock,
+  marked-ages,
+}
 
 -- ---- a slot is one key's
 
@@ -53,7 +93,7 @@ slot-key s a b p q = one-key (s .key) a b (and-right (s .ready) _ p) (and-right 
 lands-ready : (c : Cache) (key : TileKey) (i : ℕ) → landsOn c key ≡ Landing.At i → isReady key (slotAt (c .pages .slots) i) ≡ true
 unfolding landsOn readyAt
 lands-ready c key i e =
-    lowest-at (λ (j : ℕ). isReady key (slotAt (c .pages .slots) j)) (c .pages .count) i (by (inRing (c .missing) key) (readyAt (c .pages) key) e) .1
+    lowest-at (λ (j : ℕ). isReady key (slotAt (c .pages .slots) j)) (c .pages .count) i (by (Keys.inRing (c .missing) key) (readyAt (c .pages) key) e) .1
   where
     by : (t : Bool) (x : Found) → cond t Landing.Missing (landedOn x) ≡ Landing.At i → x ≡ Found.At i
     by true x e = let z : _≡_ {A = ℕ} 0 1 = cc in absurd (omega arith)
@@ -63,45 +103,198 @@ lands-ready c key i e =
 lands-key : (c : Cache) (a b : TileKey) (i : ℕ) → landsOn c a ≡ Landing.At i → landsOn c b ≡ Landing.At i → a ≡ b
 lands-key c a b i p q = slot-key (slotAt (c .pages .slots) i) a b (lands-ready c a i p) (lands-ready c b i q)
 
+-- past the last of the 96 pages stands the empty slot, which is not ready
+module _ (c : Cache) (sized : Sized c) (key : TileKey) where
+  past : (i : ℕ) → 96 ≤ i → isReady key (slotAt (c .pages .slots) i) ≡ false
+  unfolding isReady
+  past i h = rw (List·getD-eq-default (c .pages .slots) emptySlot {n = i} (omega (arith, sized .slots, h)))
+
+  ready-below : (i : ℕ) → isReady key (slotAt (c .pages .slots) i) ≡ true → i < 96
+  ready-below i e = ⊎-elim (λ (h : i < 96). h) (λ (h : 96 ≤ i). absurd (true≢false (sym e ∙ past i h))) (below-or i 96)
+
+  found-below : (i : ℕ) → readyAt (c .pages) key ≡ Found.At i → i < 96
+  unfolding readyAt
+  found-below i e = ready-below i (lowest-at (λ (j : ℕ). isReady key (slotAt (c .pages .slots) j)) (c .pages .count) i e .1)
+
+  lands-below : (i : ℕ) → landsOn c key ≡ Landing.At i → i < 96
+  lands-below i l = ready-below i (lands-ready c key i l)
+
 -- ---- before the first lookup
 
-no-mark : (n i : ℕ) → getD (replicate n false) i false ≡ false
-no-mark zero i = refl
-no-mark (suc n) zero = refl
-no-mark (suc n) (suc i) = no-mark n i
+module _ (c : Cache) (none : List ℕ) (size : length none ≡ 610) (zeros : (i : ℕ) → i < 610 → getD none i 0 ≡ 0) where
+  abbrev paged : List ℕ
+  paged = pagesIn none (c .pages) 96
 
-pub stands-start : (c : Cache) (arena : List ℕ) (size : ℕ) → Stands c arena size (carriedOf c) []
-unfolding aged looked
-stands-start c arena size = record {
-  sound = λ (i : ℕ) (key : TileKey) (e : getD (replicate 96 false) i false ≡ true) (l : landsOn c key ≡ Landing.At i).
-      absurd (true≢false (sym e ∙ no-mark 96 i));
-  same = refl;
-}
+  abbrev ringed : List ℕ
+  ringed = ringIn paged (c .missing) 64
+
+  abbrev timed : List ℕ
+  timed = set ringed 608 (c .pages .clock)
+
+  abbrev taken : List ℕ
+  taken = set timed 609 (most (c .pages .count))
+
+  size-paged : length paged ≡ 610
+  size-paged = pages-length none (c .pages) 96 ∙ size
+
+  size-ringed : length ringed ≡ 610
+  size-ringed = ring-length paged (c .missing) 64 ∙ size-paged
+
+  size-timed : length timed ≡ 610
+  size-timed = length-set ringed 608 (c .pages .clock) ∙ size-ringed
+
+  taken-low : (j : ℕ) → j < 608 → getD taken j 0 ≡ getD ringed j 0
+  taken-low j h =
+      getD-set-other timed 609 j (most (c .pages .count)) 0 (λ (e : j ≡ 609). omega (arith, e, h))
+      ∙ getD-set-other ringed 608 j (c .pages .clock) 0 (λ (e : j ≡ 608). omega (arith, e, h))
+
+  taken-page : (j : ℕ) → j < 480 → getD taken j 0 ≡ getD paged j 0
+  taken-page j h = taken-low j (omega (arith, h)) ∙ ring-below paged (c .missing) 64 j h
+
+  read-taken : Read c taken
+  read-taken = record {
+    size = length-set timed 609 (most (c .pages .count)) ∙ size-timed;
+    rows = λ (i : ℕ) (h : i < 96). taken-page (192 + i) (omega (arith, h)) ∙ pages-row none (c .pages) size 96 i (omega arith) h;
+    cols = λ (i : ℕ) (h : i < 96). taken-page (288 + i) (omega (arith, h)) ∙ pages-col none (c .pages) size 96 i (omega arith) h;
+    lens = λ (i : ℕ) (h : i < 96). taken-page (384 + i) (omega (arith, h)) ∙ pages-len none (c .pages) size 96 i (omega arith) h;
+    ringRows = λ (i : ℕ) (h : i < 64). taken-low (480 + i) (omega (arith, h)) ∙ ring-row paged (c .missing) size-paged 64 i (omega arith) h;
+    ringCols = λ (i : ℕ) (h : i < 64). taken-low (544 + i) (omega (arith, h)) ∙ ring-col paged (c .missing) size-paged 64 i (omega arith) h;
+    count = getD-set-same timed 609 (most (c .pages .count)) 0 (omega (arith, size-timed));
+  }
+
+  -- no run is marked
+  taken-mark : (i : ℕ) → i < 96 → getD taken (96 + i) 0 ≡ 0
+  taken-mark i h =
+      taken-page (96 + i) (omega (arith, h))
+      ∙ (pages-marks none (c .pages) 96 (96 + i) (omega arith) (omega arith) (omega (arith, h)) ∙ zeros (96 + i) (omega (arith, h)))
+
+  taken-clock : getD taken 608 0 ≡ c .pages .clock
+  taken-clock =
+      getD-set-other timed 609 608 (most (c .pages .count)) 0 (λ (e : 608 ≡ 609). omega (arith, e))
+      ∙ getD-set-same ringed 608 (c .pages .clock) 0 (omega (arith, size-ringed))
+
+  taken-ages : length (c .pages .used) ≡ 96 → agesTo taken 96 ≡ c .pages .used
+  taken-ages u =
+      ages-are taken (c .pages .used) u
+      (λ (i : ℕ) (h : i < 96). taken-page i (omega (arith, h)) ∙ pages-age none (c .pages) size 96 i (omega arith) h)
+
+  stands-taken : (arena : List ℕ) (cell : ℕ) → Sized c → Stands c arena cell taken []
+  unfolding aged looked
+  stands-taken arena cell sized = record {
+    sized = sized;
+    read = read-taken;
+    sound = λ (i : ℕ) (key : TileKey) (h : i < 96) (e : getD taken (96 + i) 0 ≡ 1) (l : landsOn c key ≡ Landing.At i).
+        absurd (omega (arith, e, taken-mark i h));
+    same = rw (taken-ages (sized .used), taken-clock);
+  }
+
+pub stands-start : (c : Cache) (arena : List ℕ) (size : ℕ) → Sized c → Stands c arena size (lookupsOf c) []
+unfolding lookupsOf
+stands-start c arena size sized =
+    stands-taken c (replicate 610 0) (length-replicate {A = ℕ} 610 0) (λ (i : ℕ) (h : i < 610). getD-replicate {A = ℕ} 610 i 0 0 h) arena size sized
+
+-- ---- by the numbers a lookup lands where it does by the cache
+
+module _ (c : Cache) (sized : Sized c) (looks : List ℕ) (read : Read c looks) (key : TileKey) where
+  same-ring : inRing looks key ≡ Keys.inRing (c .missing) key
+  unfolding inRing Keys.inRing
+  same-ring =
+      ap isFound
+      (lowest-same (λ (i : ℕ). isKeyAt looks (480 + i) (544 + i) key) (λ (i : ℕ). holds (keyAt (c .missing) i) key) 64
+      (λ (i : ℕ) (h : i < 64). rw (read .ringRows i h, read .ringCols i h) (key-tells (keyAt (c .missing) i) key)))
+
+  abbrev byCache : ℕ → Bool
+  byCache i = isReady key (slotAt (c .pages .slots) i)
+
+  abbrev byNumbers : ℕ → Bool
+  byNumbers i = ltb i 96 && isKeyAt looks (192 + i) (288 + i) key
+
+  same-below : (n : ℕ) → n ≤ 96 → lowest byNumbers n ≡ lowest byCache n
+  same-below n m =
+      lowest-same byNumbers byCache n
+      (λ (i : ℕ) (h : i < n).
+      let k : i < 96 = omega (arith, h, m) in
+      rw (lt-ltb i 96 k, read .rows i k, read .cols i k) (ready-tells (slotAt (c .pages .slots) i) key))
+
+  same-found : lowest byNumbers (getD looks 609 0) ≡ readyAt (c .pages) key
+  unfolding readyAt
+  same-found =
+      rw (read .count)
+      (same-below (min (c .pages .count) 96) (omega arith)
+      ∙ ⊎-elim
+      (λ (h : c .pages .count < 96). let e : min (c .pages .count) 96 ≡ c .pages .count = omega (arith, h) in ap (lowest byCache) e)
+      (λ (h : 96 ≤ c .pages .count).
+      let e : min (c .pages .count) 96 ≡ 96 = omega (arith, h) in
+      ap (lowest byCache) e ∙ sym (lowest-end byCache 96 (c .pages .count) h (λ (k : ℕ) (m : 96 ≤ k). past c sized key k m)))
+      (below-or (c .pages .count) 96))
+
+  same-page : pageOf looks key ≡ orPast (readyAt (c .pages) key)
+  unfolding pageOf
+  same-page = ap orPast same-found
+
+-- what a lookup answers by what it lands on
+abbrev hitAt : Landing → List ℕ → List ℕ → ℕ → TileKey → Hit
+hitAt Landing.Missing looks arena size key = record { answer = Lookup.Missing; looks = looks }
+hitAt Landing.Nothing looks arena size key = record { answer = Lookup.Absent; looks = looks }
+hitAt (Landing.At i) looks arena size key = hitRun (known looks arena i (getD looks (384 + i) 0) key size) looks i
+
+module _ (c : Cache) (sized : Sized c) (looks : List ℕ) (read : Read c looks) (arena : List ℕ) (size : ℕ) (key : TileKey) where
+  hit-lands : lookUp looks arena size key ≡ hitAt (landsOn c key) looks arena size key
+  unfolding lookUp landsOn
+  hit-lands =
+      rw (same-ring c sized looks read key, same-page c sized looks read key) (by (Keys.inRing (c .missing) key) (readyAt (c .pages) key) refl)
+    where
+      by : (t : Bool) (x : Found) → readyAt (c .pages) key ≡ x
+          → cond t (record { answer = Lookup.Missing; looks = looks }) (hitPage looks arena size key (orPast x))
+          ≡ hitAt (cond t Landing.Missing (landedOn x)) looks arena size key
+      by true x e = refl
+      by false (Found.At i) e = rw (lt-leb 96 i (found-below c sized key i e))
+      by false Found.Nothing e = refl
 
 -- ---- a lookup changes clock, ages and marks alone
 
-aged-lands : (c : Cache) (a : Carried) (key : TileKey) → landsOn (aged c a) key ≡ landsOn c key
+aged-lands : (c : Cache) (looks : List ℕ) (key : TileKey) → landsOn (aged c looks) key ≡ landsOn c key
 unfolding landsOn readyAt aged
-aged-lands c a key = refl
+aged-lands c looks key = refl
 
-aged-len : (c : Cache) (a : Carried) (i : ℕ) → lenAt (aged c a) i ≡ lenAt c i
+aged-len : (c : Cache) (looks : List ℕ) (i : ℕ) → lenAt (aged c looks) i ≡ lenAt c i
 unfolding aged
-aged-len c a i = refl
+aged-len c looks i = refl
 
-aged-touched : (c : Cache) (a : Carried) (i : ℕ) → touched (aged c a) i ≡ aged c (marked a i)
-unfolding touched aged marked
-aged-touched c a i = refl
+aged-touched : (c : Cache) (looks : List ℕ) (i : ℕ) → i < 96 → length looks ≡ 610 → touched (aged c looks) i ≡ aged c (marked looks i)
+unfolding touched aged
+aged-touched c looks i h size = rw (marked-ages looks i h size, marked-clock looks i h size)
 
-module _ (c : Cache) (arena : List ℕ) (size : ℕ) (a : Carried) (keys : List TileKey) (stands : Stands c arena size a keys) where
+read-marked : (c : Cache) (looks : List ℕ) (i : ℕ) → i < 96 → Read c looks → Read c (marked looks i)
+read-marked c looks i h read = record {
+  size = marked-length looks i ∙ read .size;
+  rows = λ (j : ℕ) (k : j < 96). kept (192 + j) (omega arith) (omega (arith, k)) ∙ read .rows j k;
+  cols = λ (j : ℕ) (k : j < 96). kept (288 + j) (omega arith) (omega (arith, k)) ∙ read .cols j k;
+  lens = λ (j : ℕ) (k : j < 96). kept (384 + j) (omega arith) (omega (arith, k)) ∙ read .lens j k;
+  ringRows = λ (j : ℕ) (k : j < 64). kept (480 + j) (omega arith) (omega (arith, k)) ∙ read .ringRows j k;
+  ringCols = λ (j : ℕ) (k : j < 64). kept (544 + j) (omega arith) (omega (arith, k)) ∙ read .ringCols j k;
+  count =
+      marked-other looks i 609 (λ (e : 609 ≡ 608). omega (arith, e)) (λ (e : 609 ≡ i). omega (arith, e, h)) (λ (e : 609 ≡ 96 + i). omega (arith, e, h))
+      ∙ read .count;
+}
+  where
+    kept : (j : ℕ) → 192 ≤ j → j < 608 → getD (marked looks i) j 0 ≡ getD looks j 0
+    kept j a b =
+        marked-other looks i j (λ (e : j ≡ 608). omega (arith, e, b)) (λ (e : j ≡ i). omega (arith, e, a, h)) (λ (e : j ≡ 96 + i). omega (arith, e, a, h))
+
+module _ (c : Cache) (arena : List ℕ) (size : ℕ) (looks : List ℕ) (keys : List TileKey) (stands : Stands c arena size looks keys) where
   -- a mark that tells the truth changes nothing
   known-passes : (key : TileKey) (i : ℕ) → landsOn c key ≡ Landing.At i
-      → known arena a i (lenAt c i) key size ≡ passes arena i (lenAt c i) key size
-  known-passes key i l = by (getD (a .seen) i false) refl
+      → known looks arena i (getD looks (384 + i) 0) key size ≡ passes arena i (lenAt c i) key size
+  known-passes key i l = rw (stands .read .lens i low) (by (eqb (getD looks (96 + i) 0) 1) refl)
     where
-      by : (t : Bool) → getD (a .seen) i false ≡ t
+      low : i < 96
+      low = lands-below c (stands .sized) key i l
+
+      by : (t : Bool) → eqb (getD looks (96 + i) 0) 1 ≡ t
           → cond t (inside arena i (lenAt c i)) (passes arena i (lenAt c i) key size) ≡ passes arena i (lenAt c i) key size
       by true e =
-          let p : passes arena i (lenAt c i) key size ≡ true = stands .sound i key e l in
+          let p : passes arena i (lenAt c i) key size ≡ true = stands .sound i key low (eqb-true (getD looks (96 + i) 0) 1 e) l in
           le-leb (i * 8192 + lenAt c i) (length arena) (passes-inside arena i (lenAt c i) key size p) ∙ sym p
       by false e = refl
 
@@ -112,74 +305,70 @@ module _ (c : Cache) (arena : List ℕ) (size : ℕ) (a : Carried) (keys : List 
   unfolding bytesOf
   bytes-are key i p = rw (le-leb (i * 8192 + lenAt c i) (length arena) (passes-inside arena i (lenAt c i) key size p))
 
-  pub stands-at : (key : TileKey) → inCache c arena size .at a key ≡ look c arena size key
-  unfolding lookUp look
-  stands-at key = by (landsOn c key) refl
+  pub stands-at : (key : TileKey) → inLooks arena size .at looks key ≡ look c arena size key
+  unfolding look
+  stands-at key = rw (hit-lands c (stands .sized) looks (stands .read) arena size key) (by (landsOn c key) refl)
     where
-      run : (i : ℕ) (ok : Bool) → passes arena i (lenAt c i) key size ≡ ok
-          → inBytes (hitReady ok c a i .answer) arena ≡ cond ok (ready (runBytes arena i (lenAt c i))) stale
-      run i true p = ap ready (bytes-are key i p)
-      run i false p = refl
+      run : (i : ℕ) → i < 96 → (ok : Bool) → passes arena i (lenAt c i) key size ≡ ok
+          → inBytes (hitRun ok looks i .answer) arena ≡ cond ok (ready (runBytes arena i (lenAt c i))) stale
+      run i h true p = rw (stands .read .lens i h) (ap ready (bytes-are key i p))
+      run i h false p = refl
 
-      by : (l : Landing) → landsOn c key ≡ l → inBytes (hitAt l c arena size a key .answer) arena ≡ lookAt l (c .pages .slots) arena size key
+      by : (l : Landing) → landsOn c key ≡ l → inBytes (hitAt l looks arena size key .answer) arena ≡ lookAt l (c .pages .slots) arena size key
       by Landing.Missing l = refl
       by Landing.Nothing l = refl
-      by (Landing.At i) l = rw (known-passes key i l) (run i (passes arena i (lenAt c i) key size) refl)
+      by (Landing.At i) l = rw (known-passes key i l) (run i (lands-below c (stands .sized) key i l) (passes arena i (lenAt c i) key size) refl)
 
   -- ---- a tile found
 
   -- one mark more, on a run that passes for the key that lands on it
   module _ (key : TileKey) (i : ℕ) (l : landsOn c key ≡ Landing.At i) (p : passes arena i (lenAt c i) key size ≡ true) where
-    sound-marked : Sound c arena size (marked a i)
-    unfolding marked
-    sound-marked j k e m =
+    low : i < 96
+    low = lands-below c (stands .sized) key i l
+
+    sound-marked : Sound c arena size (marked looks i)
+    sound-marked j k h e m =
         ⊎-elim
         (λ (q : j ≡ i).
         let n : landsOn c k ≡ Landing.At i = m ∙ ap Landing.At q in
         rw (q, ← lands-key c key k i l n) p)
-        (λ (ne : j ≡ i → ⊥). stands .sound j k (sym (getD-set-other (a .seen) i j true false ne) ∙ e) m)
+        (λ (ne : j ≡ i → ⊥).
+        stands .sound j k h
+        (sym
+        (marked-other looks i (96 + j)
+        (λ (x : 96 + j ≡ 608). omega (arith, x, h))
+        (λ (x : 96 + j ≡ i). omega (arith, x, low))
+        (λ (x : 96 + j ≡ 96 + i). ne (omega (arith, x))))
+        ∙ e)
+        m)
         (same-or j i)
 
-    same-marked : aged c (marked a i) ≡ looked c arena size (keys ++ (key ∷ []))
+    same-marked : aged c (marked looks i) ≡ looked c arena size (keys ++ (key ∷ []))
     same-marked =
-        let got-aged : got (aged c a) arena size key .cache ≡ touched (aged c a) i
-        = got-touched arena size (aged c a) key i (aged-lands c a key ∙ l) (rw (aged-len c a i) p) in
-        rw (looked-more arena size keys c key, ← stands .same, got-aged, aged-touched c a i)
+        let got-aged : got (aged c looks) arena size key .cache ≡ touched (aged c looks) i
+        = got-touched arena size (aged c looks) key i (aged-lands c looks key ∙ l) (rw (aged-len c looks i) p) in
+        rw (looked-more arena size keys c key, ← stands .same, got-aged, aged-touched c looks i low (stands .read .size))
+
+    stands-marked : Stands c arena size (marked looks i) (keys ++ (key ∷ []))
+    stands-marked = record {
+      sized = stands .sized;
+      read = read-marked c looks i low (stands .read);
+      sound = sound-marked;
+      same = same-marked;
+    }
 
   pub stands-found : (key : TileKey) (bs : List ℕ) → look c arena size key ≡ ready bs
-      → Stands c arena size (inCache c arena size .found a key) (keys ++ (key ∷ []))
-  unfolding lookUp look
-  stands-found key bs e = by (landsOn c key) refl e
+      → Stands c arena size (inLooks arena size .found looks key) (keys ++ (key ∷ []))
+  unfolding look
+  stands-found key bs e = rw (hit-lands c (stands .sized) looks (stands .read) arena size key) (by (landsOn c key) refl e)
     where
       run : (i : ℕ) → landsOn c key ≡ Landing.At i → (ok : Bool) → passes arena i (lenAt c i) key size ≡ ok
-          → cond ok (ready (runBytes arena i (lenAt c i))) stale ≡ ready bs → Stands c arena size (hitReady ok c a i .carried) (keys ++ (key ∷ []))
-      run i l true p e = record { sound = sound-marked key i l p; same = same-marked key i l p }
+          → cond ok (ready (runBytes arena i (lenAt c i))) stale ≡ ready bs → Stands c arena size (hitRun ok looks i .looks) (keys ++ (key ∷ []))
+      run i l true p e = stands-marked key i l p
       run i l false p e = let z : _≡_ {A = ℕ} 0 1 = cc in absurd (omega arith)
 
       by : (l : Landing) → landsOn c key ≡ l → lookAt l (c .pages .slots) arena size key ≡ ready bs
-          → Stands c arena size (hitAt l c arena size a key .carried) (keys ++ (key ∷ []))
+          → Stands c arena size (hitAt l looks arena size key .looks) (keys ++ (key ∷ []))
       by Landing.Missing l e = let z : _≡_ {A = ℕ} 0 1 = cc in absurd (omega arith)
       by Landing.Nothing l e = let z : _≡_ {A = ℕ} 0 1 = cc in absurd (omega arith)
       by (Landing.At i) l e = rw (known-passes key i l) (run i l (passes arena i (lenAt c i) key size) refl e)
-
-  run-length : (key : TileKey) (i : ℕ) → passes arena i (lenAt c i) key size ≡ true → length (bytesOf arena i (lenAt c i)) ≡ lenAt c i
-  run-length key i p =
-      let h : i * 8192 + lenAt c i ≤ length arena = passes-inside arena i (lenAt c i) key size p in
-      rw (bytes-are key i p) (length-take-le (lenAt c i) (drop (i * 8192) arena) (rw length-drop (omega (arith, h))))
-
-  pub found-length : (key : TileKey) (first len : ℕ) → lookUp c arena size a key .answer ≡ Lookup.Ready first len → length (bytesOf arena first len) ≡ len
-  unfolding lookUp
-  found-length key first len e = by (landsOn c key) refl e
-    where
-      run : (i : ℕ) (ok : Bool) → passes arena i (lenAt c i) key size ≡ ok → hitReady ok c a i .answer ≡ Lookup.Ready first len
-          → length (bytesOf arena first len) ≡ len
-      run i true p e =
-          let f : i ≡ first = cc in
-          let n : lenAt c i ≡ len = cc in
-          rw (← n, ← f) (run-length key i p)
-      run i false p e = let z : _≡_ {A = ℕ} 0 1 = cc in absurd (omega arith)
-
-      by : (l : Landing) → landsOn c key ≡ l → hitAt l c arena size a key .answer ≡ Lookup.Ready first len → length (bytesOf arena first len) ≡ len
-      by Landing.Missing l e = let z : _≡_ {A = ℕ} 0 1 = cc in absurd (omega arith)
-      by Landing.Nothing l e = let z : _≡_ {A = ℕ} 0 1 = cc in absurd (omega arith)
-      by (Landing.At i) l e = run i (passes arena i (lenAt c i) key size) refl (rw (known-passes key i l) at e)

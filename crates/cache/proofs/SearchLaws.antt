@@ -1,7 +1,7 @@
 -- The lowest number below a bound that has p: the turns of a loop that looks for it, whose invariant is that none was found so far, and
 -- what an answer tells.
 use Prim.Native.Nat.{ℕ, zero, suc, _+_, _<_, _≤_}
-use mathlib.Core.Path.{_≡_, refl, ap, _∙_}
+use mathlib.Core.Path.{_≡_, refl, sym, ap, _∙_}
 use mathlib.Core.Bool.{Bool, true, false, cond}
 use mathlib.Core.Logic.{_⊎_, inl, inr, ⊎-elim}
 use native.Mathlib.Numerals.{add-one}
@@ -22,6 +22,16 @@ found-none : (x : Found) (t : Bool) (n : ℕ) → orElse x (cond t (Found.At n) 
 found-none Found.Nothing false n e = (refl, refl)
 found-none Found.Nothing true n e = let z : _≡_ {A = ℕ} 0 1 = cc in absurd (omega arith)
 found-none (Found.At j) t n e = let z : _≡_ {A = ℕ} 0 1 = cc in absurd (omega arith)
+
+or-nothing : (x : Found) → orElse x Found.Nothing ≡ x
+or-nothing (Found.At i) = refl
+or-nothing Found.Nothing = refl
+
+-- two tests that agree on every number below the bound find the same
+pub lowest-same : (p q : ℕ → Bool) (n : ℕ) → ((i : ℕ) → i < n → p i ≡ q i) → lowest p n ≡ lowest q n
+unfolding lowest
+lowest-same p q zero f = refl
+lowest-same p q (suc n) f = rw (lowest-same p q n (λ (i : ℕ) (h : i < n). f i (omega (arith, h))), f n (omega arith))
 
 module _ (p : ℕ → Bool) where
   -- ---- the turns of a loop
@@ -51,6 +61,16 @@ module _ (p : ℕ → Bool) where
       ⊎-elim
       (λ (q : i ≡ suc n). rw q at e)
       (λ q. rw (lowest-past i n (omega (arith, q)) none e, none n (omega (arith, q))))
+      (same-or i (suc n))
+
+  -- the numbers from i on change nothing where none of them has it
+  pub lowest-end : (i n : ℕ) → i ≤ n → ((k : ℕ) → i ≤ k → p k ≡ false) → lowest p n ≡ lowest p i
+  unfolding lowest
+  lowest-end i zero h none = let q : 0 ≡ i = omega (arith, h) in ap (lowest p) q
+  lowest-end i (suc n) h none =
+      ⊎-elim
+      (λ (q : i ≡ suc n). ap (lowest p) (sym q))
+      (λ q. rw (none n (omega (arith, q, h))) (or-nothing (lowest p n) ∙ lowest-end i n (omega (arith, q, h)) none))
       (same-or i (suc n))
 
   -- ---- what an answer tells

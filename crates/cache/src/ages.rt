@@ -1,44 +1,186 @@
-// The lookups of one call that makes many. The cache stays as it was given; what lookups change, the clock and the ages, is carried beside it,
-// with a mark for each run that was checked: so a call checks each run that it lands on once, and a late 12 gives back the state by itself.
+// The lookups of one call that makes many. What they read and change is taken out of the cache once, as numbers that are lent from lookup to
+// lookup, with a mark for each run that was checked: so no lookup copies the state, a call checks each run that it lands on once, and a late
+// 12 gives back the cache by itself.
 use crate::Cache;
-use crate::Carried;
-use crate::Hit;
 use crate::Lookup;
+use crate::MaybeKey;
 use crate::Pages;
-use crate::Run;
+use crate::Ring;
+use crate::Slot;
 use pack::TileKey;
 ghost use mathlib.Core.Path.{_≡_};
-ghost use mathlib.Core.Bool.{false, cond};
-ghost use Rattle.cache.specs.Runs.{slotAt};
-ghost use Rattle.cache.specs.declared.victim.Found.the-variants as Found;
-ghost use Rattle.cache.specs.Keys as Keys;
+ghost use Prim.Native.Nat.{_<_};
 ghost use Rattle.cache.specs.Ages as Ages;
 
-// Before the first lookup.
-pub fn carried_of(c: Cache) -> Carried
-    ensures { λ r. ⌜ r ≡ Ages.carriedOf c ⌝ }
+// The numbers: at page i its age, at 96 + i 1 where its run was checked; at 192 + i, 288 + i and 384 + i row + 1, column and length of the
+// ready tile there, 0 in place of the row where there is none; from 480 and 544 on row + 1 and column of the ring's keys; at 608 the clock, at
+// 609 how many pages there are.
+pub const LOOKUPS: usize = 610;
+
+// A number of those, as a place or a length.
+fn wide(n: u32) -> usize
+    ensures { λ r. ⌜ r ≡ n ⌝ }
 {
-    let g = c.pages;
-    let used = g.used;
-    let seen = [false; crate::MAX_PAGES];
-    Carried {
-        clock: g.clock,
-        used,
-        seen,
+    n as usize
+}
+
+// ---- before the first lookup
+
+fn row_of(k: MaybeKey) -> u32
+    ensures { λ r. ⌜ r ≡ Ages.rowOf k ⌝ }
+{
+    match k {
+        MaybeKey::Nothing => 0,
+        MaybeKey::Key(key) => (key.row as u32) + 1,
     }
 }
 
+fn col_of(k: MaybeKey) -> u32
+    ensures { λ r. ⌜ r ≡ Ages.colOf k ⌝ }
+{
+    match k {
+        MaybeKey::Nothing => 0,
+        MaybeKey::Key(key) => key.col as u32,
+    }
+}
+
+// The key of the tile that is ready on a page.
+fn ready_key(s: Slot) -> MaybeKey
+    ensures { λ r. ⌜ r ≡ Ages.readyKey s ⌝ }
+{
+    if s.ready {
+        return s.key;
+    }
+    MaybeKey::Nothing
+}
+
+// Page `i`: its age, and the tile that is ready there.
+fn page_in(looks: &mut [u32; LOOKUPS], i: usize, age: u32, s: Slot)
+    requires { ⌜ i < 96 ⌝ }
+    ensures { λ r. ⌜ now (looks .exit) ≡ Ages.pageIn (now (looks .entry)) i age s ⌝ }
+{
+    let k = ready_key(s);
+    looks[i] = age;
+    looks[192 + i] = row_of(k);
+    looks[288 + i] = col_of(k);
+    looks[384 + i] = s.len as u32;
+}
+
+fn pages_in(looks: &mut [u32; LOOKUPS], g: Pages)
+    ensures { λ r. ⌜ now (looks .exit) ≡ Ages.pagesIn (now (looks .entry)) g 96 ⌝ }
+{
+    let mut i = 0;
+    while i < crate::MAX_PAGES {
+        let age = g.used[i];
+        let s = g.slots[i];
+        page_in(looks, i, age, s);
+        i += 1;
+    }
+}
+
+fn ring_in(looks: &mut [u32; LOOKUPS], ring: Ring)
+    ensures { λ r. ⌜ now (looks .exit) ≡ Ages.ringIn (now (looks .entry)) ring 64 ⌝ }
+{
+    let mut i = 0;
+    while i < crate::MISSING {
+        let place = ring.keys[i];
+        let k = place.key;
+        looks[480 + i] = row_of(k);
+        looks[544 + i] = col_of(k);
+        i += 1;
+    }
+}
+
+// How many pages there are, at most 96.
+fn most(count: usize) -> u32
+    ensures { λ r. ⌜ r ≡ Ages.most count ⌝ }
+{
+    if count < crate::MAX_PAGES {
+        return count as u32;
+    }
+    96
+}
+
+// Before the first lookup no run is marked.
+pub fn lookups_of(c: Cache) -> [u32; LOOKUPS]
+    ensures { λ r. ⌜ r ≡ Ages.lookupsOf c ⌝ }
+{
+    let mut looks = [0u32; LOOKUPS];
+    let g = c.pages;
+    pages_in(&mut looks, g);
+    ring_in(&mut looks, c.missing);
+    looks[608] = g.clock;
+    looks[609] = most(g.count);
+    looks
+}
+
+// ---- afterwards
+
+fn ages_from(looks: &[u32; LOOKUPS]) -> [u32; crate::MAX_PAGES]
+    ensures { λ r. ⌜ r ≡ Ages.agesOf (now (looks .entry)) ⌝ }
+{
+    let mut used = [0u32; crate::MAX_PAGES];
+    let mut i = 0;
+    while i < crate::MAX_PAGES {
+        used[i] = looks[i];
+        i += 1;
+    }
+    used
+}
+
 // The cache with the clock and the ages that lookups left.
-pub fn aged(c: Cache, a: Carried) -> Cache
-    ensures { λ r. ⌜ r ≡ Ages.aged c a ⌝ }
+pub fn aged(c: Cache, looks: &[u32; LOOKUPS]) -> Cache
+    ensures { λ r. ⌜ r ≡ Ages.aged c (now (looks .entry)) ⌝ }
 {
     let mut d = c;
     let mut g = d.pages;
-    g.clock = a.clock;
-    let used = a.used;
+    let used = ages_from(looks);
+    g.clock = looks[608];
     g.used = used;
     d.pages = g;
     d
+}
+
+// ---- a lookup
+
+// Whether a key is known missing.
+fn in_ring(looks: &[u32; LOOKUPS], key: TileKey) -> bool
+    ensures { λ r. ⌜ r ≡ Ages.inRing (now (looks .entry)) key ⌝ }
+{
+    let row = (key.row as u32) + 1;
+    let col = key.col as u32;
+    let mut i = 0;
+    while i < crate::MISSING {
+        if looks[480 + i] == row {
+            if looks[544 + i] == col {
+                return true;
+            }
+        }
+        i += 1;
+    }
+    false
+}
+
+// The lowest page on which a tile is ready; 96 where there is none.
+fn page_of(looks: &[u32; LOOKUPS], key: TileKey) -> usize
+    ensures { λ r. ⌜ r ≡ Ages.pageOf (now (looks .entry)) key ⌝ }
+{
+    let row = (key.row as u32) + 1;
+    let col = key.col as u32;
+    let n = wide(looks[609]);
+    let mut i = 0;
+    while i < n {
+        if crate::MAX_PAGES <= i {
+            return crate::MAX_PAGES;
+        }
+        if looks[192 + i] == row {
+            if looks[288 + i] == col {
+                return i;
+            }
+        }
+        i += 1;
+    }
+    crate::MAX_PAGES
 }
 
 // Whether a run lies in the arena.
@@ -51,95 +193,53 @@ fn inside(arena: &[u8], first: usize, len: usize) -> bool
     len <= arena.len() - first * crate::PAGE_BYTES
 }
 
-// Whether a run passes: one that was checked before in this call is not read again.
-fn known(arena: &[u8], a: Carried, first: usize, len: usize, key: TileKey, size: u32) -> bool
-    ensures { λ r. ⌜ r ≡ Ages.known (now (arena .entry)) a first len key size ⌝ }
+// Whether the run from page `i` on passes: one that was checked before in this call is not read again.
+fn known(
+    looks: &[u32; LOOKUPS],
+    arena: &[u8],
+    i: usize,
+    len: usize,
+    key: TileKey,
+    size: u32,
+) -> bool
+    requires { ⌜ i < 96 ⌝ }
+    ensures { λ r. ⌜ r ≡ Ages.known (now (looks .entry)) (now (arena .entry)) i len key size ⌝ }
 {
-    if first < crate::MAX_PAGES {
-        if a.seen[first] {
-            return inside(arena, first, len);
-        }
+    if looks[96 + i] == 1 {
+        return inside(arena, i, len);
     }
-    crate::look::passes(arena, first, len, key, size)
+    crate::look::passes(arena, i, len, key, size)
 }
 
 // The run from page `i` on as the most recently used, and checked.
-fn mark(a: Carried, i: usize) -> Carried
-    ensures { λ r. ⌜ r ≡ Ages.marked a i ⌝ }
+fn mark(looks: &mut [u32; LOOKUPS], i: usize)
+    requires { ⌜ i < 96 ⌝ }
+    ensures { λ r. ⌜ now (looks .exit) ≡ Ages.marked (now (looks .entry)) i ⌝ }
 {
-    let mut d = a;
-    let now = std::num::wrapping_add_u32(d.clock, 1);
-    d.clock = now;
-    if i < crate::MAX_PAGES {
-        d.used[i] = now;
-        d.seen[i] = true;
-    }
-    d
-}
-
-fn no_run() -> Run
-    ensures { λ r. ⌜ r ≡ record { ready = false; at = 96; len = 0 } ⌝ }
-{
-    Run {
-        ready: false,
-        at: crate::MAX_PAGES,
-        len: 0,
-    }
-}
-
-fn ready_run(g: Pages, key: TileKey) -> Run
-    ensures { λ r. ⌜ Keys.readyAt g key ≡ cond (r .ready) (Found.At (r .at)) Found.Nothing ⌝ }
-    ensures { λ r. ⌜ r .len ≡ slotAt (g .slots) (r .at) .len ⌝ }
-{
-    let n = g.count;
-    let mut i = 0;
-    while i < n {
-        if crate::MAX_PAGES <= i {
-            return no_run();
-        }
-        let s = g.slots[i];
-        if crate::keys::is_ready(s, key) {
-            return Run {
-                ready: true,
-                at: i,
-                len: s.len as usize,
-            };
-        }
-        i += 1;
-    }
-    no_run()
+    let age = std::num::wrapping_add_u32(looks[608], 1);
+    looks[608] = age;
+    looks[i] = age;
+    looks[96 + i] = 1;
 }
 
 // A lookup: the ring first, then the lowest ready run.
-pub fn look_up(c: Cache, arena: &[u8], size: u32, a: Carried, key: TileKey) -> Hit
-    ensures { λ r. ⌜ r ≡ Ages.lookUp c (now (arena .entry)) size a key ⌝ }
+pub fn look_up(looks: &mut [u32; LOOKUPS], arena: &[u8], size: u32, key: TileKey) -> Lookup
+    ensures { λ r. ⌜ r ≡ Ages.lookUp (now (looks .entry)) (now (arena .entry)) size key .answer ⌝ }
+    ensures { λ r. ⌜ now (looks .exit) ≡ Ages.lookUp (now (looks .entry)) (now (arena .entry)) size key .looks ⌝ }
 {
-    let ring = c.missing;
-    if crate::keys::in_ring(ring, key) {
-        return Hit {
-            answer: Lookup::Missing,
-            carried: a,
-        };
+    if in_ring(&*looks, key) {
+        return Lookup::Missing;
     }
-    let g = c.pages;
-    let run = ready_run(g, key);
-    if !run.ready {
-        return Hit {
-            answer: Lookup::Absent,
-            carried: a,
-        };
+    let i = page_of(&*looks, key);
+    if crate::MAX_PAGES <= i {
+        return Lookup::Absent;
     }
-    if known(arena, a, run.at, run.len, key, size) {
-        let d = mark(a, run.at);
-        return Hit {
-            answer: Lookup::Ready(run.at, run.len),
-            carried: d,
-        };
+    let len = wide(looks[384 + i]);
+    if known(&*looks, arena, i, len, key, size) {
+        mark(looks, i);
+        return Lookup::Ready(i, len);
     }
-    Hit {
-        answer: Lookup::Refused(12),
-        carried: a,
-    }
+    Lookup::Refused(12)
 }
 
 // The bytes of a run that a lookup answered; none where it lies outside the arena.

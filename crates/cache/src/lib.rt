@@ -251,22 +251,3 @@ pub struct Aging {
     pub clock: u32,
     pub used: [u32; crate::MAX_PAGES],
 }
-
-// The clock, the age of each page, and which runs were checked, by their first page.
-pub struct Carried {
-    pub clock: u32,
-    pub used: [u32; crate::MAX_PAGES],
-    pub seen: [bool; crate::MAX_PAGES],
-}
-
-pub struct Hit {
-    pub answer: Lookup,
-    pub carried: Carried,
-}
-
-// The lowest ready run of a tile, with its length: one search copies the slots once. Past the last page, and of no length, where there is none.
-struct Run {
-    ready: bool,
-    at: usize,
-    len: usize,
-}

@@ -13,7 +13,6 @@ use Rattle.pack.specs.declared.Header.{Header}
 use Rattle.pack.specs.declared.TileKey.{TileKey}
 use Rattle.cache.specs.declared.Cache.{Cache}
 use Rattle.cache.specs.declared.Aging.{Aging}
-use Rattle.cache.specs.declared.Carried.{Carried}
 use Rattle.cache.specs.declared.look.Landing.{Landing}
 use Rattle.cache.specs.declared.look.Landing.the-variants as Landing
 use Rattle.cache.specs.Ages as Ages
@@ -83,7 +82,7 @@ module _ (P : List ℕ) (n : ℕ) (horizon : Float) (w : World) (s : Stays P n h
   unfolding Ages.aged
   harmless = record {
     cores = public-is;
-    aged = λ (a : Carried). record { slots = refl; count = refl; missing = refl; loading = refl; pending = refl; loads = refl };
+    aged = λ (looks : List ℕ). record { slots = refl; count = refl; missing = refl; loading = refl; pending = refl; loads = refl };
     uses = λ (a : Aging). record { slots = refl; count = refl; missing = refl; loading = refl; pending = refl; loads = refl };
   }
 

@@ -27,9 +27,10 @@ use Rattle.predict.specs.declared.ridden.Behind.{Behind}
 use Rattle.predict.specs.Meets.{budget}
 use Rattle.predict.specs.declared.Ending.{Ending}
 use Rattle.predict.specs.declared.Ending.the-variants as Ending
-use Rattle.predict.specs.Walk.{walkOver}
+use Rattle.predict.specs.Walk.{Run, walkOver}
+use Rattle.predict.specs.declared.Track.{Track}
 use Rattle.predict.specs.declared.Walk.{Walk}
-use Rattle.predict.specs.Predict.{legOf, noMark, walkFrom, outcomeBy, roadOver, tileOver, tripOf, startLook, directedOver, forecastOver, predictOver}
+use Rattle.predict.specs.Predict.{legOf, noMark, trackFrom, walkFrom, outcomeBy, roadOver, tileOver, tripOf, startLook, directedOver, forecastOver, predictOver}
 use Rattle.predict.specs.declared.Outcome.{Outcome}
 use Rattle.predict.specs.declared.Outcome.the-variants as Outcome
 
@@ -69,11 +70,11 @@ Started (Outcome.Need key) = Unit
 Started Outcome.Rematch = ⊥
 Started (Outcome.Refused number) = number ≡ 10 → ⊥
 
-outcome-started : (ending : Ending) (w : Walk) (b : Behind) → Started (outcomeBy ending w b)
-outcome-started Ending.Going w b = tt
-outcome-started (Ending.Stops end) w b = tt
-outcome-started (Ending.Need key) w b = tt
-outcome-started Ending.Stale w b = λ e. omega (arith, e)
+outcome-started : (ending : Ending) (w : Walk) (t : Track) (b : Behind) → Started (outcomeBy ending w t b)
+outcome-started Ending.Going w t b = tt
+outcome-started (Ending.Stops end) w t b = tt
+outcome-started (Ending.Need key) w t b = tt
+outcome-started Ending.Stale w t b = λ e. omega (arith, e)
 
 module _ (at : TileKey → Look) (n : ℕ) (h : Header) (m : Matched) (horizon : Float) (samples behind : List ℤ)
     (bs : List ℕ) (within : Within bs m) where
@@ -82,9 +83,9 @@ module _ (at : TileKey → Look) (n : ℕ) (h : Header) (m : Matched) (horizon :
   walked-started trip forward keys =
       let e = Layout.edgeOf bs (m .edge) in
       let first = pushed noMark samples (whole 0) (pos 0) in
-      let from = walkFrom m (legOf (trip .header) m e forward) (place (trip .header) bs e m) (first .mark) in
-      let w : Walk = walkOver (plain at) trip (budget n) from keys (first .heights) .walk in
-      outcome-started (w .ending) w _
+      let t : Track = trackFrom (place (trip .header) bs e m) (first .mark) in
+      let r : Run (List TileKey) = walkOver (plain at) trip (budget n) (walkFrom m (legOf (trip .header) m e forward)) t keys (first .heights) in
+      outcome-started (r .walk .ending) (r .walk) (r .track) _
 
   tile-started : (trip : Trip) (forward : Bool) (keys : List TileKey) → Started (tileOver (plain at) n trip m forward keys bs samples behind .answer)
   tile-started trip forward keys = rw (within-same bs m within, within-ok bs m within) (walked-started trip forward keys)

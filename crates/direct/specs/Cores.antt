@@ -15,7 +15,6 @@ use Rattle.geo.specs.declared.Point.{Point}
 use Rattle.cache.specs.declared.Cache.{Cache}
 use Rattle.cache.specs.Uses as Uses
 use Rattle.cache.specs.declared.Aging.{Aging}
-use Rattle.cache.specs.declared.Carried.{Carried}
 use Rattle.cache.specs.declared.Clearing.the-variants as Clearing
 use Rattle.cache.specs.declared.Lookup.{Lookup}
 use Rattle.cache.specs.declared.Lookup.the-variants as Lookup
@@ -91,7 +90,7 @@ Public w h (predicted m reach samples behind) = does h (predicted m reach sample
 -- and `ages::aged` and `uses::with_uses`, with whatever they are given, change clock and ages alone
 pub record Harmless (P : List ℕ) (w : World) : Type 0 where
   pub cores : (h : Header) → Parsed P h → (k : Core) → Public w h k
-  pub aged : (a : Carried) → Aged (w .engine .shared .cache) (Ages.aged (w .engine .shared .cache) a)
+  pub aged : (looks : List ℕ) → Aged (w .engine .shared .cache) (Ages.aged (w .engine .shared .cache) looks)
   pub uses : (a : Aging) → Aged (w .engine .shared .cache) (Uses.withUses (w .engine .shared .cache) a)
 
 -- in every world of a list, the last one too, with the pack that is read there

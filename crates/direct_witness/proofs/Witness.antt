@@ -253,7 +253,7 @@ matching = tt
 
 -- a road
 unfoldable pub roads : Unit {0}
-unfolding Samples.heightAt Samples.pushFrom Incoming.highest Start.partWay Start.startOk Start.place Ridden.backStep Ridden.backsTo Ridden.backs Ridden.lastSample Ridden.ridden Vertex.nodeAt Vertex.reached Vertex.advanced Vertex.vertices Meets.hasMet Meets.meet Visits.visit Walk.withEnding Walk.moved Walk.reached Walk.throughEdge Walk.along Walk.walkTo Predict.walkFrom Predict.prediction Predict.roadOver Predict.forecastOver Predict.predictedIn
+unfolding Samples.heightAt Samples.pushFrom Incoming.highest Start.partWay Start.startOk Start.place Ridden.backStep Ridden.backsTo Ridden.backs Ridden.lastSample Ridden.ridden Vertex.nodeAt Vertex.reached Vertex.advanced Vertex.vertices Meets.hasMet Meets.meet Visits.visit Walk.withEnding Walk.reached Walk.along Walk.walkTo Predict.trackFrom Predict.walkFrom Predict.prediction Predict.roadOver Predict.forecastOver Predict.predictedIn
 roads = tt
 
 -- the engine

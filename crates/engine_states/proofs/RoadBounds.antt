@@ -60,18 +60,18 @@ use Rattle.predict.specs.declared.ridden.Behind.{Behind}
 use Rattle.predict.specs.Consider.{choiceOf, isWayOn, considerStep, considerTo, consider}
 use Rattle.predict.specs.Cross.{Ways, considerBy, twinLook, twinKey, goingOver, stepOver, crossTo, crossOver}
 use Rattle.predict.specs.Decide.{lowered, decide}
-use Rattle.predict.specs.Meets.{meet, budget}
+use Rattle.predict.specs.Visits.{nothingVisited, visit}
+use Rattle.predict.specs.Meets.{nothingMet, meet, budget}
 use Rattle.predict.specs.declared.Arrival.{Arrival}
 use Rattle.predict.specs.declared.Decision.{Decision}
 use Rattle.predict.specs.declared.End.the-variants as End
 use Rattle.predict.specs.declared.Ending.{Ending}
 use Rattle.predict.specs.declared.Ending.the-variants as Ending
-use Rattle.predict.specs.declared.Visited.{Visited}
-use Rattle.predict.specs.Walk.{withEnding, moved, reached, taken, onRoad, throughEdge, withEntry, entered, isRound, turned, incomingOf, nodeOf}
+use Rattle.predict.specs.Walk.{withEnding, reached, taken, onRoad, withEntry, Onto, entered, isRound, turned, incomingOf, nodeOf}
 use Rattle.predict.specs.Walk.{arrivalOf, nextLook, Run, takenBy, decidedOver, onwardBy, onwardOver, waysOver, crossedOver, goesOn, legOf, along}
-use Rattle.predict.specs.Walk.{driven, edgeLook, edgeStep, walkTo}
+use Rattle.predict.specs.Walk.{stopped, runOf, driven, edgeLook, edgeStep, walkTo}
 use Rattle.predict.specs.declared.Walk.{Walk}
-use Rattle.predict.specs.Predict.{walkFrom, prediction, outcomeBy, outcome, Forecast, tripOf, roadOver, startLook, directedOver, forecastOver}
+use Rattle.predict.specs.Predict.{trackFrom, walkFrom, prediction, outcomeBy, outcome, Forecast, tripOf, roadOver, startLook, directedOver, forecastOver}
 use Rattle.predict.specs.Predict.{predictOver}
 use Rattle.predict.specs.declared.Outcome.{Outcome}
 use Rattle.predict.specs.declared.Outcome.the-variants as Outcome
@@ -214,7 +214,7 @@ module _ (In : TileKey → Type 0) (Never : Type 0) (origin-in : (key : TileKey)
   unfolding push
   push-in c new all in-grid = either-choices (leb 12 (c .len)) c _ all (set-in (c .v) (c .len) new all in-grid)
 
-  consider-in : (c : Choices) (a : Arrival) (v : Visited) (bs : List ℕ) (key : TileKey) (node : ℕ) → ChoicesIn c → In key
+  consider-in : (c : Choices) (a : Arrival) (v : List ℕ) (bs : List ℕ) (key : TileKey) (node : ℕ) → ChoicesIn c → In key
       → ChoicesIn (consider c a v bs key node)
   unfolding consider considerTo considerStep choiceOf
   consider-in c a v bs key node all in-grid =
@@ -224,7 +224,7 @@ module _ (In : TileKey → Type 0) (Never : Type 0) (origin-in : (key : TileKey)
       let entry = Layout.entryOf bs (Layout.adjacencyStart bs node + i) in
       either-choices (isWayOn a v bs key entry) _ d (push-in d (choiceOf a bs key entry) good in-grid) good)
 
-  at-in : (x : Found) (c : Choices) (a : Arrival) (v : Visited) (bs : List ℕ) (key : TileKey) → ChoicesIn c → In key
+  at-in : (x : Found) (c : Choices) (a : Arrival) (v : List ℕ) (bs : List ℕ) (key : TileKey) → ChoicesIn c → In key
       → ChoicesIn (considerBy x c a v bs key)
   at-in (Found.At node) c a v bs key all in-grid = consider-in c a v bs key node all in-grid
   at-in Found.Nothing c a v bs key all in-grid = all
@@ -235,7 +235,7 @@ module _ (In : TileKey → Type 0) (Never : Type 0) (origin-in : (key : TileKey)
     choices : ChoicesIn (x .choices)
     need : NeedIn (x .ending)
 
-  module _ {S : Type 0} (rd : Reader S) (fresh : NotStale rd) (a : Arrival) (checked : Checked (a .header)) (v : Visited) where
+  module _ {S : Type 0} (rd : Reader S) (fresh : NotStale rd) (a : Arrival) (checked : Checked (a .header)) (v : List ℕ) where
     twin-look-in : (l : Look) (x : Ways S) (key : TileKey) (twin : Twin) → (l ≡ stale → Never) → In key → WaysIn x
         → WaysIn (twinLook rd a v l x key twin)
     twin-look-in (ready bs) x key twin never in-grid good =
@@ -312,73 +312,71 @@ module _ (In : TileKey → Type 0) (Never : Type 0) (origin-in : (key : TileKey)
 
   -- ---- at the junction
 
-  -- a walk in the grid that stands where the track is
-  record At (t : Track) (w : Walk) : Type 0 where
+  -- a walk in the grid
+  record WalkIn (w : Walk) : Type 0 where
     grid : In (w .way .tile)
     need : NeedIn (w .ending)
-    track : w .track ≡ t
 
   none-in : In (noChoice .way .tile) → (n i : ℕ) → In (getD (replicate n noChoice) i noChoice .way .tile)
   none-in origin zero i = origin
   none-in origin (suc n) zero = origin
   none-in origin (suc n) (suc i) = none-in origin n i
 
-  module _ (t : Track) where
-    end-at : (w : Walk) (ending : Ending) → At t w → NeedIn ending → At t (withEnding w ending)
-    unfolding withEnding
-    end-at w ending good need = record { grid = good .grid; need = need; track = good .track }
+  end-in : (w : Walk) (ending : Ending) → WalkIn w → NeedIn ending → WalkIn (withEnding w ending)
+  unfolding withEnding
+  end-in w ending good need = record { grid = good .grid; need = need }
 
-    next-at : (l : Look) (w : Walk) → (l ≡ stale → Never) → At t w → At t (nextLook l w)
-    unfolding onRoad
-    next-at (ready bs) w never good = record { grid = good .grid; need = good .need; track = good .track }
-    next-at missing w never good = end-at w (Ending.Need (w .way .tile)) good (good .grid)
-    next-at absent w never good = end-at w (Ending.Need (w .way .tile)) good (good .grid)
-    next-at stale w never good = end-at w Ending.Stale good (never refl)
+  next-in : (l : Look) (w : Walk) → (l ≡ stale → Never) → WalkIn w → WalkIn (nextLook l w)
+  unfolding onRoad
+  next-in (ready bs) w never good = record { grid = good .grid; need = good .need }
+  next-in missing w never good = end-in w (Ending.Need (w .way .tile)) good (good .grid)
+  next-in absent w never good = end-in w (Ending.Need (w .way .tile)) good (good .grid)
+  next-in stale w never good = end-in w Ending.Stale good (never refl)
 
-    either-at : (b : Bool) (v w : Walk) → At t v → At t w → At t (cond b v w)
-    either-at true v w p q = p
-    either-at false v w p q = q
+  either-walk : (b : Bool) (v w : Walk) → WalkIn v → WalkIn w → WalkIn (cond b v w)
+  either-walk true v w p q = p
+  either-walk false v w p q = q
 
-    turned-at : (w : Walk) (e : Edge) (incoming : Float) → At t w → At t (turned w e incoming)
-    unfolding turned withEntry
-    turned-at w e incoming good =
-        either-at (isRound e) _ _ (record { grid = good .grid; need = good .need; track = good .track })
-        (record { grid = good .grid; need = good .need; track = good .track })
+  turned-in : (w : Walk) (e : Edge) (incoming : Float) → WalkIn w → WalkIn (turned w e incoming)
+  unfolding turned withEntry
+  turned-in w e incoming good =
+      either-walk (isRound e) _ _ (record { grid = good .grid; need = good .need }) (record { grid = good .grid; need = good .need })
 
-    module _ {S : Type 0} (rd : Reader S) (fresh : NotStale rd) where
-      taken-by-at : (ending : Ending) (w : Walk) (s : S) → At t w → At t (takenBy rd ending w s .walk)
-      taken-by-at Ending.Going w s good = next-at (rd .at s (w .way .tile)) w (fresh s (w .way .tile)) good
-      taken-by-at (Ending.Stops end) w s good = good
-      taken-by-at (Ending.Need key) w s good = good
-      taken-by-at Ending.Stale w s good = good
+  module _ {S : Type 0} (rd : Reader S) (fresh : NotStale rd) where
+    taken-by-in : (ending : Ending) (w : Walk) (s : S) → WalkIn w → WalkIn (takenBy rd ending w s .walk)
+    taken-by-in Ending.Going w s good = next-in (rd .at s (w .way .tile)) w (fresh s (w .way .tile)) good
+    taken-by-in (Ending.Stops end) w s good = good
+    taken-by-in (Ending.Need key) w s good = good
+    taken-by-in Ending.Stale w s good = good
 
-      decided-at : (w : Walk) (s : S) (d : Decision) → At t w → DecisionIn d → At t (decidedOver rd w s d .walk)
-      unfolding taken
-      decided-at w s d good by = taken-by-at (d .ending) (taken w d) s (record { grid = by .grid; need = by .need; track = good .track })
+    decided-in : (w : Walk) (s : S) (d : Decision) → WalkIn w → DecisionIn d → WalkIn (decidedOver rd w s d .walk)
+    unfolding taken
+    decided-in w s d good by = taken-by-in (d .ending) (taken w d) s (record { grid = by .grid; need = by .need })
 
-      onward-at : (ending : Ending) (w : Walk) (x : Ways S) → At t w → WaysIn x → NeedIn ending → At t (onwardBy rd ending w x .walk)
-      onward-at Ending.Going w x good ways need =
-          decided-at w (x .carried) _ good (decide-in (x .choices) (x .blocked) (w .confidence) (ways .choices) (origin-in (w .way .tile) (good .grid)))
-      onward-at (Ending.Stops end) w x good ways need = end-at w (Ending.Stops end) good tt
-      onward-at (Ending.Need key) w x good ways need = end-at w (Ending.Need key) good need
-      onward-at Ending.Stale w x good ways need = end-at w Ending.Stale good need
+    onward-in : (ending : Ending) (w : Walk) (x : Ways S) → WalkIn w → WaysIn x → NeedIn ending → WalkIn (onwardBy rd ending w x .walk)
+    onward-in Ending.Going w x good ways need =
+        decided-in w (x .carried) _ good (decide-in (x .choices) (x .blocked) (w .confidence) (ways .choices) (origin-in (w .way .tile) (good .grid)))
+    onward-in (Ending.Stops end) w x good ways need = end-in w (Ending.Stops end) good tt
+    onward-in (Ending.Need key) w x good ways need = end-in w (Ending.Need key) good need
+    onward-in Ending.Stale w x good ways need = end-in w Ending.Stale good need
 
-      onward-of : (w : Walk) (x : Ways S) → At t w → WaysIn x → At t (onwardOver rd w x .walk)
-      onward-of w x good ways = onward-at (x .ending) w x good ways (ways .need)
+    onward-of : (w : Walk) (x : Ways S) → WalkIn w → WaysIn x → WalkIn (onwardOver rd w x .walk)
+    onward-of w x good ways = onward-in (x .ending) w x good ways (ways .need)
 
-      ways-in : (h : Header) → Checked h → (w : Walk) (s : S) (bs : List ℕ) (leg : Leg) (incoming : Float) → At t w
-          → WaysIn (waysOver rd h w s bs leg incoming)
-      ways-in h checked w s bs leg incoming good =
-          cross-in rd fresh (arrivalOf h w incoming) checked (w .visited) s _ _
-          (consider-in noChoices (arrivalOf h w incoming) (w .visited) bs (w .way .tile) (nodeOf leg)
-          (none-in (origin-in (w .way .tile) (good .grid)) 12) (good .grid))
+    ways-in : (h : Header) → Checked h → (v : List ℕ) (w : Walk) (s : S) (bs : List ℕ) (leg : Leg) (incoming : Float) → WalkIn w
+        → WaysIn (waysOver rd h v w s bs leg incoming)
+    ways-in h checked v w s bs leg incoming good =
+        cross-in rd fresh (arrivalOf h w incoming) checked v s _ _
+        (consider-in noChoices (arrivalOf h w incoming) v bs (w .way .tile) (nodeOf leg)
+        (none-in (origin-in (w .way .tile) (good .grid)) 12) (good .grid))
 
-      crossed-at : (h : Header) → Checked h → (w : Walk) (s : S) (bs : List ℕ) (leg : Leg) → At t w → At t (crossedOver rd h w s bs leg .walk)
-      unfolding crossedOver
-      crossed-at h checked w s bs leg good =
-          let incoming = incomingOf w (Layout.headOf bs .«lon_um») in
-          let next : At t (turned w (leg .edge) incoming) = turned-at w (leg .edge) incoming good in
-          onward-of (turned w (leg .edge) incoming) _ next (ways-in h checked (turned w (leg .edge) incoming) s bs leg incoming next)
+    crossed-in : (h : Header) → Checked h → (v : List ℕ) (w : Walk) (t : Track) (s : S) (bs : List ℕ) (leg : Leg) → WalkIn w
+        → WalkIn (crossedOver rd h v w t s bs leg .walk)
+    unfolding crossedOver
+    crossed-in h checked v w t s bs leg good =
+        let incoming = incomingOf t (w .approach) (Layout.headOf bs .«lon_um») in
+        let next : WalkIn (turned w (leg .edge) incoming) = turned-in w (leg .edge) incoming good in
+        onward-of (turned w (leg .edge) incoming) _ next (ways-in h checked v (turned w (leg .edge) incoming) s bs leg incoming next)
 
   -- ---- the walk
 
@@ -386,54 +384,50 @@ module _ (In : TileKey → Type 0) (Never : Type 0) (origin-in : (key : TileKey)
     record RunIn (r : Run S) : Type 0 where
       grid : In (r .walk .way .tile)
       need : NeedIn (r .walk .ending)
-      filled : Filled n (r .walk .track .mark) (r .heights)
-
-    at-run : (t : Track) (w : Walk) (s : S) (hs : List ℤ) → At t w → Filled n (t .mark) hs
-        → RunIn (record { walk = w; carried = s; heights = hs })
-    at-run t w s hs good filled = record { grid = good .grid; need = good .need; filled = rw (good .track) filled }
+      filled : Filled n (r .track .mark) (r .heights)
 
     either-run : (b : Bool) (x y : Run S) → RunIn x → RunIn y → RunIn (cond b x y)
     either-run true x y p q = p
     either-run false x y p q = q
 
-    driven-in : (w : Walk) (s : S) (bs : List ℕ) (hs : List ℤ) → At (w .track) w → Filled n (w .track .mark) hs
-        → RunIn (driven rd trip budget w s bs hs)
-    unfolding along reached moved withEnding
-    driven-in w s bs hs good filled =
-        let a : Along = along trip w bs hs in
+    driven-in : (o : Onto) (t : Track) (s : S) (bs : List ℕ) (hs : List ℤ) → WalkIn (o .walk) → Filled n (t .mark) hs
+        → RunIn (driven rd trip budget o t s bs hs)
+    unfolding along reached withEnding
+    driven-in o t s bs hs good filled =
+        let w : Walk = o .walk in
+        let a : Along = along trip w t bs hs in
         let fills : Filled n (a .track .mark) (a .heights)
-        = to-end-fills n trip (legOf (trip .header) (w .way) bs) bs (Layout.headOf bs .«lon_um») (w .from) (record { track = w .track; heights = hs }) filled in
+        = to-end-fills n trip (legOf (trip .header) (w .way) bs) bs (Layout.headOf bs .«lon_um») (w .from) (record { track = t; heights = hs }) filled in
+        let next = crossed-in rd fresh (trip .header) checked (o .visited) w (a .track) s bs (legOf (trip .header) (w .way) bs) good in
         either-run (a .track .over) _ _ (record { grid = good .grid; need = tt; filled = fills })
-        (at-run (a .track) _ _ (a .heights)
-        (crossed-at (a .track) rd fresh (trip .header) checked (moved w (a .track)) s bs _ (record { grid = good .grid; need = good .need; track = refl })) fills)
+        (record { grid = next .grid; need = next .need; filled = fills })
 
-    entered-at : (w : Walk) (pages : ℕ) → At (w .track) w → At (w .track) (entered w budget pages)
-    unfolding throughEdge
-    entered-at w pages good =
-        either-at (w .track) (meet (w .met) budget (w .way .tile) pages .fits) _ _
-        (record { grid = good .grid; need = good .need; track = good .track })
-        (end-at (w .track) w (Ending.Stops End.Memory) good tt)
+    entered-in : (v m : List ℕ) (w : Walk) (pages : ℕ) → WalkIn w → WalkIn (entered v m w budget pages .walk)
+    entered-in v m w pages good = by (meet m budget (w .way .tile) pages .fits)
+      where
+        by : (t : Bool) → WalkIn (cond t (record { walk = w; visited = visit v (w .way .tile) (w .way .edge); met = meet m budget (w .way .tile) pages .met })
+            (stopped v (meet m budget (w .way .tile) pages .met) w (Ending.Stops End.Memory)) .walk)
+        by true = good
+        by false = end-in w (Ending.Stops End.Memory) good tt
 
-    -- a run whose walk stands in the grid, on its own track
-    run-at : (r : Run S) → RunIn r → At (r .walk .track) (r .walk)
-    run-at r good = record { grid = good .grid; need = good .need; track = refl }
+    walk-of : (r : Run S) → RunIn r → WalkIn (r .walk)
+    walk-of r good = record { grid = good .grid; need = good .need }
+
+    ended-in : (r : Run S) (ending : Ending) → RunIn r → NeedIn ending
+        → RunIn (runOf rd trip budget (stopped (r .visited) (r .met) (r .walk) ending) (r .track) (r .carried) (r .heights))
+    ended-in r ending good need =
+        let w = end-in (r .walk) ending (walk-of r good) need in record { grid = w .grid; need = w .need; filled = good .filled }
 
     look-in : (l : Look) (r : Run S) → (l ≡ stale → Never) → RunIn r → RunIn (edgeLook rd trip budget l r)
     look-in (ready bs) r never good =
-        let w : Walk = r .walk in
-        let next : Walk = entered w budget (span (length bs)) in
-        let s = rd .found (r .carried) (w .way .tile) in
-        let in-tile : At (w .track) next = entered-at w (span (length bs)) (run-at r good) in
-        let filled : Filled n (next .track .mark) (r .heights) = rw (in-tile .track) (good .filled) in
-        either-run (goesOn (next .ending)) _ _
-        (driven-in next s bs (r .heights) (record { grid = in-tile .grid; need = in-tile .need; track = refl }) filled)
-        (record { grid = in-tile .grid; need = in-tile .need; filled = filled })
-    look-in missing r never good =
-        at-run (r .walk .track) _ _ (r .heights) (end-at _ (r .walk) (Ending.Need (r .walk .way .tile)) (run-at r good) (good .grid)) (good .filled)
-    look-in absent r never good =
-        at-run (r .walk .track) _ _ (r .heights) (end-at _ (r .walk) (Ending.Need (r .walk .way .tile)) (run-at r good) (good .grid)) (good .filled)
-    look-in stale r never good =
-        at-run (r .walk .track) _ _ (r .heights) (end-at _ (r .walk) Ending.Stale (run-at r good) (never refl)) (good .filled)
+        let o : Onto = entered (r .visited) (r .met) (r .walk) budget (span (length bs)) in
+        let in-tile : WalkIn (o .walk) = entered-in (r .visited) (r .met) (r .walk) (span (length bs)) (walk-of r good) in
+        either-run (goesOn (o .walk .ending)) _ _
+        (driven-in o (r .track) (rd .found (r .carried) (r .walk .way .tile)) bs (r .heights) in-tile (good .filled))
+        (record { grid = in-tile .grid; need = in-tile .need; filled = good .filled })
+    look-in missing r never good = ended-in r (Ending.Need (r .walk .way .tile)) good (good .grid)
+    look-in absent r never good = ended-in r (Ending.Need (r .walk .way .tile)) good (good .grid)
+    look-in stale r never good = ended-in r Ending.Stale good (never refl)
 
     walk-in : (r : Run S) → RunIn r → (edges : ℕ) → RunIn (walkTo rd trip budget r edges)
     unfolding walkTo
@@ -444,13 +438,13 @@ module _ (In : TileKey → Type 0) (Never : Type 0) (origin-in : (key : TileKey)
 
   -- ---- the road
 
-  outcome-in : (a b : ℕ) (ending : Ending) (w : Walk) (behind : Behind) → NeedIn ending → w .track .mark .len ≤ a → behind .len ≤ b
-      → Ends In Never a b (outcomeBy ending w behind)
+  outcome-in : (a b : ℕ) (ending : Ending) (w : Walk) (t : Track) (behind : Behind) → NeedIn ending → t .mark .len ≤ a → behind .len ≤ b
+      → Ends In Never a b (outcomeBy ending w t behind)
   unfolding prediction
-  outcome-in a b Ending.Going w behind need p q = (p, q)
-  outcome-in a b (Ending.Stops end) w behind need p q = (p, q)
-  outcome-in a b (Ending.Need key) w behind need p q = need
-  outcome-in a b Ending.Stale w behind need p q = λ e. need
+  outcome-in a b Ending.Going w t behind need p q = (p, q)
+  outcome-in a b (Ending.Stops end) w t behind need p q = (p, q)
+  outcome-in a b (Ending.Need key) w t behind need p q = need
+  outcome-in a b Ending.Stale w t behind need p q = λ e. need
 
   module _ {S : Type 0} (rd : Reader S) (fresh : NotStale rd) (n a b : ℕ) (samples behind : List ℤ)
       (ahead-long : length samples ≡ a) (behind-long : length behind ≡ b) where
@@ -459,12 +453,12 @@ module _ (In : TileKey → Type 0) (Never : Type 0) (origin-in : (key : TileKey)
     either-road false x y p q = q
 
     run-road : (trip : Trip) (checked : Checked (trip .header)) (r : Run S) (x : Behind) → RunIn rd fresh trip checked (budget n) a r → x .len ≤ b
-        → Ends In Never a b (outcome (r .walk) x)
-    run-road trip checked r x good few = outcome-in a b (r .walk .ending) (r .walk) x (good .need) (good .filled .most) few
+        → Ends In Never a b (outcome (r .walk) (r .track) x)
+    run-road trip checked r x good few = outcome-in a b (r .walk .ending) (r .walk) (r .track) x (good .need) (good .filled .most) few
 
     road-in : (trip : Trip) → Checked (trip .header) → (m : Matched) (forward : Bool) (s : S) (bs : List ℕ) → In (m .tile .key)
         → Ends In Never a b (roadOver rd n trip m forward s bs samples behind .answer)
-    unfolding roadOver walkFrom
+    unfolding roadOver walkFrom trackFrom
     road-in trip checked m forward s bs in-grid =
         let first = pushed-fills a noMark samples (whole 0) (pos 0) (record { most = omega arith; long = ahead-long }) in
         run-road trip checked _ _ (walk-in rd fresh trip checked (budget n) a _ (record { grid = in-grid; need = tt; filled = first }) 2000)
@@ -532,11 +526,22 @@ road-not-stale at never n h m horizon samples behind e =
 
 -- ---- the tile of each edge
 
+-- a road before its first edge, as `roadOver` begins it
+abbrev pub begunOf : {S : Type 0} → Matched → Leg → Point → S → List ℤ → Run S
+begunOf m leg here s samples = record {
+  walk = walkFrom m leg;
+  track = trackFrom here (pushed noMark samples (whole 0) (pos 0) .mark);
+  visited = nothingVisited;
+  met = nothingMet;
+  carried = s;
+  heights = pushed noMark samples (whole 0) (pos 0) .heights;
+}
+
 -- of a road from a start in the grid, after each of its edges
 pub road-grid : {S : Type 0} (rd : Reader S) (trip : Trip) (room : ℕ) (m : Matched) (leg : Leg) (here : Point) (s : S) (samples : List ℤ)
     → inGrid (trip .header) (leg .key) ≡ true → (n : ℕ)
-    → inGrid (trip .header) (walkTo rd trip room (record { walk = walkFrom m leg here (pushed noMark samples (whole 0) (pos 0) .mark); carried = s; heights = pushed noMark samples (whole 0) (pos 0) .heights }) n .walk .way .tile) ≡ true
-unfolding walkFrom
+    → inGrid (trip .header) (walkTo rd trip room (begunOf m leg here s samples) n .walk .way .tile) ≡ true
+unfolding walkFrom trackFrom
 road-grid rd trip room m leg here s samples in-grid n =
     let h : Header = trip .header in
     let filled = pushed-fills (length samples) noMark samples (whole 0) (pos 0) (record { most = omega arith; long = refl }) in

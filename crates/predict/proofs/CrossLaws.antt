@@ -23,7 +23,6 @@ use Rattle.predict.specs.Twins.{noTwin}
 use Rattle.predict.specs.declared.Arrival.{Arrival}
 use Rattle.predict.specs.declared.Ending.{Ending}
 use Rattle.predict.specs.declared.Ending.the-variants as Ending
-use Rattle.predict.specs.declared.Visited.{Visited}
 use Rattle.predict.specs.Cross.{Ways, considerAt, twinLook, twinKey, goingOver, stepOver, crossTo, crossOver}
 
 -- ---- two readers
@@ -45,7 +44,7 @@ pub record Alike {S T : Type 0} (R : S → T → Type 0) (x : Ways S) (y : Ways 
 module _ {S T : Type 0} (rd : Reader S) (rd' : Reader T) (R : S → T → Type 0)
     (at : (s : S) (t : T) (key : TileKey) → R s t → rd' .at t key ≡ rd .at s key)
     (found : (s : S) (t : T) (key : TileKey) (bs : List ℕ) → R s t → rd .at s key ≡ ready bs → R (rd .found s key) (rd' .found t key))
-    (a : Arrival) (v : Visited)
+    (a : Arrival) (v : List ℕ)
   where
     look-simulates : (l : Look) (x : Ways S) (y : Ways T) (key : TileKey) (twin : Twin) → Alike R x y → rd .at (x .carried) key ≡ l
         → Alike R (twinLook rd a v l x key twin) (twinLook rd' a v l y key twin)
@@ -105,7 +104,7 @@ isSettled (Ending.Stops end) = true
 isSettled (Ending.Need key) = false
 isSettled Ending.Stale = false
 
-module _ (one two : TileKey → Look) (agree : Agree one two) (a : Arrival) (v : Visited) where
+module _ (one two : TileKey → Look) (agree : Agree one two) (a : Arrival) (v : List ℕ) where
   look-agrees : (p q : Look) → (settled p ≡ true → q ≡ p) → (x : Ways (List TileKey)) (key : TileKey) (twin : Twin)
       → isSettled (twinLook (plain one) a v p x key twin .ending) ≡ true
       → twinLook (plain two) a v q x key twin ≡ twinLook (plain one) a v p x key twin

@@ -52,14 +52,11 @@ use Rattle.predict.specs.Vertex.{Along, nodeAt, stepOf, reached, passed,
 use Rattle.predict.specs.declared.End.the-variants as End
 use Rattle.predict.specs.declared.Ending.{Ending}
 use Rattle.predict.specs.declared.Ending.the-variants as Ending
-use Rattle.predict.specs.declared.Met.{Met}
 use Rattle.predict.specs.declared.Walk.{Walk}
 use Rattle.predict.specs.declared.Way.{Way}
 use Rattle.predict.specs.Meets.{meet}
-use Rattle.predict.specs.Cross.{Ways}
-use Rattle.predict.specs.Decide.{decide}
-use Rattle.predict.specs.Walk as Walks
-use Rattle.predict.specs.Walk.{withEnding, moved, taken, onRoad, throughEdge, withEntry, entered, isRound, entryOr, turned, incomingOf, nextLook, Run, takenBy, onwardBy, waysOver, crossedOver, goesOn, legOf, along, crossedRun, driven, edgeLook, edgeStep, walkTo}
+use Rattle.predict.specs.Visits.{visit}
+use Rattle.predict.specs.Walk.{withEnding, Onto, stopped, entered, Run, goesOn, legOf, along, runOf, crossedRun, reachedRun, driven, edgeLook, edgeStep, walkTo}
 use Rattle.predict.specs.Start.{held, less, partWay, between, startOk, place}
 
 -- ---- sums that 32 bits hold
@@ -375,61 +372,15 @@ module _ (trip : Trip) (leg : Leg) (bs : List ℕ) (bytes : (i : ℕ) → getD b
 
 -- ---- along the whole road: at a junction no point is passed
 
-next-track : (l : Look) (w : Walk) → nextLook l w .track ≡ w .track
-unfolding onRoad withEnding
-next-track (ready bs) w = refl
-next-track missing w = refl
-next-track absent w = refl
-next-track stale w = refl
-
-turned-track : (w : Walk) (e : Edge) (incoming : Float) → turned w e incoming .track ≡ w .track
-unfolding turned withEntry
-turned-track w e incoming = by (isRound e)
+entered-way : (v m : List ℕ) (w : Walk) (budget pages : ℕ) → entered v m w budget pages .walk .way ≡ w .way
+unfolding withEnding
+entered-way v m w budget pages = by (meet m budget (w .way .tile) pages .fits) (meet m budget (w .way .tile) pages .met)
   where
-    by : (t : Bool) → cond t (withEntry w (entryOr (w .entry) (w .approach)) (w .approach)) (withEntry w Heading.Nothing incoming) .track ≡ w .track
-    by true = refl
-    by false = refl
-
-entered-track : (w : Walk) (budget pages : ℕ) → (entered w budget pages .track ≡ w .track) × (entered w budget pages .way ≡ w .way)
-unfolding throughEdge withEnding
-entered-track w budget pages = by (meet (w .met) budget (w .way .tile) pages .fits) (meet (w .met) budget (w .way .tile) pages .met)
-  where
-    by : (t : Bool) (met : Met)
-        → (cond t (throughEdge w met) (withEnding w (Ending.Stops End.Memory)) .track ≡ w .track)
-        × (cond t (throughEdge w met) (withEnding w (Ending.Stops End.Memory)) .way ≡ w .way)
-    by true met = (refl, refl)
-    by false met = (refl, refl)
-
-module _ {S : Type 0} (rd : Reader S) where
-  taken-track : (ending : Ending) (w : Walk) (s : S) → takenBy rd ending w s .walk .track ≡ w .track
-  taken-track Ending.Going w s = next-track (rd .at s (w .way .tile)) w
-  taken-track (Ending.Stops end) w s = refl
-  taken-track (Ending.Need key) w s = refl
-  taken-track Ending.Stale w s = refl
-
-  onward-track : (ending : Ending) (w : Walk) (x : Ways S) → onwardBy rd ending w x .walk .track ≡ w .track
-  unfolding taken withEnding
-  onward-track Ending.Going w x =
-      let d = decide (x .choices) (x .blocked) (w .confidence) in taken-track (d .ending) (taken w d) (x .carried)
-  onward-track (Ending.Stops end) w x = refl
-  onward-track (Ending.Need key) w x = refl
-  onward-track Ending.Stale w x = refl
-
-  crossed-track : (h : Header) (w : Walk) (s : S) (bs : List ℕ) (leg : Leg) → crossedOver rd h w s bs leg .walk .track ≡ w .track
-  unfolding crossedOver
-  crossed-track h w s bs leg =
-      let incoming : Float = incomingOf w (Layout.headOf bs .«lon_um») in
-      let t : Walk = turned w (leg .edge) incoming in
-      let x : Ways S = waysOver rd h t s bs leg incoming in
-      onward-track (x .ending) t x ∙ turned-track w (leg .edge) incoming
-
-moved-near : (w : Walk) (t : Track) → AllNear (t .history) → AllNear (moved w t .track .history)
-unfolding moved
-moved-near w t near = near
-
-reached-near : (w : Walk) (t : Track) → AllNear (t .history) → AllNear (Walks.reached w t .track .history)
-unfolding Walks.reached moved withEnding
-reached-near w t near = near
+    by : (t : Bool) (met : List ℕ)
+        → cond t (record { walk = w; visited = visit v (w .way .tile) (w .way .edge); met = met }) (stopped v met w (Ending.Stops End.Memory)) .walk .way
+        ≡ w .way
+    by true met = refl
+    by false met = refl
 
 -- the reader's tiles are bytes
 abbrev pub Octets : {S : Type 0} → Reader S → Type 0
@@ -437,55 +388,45 @@ Octets {S} rd = (s : S) (key : TileKey) (bs : List ℕ) → rd .at s key ≡ rea
 
 module _ {S : Type 0} (rd : Reader S) (octets : Octets rd) (trip : Trip) (budget : ℕ) (ok : rules (trip .header) ≡ true) where
   abbrev RunNear : Run S → Type 0
-  RunNear r = AllNear (r .walk .track .history)
+  RunNear r = AllNear (r .track .history)
 
-  driven-near : (w : Walk) (s : S) (bs : List ℕ) (hs : List ℤ) → ((i : ℕ) → getD bs i 0 < 256) → inGrid (trip .header) (w .way .tile) ≡ true
-      → AllNear (w .track .history) → RunNear (driven rd trip budget w s bs hs)
+  driven-near : (o : Onto) (k : Track) (s : S) (bs : List ℕ) (hs : List ℤ) → ((i : ℕ) → getD bs i 0 < 256)
+      → inGrid (trip .header) (o .walk .way .tile) ≡ true → AllNear (k .history) → RunNear (driven rd trip budget o k s bs hs)
   unfolding along
-  driven-near w s bs hs bytes in-grid near = by (a .track .over)
+  driven-near o k s bs hs bytes in-grid near = by (a .track .over)
     where
       a : Along
-      a = along trip w bs hs
+      a = along trip (o .walk) k bs hs
 
       after : AllNear (a .track .history)
       after =
-          to-end-near trip (legOf (trip .header) (w .way) bs) bs bytes ok in-grid (Layout.headOf bs .«lon_um») (w .from)
-          (record { track = w .track; heights = hs }) near
+          to-end-near trip (legOf (trip .header) (o .walk .way) bs) bs bytes ok in-grid (Layout.headOf bs .«lon_um») (o .walk .from)
+          (record { track = k; heights = hs }) near
 
       by : (t : Bool)
-          → RunNear (cond t (record { walk = Walks.reached w (a .track); carried = s; heights = a .heights })
-          (crossedRun rd trip budget (moved w (a .track)) s bs (a .heights)))
-      by true = reached-near w (a .track) after
-      by false =
-          subst (λ (t : Track). AllNear (t .history))
-          (sym (crossed-track rd (trip .header) (moved w (a .track)) s bs (legOf (trip .header) (moved w (a .track) .way) bs)))
-          (moved-near w (a .track) after)
+          → RunNear (cond t (reachedRun rd trip budget o (a .track) s (a .heights)) (crossedRun rd trip budget o (a .track) s bs (a .heights)))
+      by true = after
+      by false = after
 
   look-near : (l : Look) (r : Run S) → rd .at (r .carried) (r .walk .way .tile) ≡ l → inGrid (trip .header) (r .walk .way .tile) ≡ true
       → RunNear r → RunNear (edgeLook rd trip budget l r)
-  unfolding withEnding
   look-near missing r e in-grid near = near
   look-near absent r e in-grid near = near
   look-near stale r e in-grid near = near
-  look-near (ready bs) r e in-grid near = by (goesOn (w .ending))
+  look-near (ready bs) r e in-grid near = by (goesOn (o .walk .ending))
     where
-      w : Walk
-      w = entered (r .walk) budget (span (length bs))
+      o : Onto
+      o = entered (r .visited) (r .met) (r .walk) budget (span (length bs))
 
       s : S
       s = rd .found (r .carried) (r .walk .way .tile)
 
-      same : (w .track ≡ r .walk .track) × (w .way ≡ r .walk .way)
-      same = entered-track (r .walk) budget (span (length bs))
-
-      here : AllNear (w .track .history)
-      here = subst (λ (t : Track). AllNear (t .history)) (sym (same .0)) near
-
-      by : (t : Bool) → RunNear (cond t (driven rd trip budget w s bs (r .heights)) (record { walk = w; carried = s; heights = r .heights }))
+      by : (t : Bool) → RunNear (cond t (driven rd trip budget o (r .track) s bs (r .heights)) (runOf rd trip budget o (r .track) s (r .heights)))
       by true =
-          driven-near w s bs (r .heights) (octets (r .carried) (r .walk .way .tile) bs e)
-          (subst (λ (x : Way). inGrid (trip .header) (x .tile) ≡ true) (sym (same .1)) in-grid) here
-      by false = here
+          driven-near o (r .track) s bs (r .heights) (octets (r .carried) (r .walk .way .tile) bs e)
+          (subst (λ (x : Way). inGrid (trip .header) (x .tile) ≡ true)
+          (sym (entered-way (r .visited) (r .met) (r .walk) budget (span (length bs)))) in-grid) near
+      by false = near
 
   step-near : (r : Run S) → inGrid (trip .header) (r .walk .way .tile) ≡ true → RunNear r → RunNear (edgeStep rd trip budget r)
   step-near r in-grid near = by (goesOn (r .walk .ending))

@@ -9,51 +9,23 @@ use native.Mathlib.Omega.{arith}
 use lib.IntN.{ℤ}
 use Rattle.tile.specs.Layout as Layout
 use Rattle.tile.specs.declared.Head.{Head}
-use Rattle.cache.specs.declared.Cache.{Cache}
 use Rattle.cache.specs.declared.Lookup.{Lookup}
 use Rattle.cache.specs.declared.Lookup.the-variants as Lookup
 use Rattle.cache.specs.Direct.{Look, ready, missing, absent, stale}
-use Rattle.cache.specs.declared.Carried.{Carried}
-use Rattle.cache.specs.declared.Hit.{Hit}
-use Rattle.cache.specs.Ages.{lookUp, bytesOf}
-use Rattle.cache.specs.Reader.{Reader, inBytes, inCache}
+use Rattle.cache.specs.Ages.{Hit, lookUp, bytesOf}
+use Rattle.cache.specs.Reader.{Reader, inBytes, inLooks}
 use Rattle.predict.specs.declared.outgoing.Leg.{Leg}
 use Rattle.predict.specs.declared.Track.{Track}
 use Rattle.predict.specs.declared.Trip.{Trip}
 use Rattle.predict.specs.Vertex.{Along, advanced, vertices, toEnd}
 use Rattle.predict.proofs.VertexLaws.{vertices-start, vertices-on, vertices-over}
 use Rattle.predict.specs.declared.Walk.{Walk}
-use Rattle.predict.specs.declared.Step.{Step}
-use Rattle.predict.specs.declared.enter.Entered.{Entered}
-use Rattle.predict.specs.Walk.{
-  withEnding,
-  moved,
-  reached,
-  enterLook,
-  carriedBy,
-  Run,
-  goesOn,
-  legOf,
-  along,
-  crossedRun,
-  drivenTo,
-  driven,
-  edgeLook,
-  edgeStep,
-  walkTo,
-  firstOf,
-  lenOf,
-  enteredBy,
-  enter,
-  crossed,
-  followedOf,
-  follow,
-}
+use Rattle.predict.specs.Walk.{withEnding, reached, Onto, enterLook, carriedBy, Stride, Run, goesOn, legOf, along}
+use Rattle.predict.specs.Walk.{runOf, crossedRun, reachedRun, drivenTo, driven, edgeLook, edgeStep, walkTo}
+use Rattle.predict.specs.Walk.{firstOf, lenOf, Entering, enteringOf, enter, crossed, follow, followed}
+use Rattle.predict.specs.declared.Followed.{Followed}
 use Rattle.predict.proofs.Looks.{look-carried}
 use Rattle.predict.proofs.WalkLaws.{walk-turn, walk-stays}
-
-abbrev pub runOf : {S : Type 0} → Walk → S → List ℤ → Run S
-runOf w s hs = record { walk = w; carried = s; heights = hs }
 
 abbrev pub alongOf : Track → List ℤ → Along
 alongOf t hs = record { track = t; heights = hs }
@@ -82,112 +54,132 @@ module _ (trip : Trip) (leg : Leg) (bs : List ℕ) (lonUm from : ℕ) (a : Along
 
 -- ---- an edge, by any reader
 
-module _ {S : Type 0} (rd : Reader S) (trip : Trip) (budget : ℕ) (w : Walk) (s : S) (hs : List ℤ) where
-  look-ended : (l : Look) → goesOn (enterLook l w budget .ending) ≡ false
-      → edgeLook rd trip budget l (runOf w s hs) ≡ runOf (enterLook l w budget) (carriedBy l rd s (w .way .tile)) hs
+module _ {S : Type 0} (rd : Reader S) (trip : Trip) (budget : ℕ) (o : Onto) (k : Track) (s : S) (hs : List ℤ) where
+  look-ended : (l : Look) → goesOn (enterLook l (o .visited) (o .met) (o .walk) budget .walk .ending) ≡ false
+      → edgeLook rd trip budget l (runOf rd trip budget o k s hs)
+      ≡ runOf rd trip budget (enterLook l (o .visited) (o .met) (o .walk) budget) k (carriedBy l rd s (o .walk .way .tile)) hs
   look-ended (ready bs) e = rw e
   look-ended missing e = refl
   look-ended absent e = refl
   look-ended stale e = refl
 
   -- on an edge whose tile was answered in pages
-  look-going : (arena : List ℕ) (l : Lookup) → goesOn (enterLook (inBytes l arena) w budget .ending) ≡ true
-      → edgeLook rd trip budget (inBytes l arena) (runOf w s hs)
-      ≡ driven rd trip budget (enterLook (inBytes l arena) w budget) (rd .found s (w .way .tile)) (bytesOf arena (firstOf l) (lenOf l)) hs
+  look-going : (arena : List ℕ) (l : Lookup) → goesOn (enterLook (inBytes l arena) (o .visited) (o .met) (o .walk) budget .walk .ending) ≡ true
+      → edgeLook rd trip budget (inBytes l arena) (runOf rd trip budget o k s hs)
+      ≡ driven rd trip budget (enterLook (inBytes l arena) (o .visited) (o .met) (o .walk) budget) k (rd .found s (o .walk .way .tile))
+      (bytesOf arena (firstOf l) (lenOf l)) hs
   unfolding withEnding
   look-going arena (Lookup.Ready first len) e = rw e
   look-going arena Lookup.Missing e = absurd (true≢false (sym e))
   look-going arena Lookup.Absent e = absurd (true≢false (sym e))
   look-going arena (Lookup.Refused number) e = absurd (true≢false (sym e))
 
--- ---- an edge, by the cache
+-- ---- an edge, by the code's lookups
 
-module _ (c : Cache) (arena : List ℕ) (trip : Trip) (budget : ℕ) where
-  abbrev rd : Reader Carried
-  rd = inCache c arena (trip .header .tile)
+-- what `enter` gives, as the walk with the edges and tiles behind it
+abbrev pub ontoOf : Entering → Onto
+ontoOf e = record { walk = e .entered .walk; visited = e .visited; met = e .met }
 
-  module _ (w : Walk) (s : Carried) (hs : List ℤ) where
+module _ (arena : List ℕ) (trip : Trip) (budget : ℕ) where
+  abbrev rd : Reader (List ℕ)
+  rd = inLooks arena (trip .header .tile)
+
+  abbrev pub run : Onto → Track → List ℕ → List ℤ → Run (List ℕ)
+  run o k looks hs = runOf rd trip budget o k looks hs
+
+  module _ (o : Onto) (k : Track) (looks : List ℕ) (hs : List ℤ) where
     abbrev hit : Hit
-    hit = lookUp c arena (trip .header .tile) s (w .way .tile)
+    hit = lookUp looks arena (trip .header .tile) (o .walk .way .tile)
 
     -- by whether the walk went on before
-    abbrev enterBy : Bool → Entered
-    enterBy b = cond b (enteredBy w hit arena budget) (record { walk = w; carried = s; first = 0; len = 0 })
+    abbrev enterBy : Bool → Entering
+    enterBy b =
+        cond b (enteringOf (enterLook (inBytes (hit .answer) arena) (o .visited) (o .met) (o .walk) budget) (hit .answer) (hit .looks))
+        (record { entered = record { walk = o .walk; first = 0; len = 0 }; looks = looks; visited = o .visited; met = o .met })
 
-    abbrev stepBy : Bool → Run Carried
-    stepBy b = cond b (edgeLook rd trip budget (rd .at s (w .way .tile)) (runOf w s hs)) (runOf w s hs)
+    abbrev stepBy : Bool → Run (List ℕ)
+    stepBy b = cond b (edgeLook rd trip budget (rd .at looks (o .walk .way .tile)) (run o k looks hs)) (run o k looks hs)
 
-    by-ended : (b : Bool) → goesOn (enterBy b .walk .ending) ≡ false → stepBy b ≡ runOf (enterBy b .walk) (enterBy b .carried) hs
+    by-ended : (b : Bool) → goesOn (enterBy b .entered .walk .ending) ≡ false → stepBy b ≡ run (ontoOf (enterBy b)) k (enterBy b .looks) hs
     by-ended true e =
-        look-ended rd trip budget w s hs (rd .at s (w .way .tile)) e
-        ∙ ap (λ (x : Carried). runOf (enterBy true .walk) x hs) (look-carried c arena (trip .header .tile) s (w .way .tile))
+        look-ended rd trip budget o k looks hs (rd .at looks (o .walk .way .tile)) e
+        ∙ ap (λ (x : List ℕ). run (ontoOf (enterBy true)) k x hs) (look-carried looks arena (trip .header .tile) (o .walk .way .tile))
     by-ended false e = refl
 
-    by-going : (b : Bool) → goesOn (w .ending) ≡ b → goesOn (enterBy b .walk .ending) ≡ true
-        → stepBy b ≡ driven rd trip budget (enterBy b .walk) (enterBy b .carried) (bytesOf arena (enterBy b .first) (enterBy b .len)) hs
-    by-going true f e = look-going rd trip budget w s hs arena (hit .answer) e
+    by-going : (b : Bool) → goesOn (o .walk .ending) ≡ b → goesOn (enterBy b .entered .walk .ending) ≡ true
+        → stepBy b ≡ driven rd trip budget (ontoOf (enterBy b)) k (enterBy b .looks) (bytesOf arena (enterBy b .entered .first) (enterBy b .entered .len)) hs
+    by-going true f e = look-going rd trip budget o k looks hs arena (hit .answer) e
     by-going false f e = absurd (true≢false (sym e ∙ f))
 
-    module _ (e : Entered) (came : e ≡ enter c arena (trip .header .tile) budget w s) where
-      pub step-ended : goesOn (e .walk .ending) ≡ false → edgeStep rd trip budget (runOf w s hs) ≡ runOf (e .walk) (e .carried) hs
+    module _ (e : Entering) (came : e ≡ enter looks (o .visited) (o .met) (o .walk) arena (trip .header .tile) budget) where
+      pub step-ended : goesOn (e .entered .walk .ending) ≡ false → edgeStep rd trip budget (run o k looks hs) ≡ run (ontoOf e) k (e .looks) hs
       unfolding enter
-      step-ended ends = rw came (by-ended (goesOn (w .ending)) (rw came at ends))
+      step-ended ends = rw came (by-ended (goesOn (o .walk .ending)) (rw came at ends))
 
-      step-going : goesOn (e .walk .ending) ≡ true
-          → edgeStep rd trip budget (runOf w s hs) ≡ driven rd trip budget (e .walk) (e .carried) (bytesOf arena (e .first) (e .len)) hs
+      step-going : goesOn (e .entered .walk .ending) ≡ true
+          → edgeStep rd trip budget (run o k looks hs)
+          ≡ driven rd trip budget (ontoOf e) k (e .looks) (bytesOf arena (e .entered .first) (e .entered .len)) hs
       unfolding enter
-      step-going goes = rw came (by-going (goesOn (w .ending)) refl (rw came at goes))
+      step-going goes = rw came (by-going (goesOn (o .walk .ending)) refl (rw came at goes))
 
-      module _ (goes : goesOn (e .walk .ending) ≡ true) (bs : List ℕ) (run : bs ≡ bytesOf arena (e .first) (e .len)) (head : Head)
-          (heads : head ≡ Layout.headOf bs) (leg : Leg) (legs : leg ≡ legOf (trip .header) (e .walk .way) bs) (b : Along)
-          (points : toEnd trip leg bs (head .«lon_um») (e .walk .from) (alongOf (e .walk .track) hs) ≡ b)
+      module _ (goes : goesOn (e .entered .walk .ending) ≡ true) (bs : List ℕ) (read : bs ≡ bytesOf arena (e .entered .first) (e .entered .len))
+          (head : Head) (heads : head ≡ Layout.headOf bs) (leg : Leg) (legs : leg ≡ legOf (trip .header) (e .entered .walk .way) bs) (b : Along)
+          (points : toEnd trip leg bs (head .«lon_um») (e .entered .walk .from) (alongOf k hs) ≡ b)
         where
-          along-is : along trip (e .walk) bs hs ≡ b
+          along-is : along trip (e .entered .walk) k bs hs ≡ b
           unfolding along
           along-is = rw (legs, heads) at points
 
-          drive-over : b .track .over ≡ true
-              → drivenTo rd trip budget (e .walk) (e .carried) bs b ≡ runOf (reached (e .walk) (b .track)) (e .carried) (b .heights)
-          drive-over over =
-              ap (λ (t : Bool). cond t (runOf (reached (e .walk) (b .track)) (e .carried) (b .heights))
-              (crossedRun rd trip budget (moved (e .walk) (b .track)) (e .carried) bs (b .heights))) over
+          drive-by : (t : Bool) → b .track .over ≡ t
+              → drivenTo rd trip budget (ontoOf e) (e .looks) bs b
+              ≡ cond t (reachedRun rd trip budget (ontoOf e) (b .track) (e .looks) (b .heights))
+              (crossedRun rd trip budget (ontoOf e) (b .track) (e .looks) bs (b .heights))
+          drive-by t over =
+              ap (λ (x : Bool). cond x (reachedRun rd trip budget (ontoOf e) (b .track) (e .looks) (b .heights))
+              (crossedRun rd trip budget (ontoOf e) (b .track) (e .looks) bs (b .heights))) over
 
-          drive-on : b .track .over ≡ false
-              → drivenTo rd trip budget (e .walk) (e .carried) bs b
-              ≡ crossedRun rd trip budget (moved (e .walk) (b .track)) (e .carried) bs (b .heights)
-          drive-on on =
-              ap (λ (t : Bool). cond t (runOf (reached (e .walk) (b .track)) (e .carried) (b .heights))
-              (crossedRun rd trip budget (moved (e .walk) (b .track)) (e .carried) bs (b .heights))) on
+          step-driven : edgeStep rd trip budget (run o k looks hs) ≡ drivenTo rd trip budget (ontoOf e) (e .looks) bs b
+          step-driven = step-going goes ∙ rw (← read, along-is)
 
-          step-driven : edgeStep rd trip budget (runOf w s hs) ≡ drivenTo rd trip budget (e .walk) (e .carried) bs b
-          step-driven = step-going goes ∙ rw (← run, along-is)
+          pub step-over : (m : Walk) → m ≡ reached (e .entered .walk) → b .track .over ≡ true
+              → edgeStep rd trip budget (run o k looks hs)
+              ≡ run (record { walk = m; visited = e .visited; met = e .met }) (b .track) (e .looks) (b .heights)
+          step-over m ends over = step-driven ∙ drive-by true over ∙ rw ends
 
-          pub step-over : (v m : Walk) → v ≡ e .walk → m ≡ reached v (b .track) → b .track .over ≡ true
-              → edgeStep rd trip budget (runOf w s hs) ≡ runOf m (e .carried) (b .heights)
-          step-over v m same ends over = step-driven ∙ drive-over over ∙ rw (ends, same)
-
-          pub step-on : (v m : Walk) (x : Step) → v ≡ e .walk → m ≡ moved v (b .track) → x ≡ crossed c arena (trip .header) m (e .carried) bs leg
-              → b .track .over ≡ false → edgeStep rd trip budget (runOf w s hs) ≡ runOf (x .walk) (x .carried) (b .heights)
-          unfolding crossed moved
-          step-on v m x same moves crosses on = step-driven ∙ drive-on on ∙ rw (crosses, moves, same, legs)
+          pub step-on : (x : Stride (List ℕ))
+              → x ≡ crossed (e .looks) (e .visited) arena (trip .header) (e .entered .walk) (b .track) bs leg
+              → b .track .over ≡ false
+              → edgeStep rd trip budget (run o k looks hs)
+              ≡ run (record { walk = x .walk; visited = e .visited; met = e .met }) (b .track) (x .carried) (b .heights)
+          unfolding crossed
+          step-on x crosses on = step-driven ∙ drive-by false on ∙ rw (crosses, legs)
 
   -- ---- the walk
 
-  module _ (start x y : Run Carried) (n : ℕ) (inv : x ≡ walkTo rd trip budget start n) (step : edgeStep rd trip budget x ≡ y) where
+  module _ (start x y : Run (List ℕ)) (n : ℕ) (inv : x ≡ walkTo rd trip budget start n) (step : edgeStep rd trip budget x ≡ y) where
     pub walk-on : y ≡ walkTo rd trip budget start (n + 1)
     walk-on = sym step ∙ ap (edgeStep rd trip budget) inv ∙ sym (walk-turn rd trip budget start n)
 
     pub walk-whole : goesOn (y .walk .ending) ≡ false → n < 2000 → y ≡ walkTo rd trip budget start 2000
     walk-whole ends h =
-        walk-on ∙ sym (walk-stays rd trip budget start (n + 1) 2000 (ap (λ (r : Run Carried). goesOn (r .walk .ending)) (sym walk-on) ∙ ends) (omega arith))
+        walk-on ∙ sym (walk-stays rd trip budget start (n + 1) 2000 (ap (λ (r : Run (List ℕ)). goesOn (r .walk .ending)) (sym walk-on) ∙ ends) (omega arith))
 
   -- what the code gives back
-  pub follow-is : (w : Walk) (s : Carried) (hs : List ℤ) (y : Run Carried) → y ≡ walkTo rd trip budget (runOf w s hs) 2000
-      → (_≡_ {A = Step} (record { walk = y .walk; carried = y .carried }) (follow c arena trip budget w s hs .step))
-      × (y .heights ≡ follow c arena trip budget w s hs .heights)
+  pub follow-is : (o : Onto) (k : Track) (looks : List ℕ) (hs : List ℤ) (y : Run (List ℕ)) → y ≡ walkTo rd trip budget (run o k looks hs) 2000
+      → (_≡_ {A = Followed} (record { walk = y .walk; track = y .track }) (followed (follow looks (o .visited) (o .met) arena trip budget (o .walk) k hs)))
+      × ((y .carried ≡ follow looks (o .visited) (o .met) arena trip budget (o .walk) k hs .carried)
+      × ((y .visited ≡ follow looks (o .visited) (o .met) arena trip budget (o .walk) k hs .visited)
+      × ((y .met ≡ follow looks (o .visited) (o .met) arena trip budget (o .walk) k hs .met)
+      × (y .heights ≡ follow looks (o .visited) (o .met) arena trip budget (o .walk) k hs .heights))))
   unfolding follow
-  follow-is w s hs y e = (ap (λ (r : Run Carried). followedOf r .step) e, ap (λ (r : Run Carried). r .heights) e)
+  follow-is o k looks hs y e = (
+    ap followed e,
+    (
+      ap (λ (r : Run (List ℕ)). r .carried) e,
+      (ap (λ (r : Run (List ℕ)). r .visited) e, (ap (λ (r : Run (List ℕ)). r .met) e, ap (λ (r : Run (List ℕ)). r .heights) e)),
+    ),
+  )
 
-pub reached-ends : (m v : Walk) (t : Track) → m ≡ reached v t → goesOn (m .ending) ≡ false
+pub reached-ends : (m v : Walk) → m ≡ reached v → goesOn (m .ending) ≡ false
 unfolding reached withEnding
-reached-ends m v t e = rw e
+reached-ends m v e = rw e

@@ -1,42 +1,58 @@
--- A lookup of the cache as the reader of a walk has it: what is carried on is what the lookup carries, found or not (`look-carried`). And a
--- walk that ended, at the decision (`taken-ended`) or at the junction's lookups (`onward-ended`), stays so. The idea: a lookup that found
--- nothing carries on what it was given.
-use Prim.Native.Nat.{ℕ}
-use mathlib.Core.Path.{_≡_, refl}
-use mathlib.Core.Bool.{Bool, true, false, true≢false}
+-- A lookup by the numbers as the reader of a walk has it: one that found no tile leaves the numbers as they were (`missed`), so that what is
+-- carried on is what the lookup leaves, found or not (`look-carried`). And a walk that ended, at the decision (`taken-ended`) or at the
+-- junction's lookups (`onward-ended`), stays so.
+use Prim.Native.Nat.{ℕ, _+_}
+use mathlib.Core.Path.{_≡_, refl, sym, ap, _∙_}
+use mathlib.Core.Bool.{Bool, true, false, cond, true≢false}
 use mathlib.Core.List.{List}
+use lib.Dec.{leb}
+use lib.ListN.{getD}
 use Rattle.pack.specs.declared.TileKey.{TileKey}
-use Rattle.cache.specs.declared.Cache.{Cache}
-use Rattle.cache.specs.declared.look.Landing.{Landing}
-use Rattle.cache.specs.declared.look.Landing.the-variants as Landing
-use Rattle.cache.specs.Lookups.{landsOn, lenAt}
-use Rattle.cache.specs.declared.Carried.{Carried}
-use Rattle.cache.specs.Ages.{known, hitReady, hitAt, lookUp}
-use Rattle.cache.specs.Reader.{Reader, inBytes, inCache}
+use Rattle.cache.specs.declared.Lookup.{Lookup}
+use Rattle.cache.specs.declared.Lookup.the-variants as Lookup
+use Rattle.cache.specs.Ages.{Hit, inRing, pageOf, known, hitRun, hitPage, lookUp}
+use Rattle.cache.specs.Reader.{Reader, inBytes, inLooks}
 use Rattle.predict.specs.declared.Ending.{Ending}
 use Rattle.predict.specs.declared.Ending.the-variants as Ending
 use Rattle.predict.specs.Cross.{Ways}
 use Rattle.predict.specs.declared.Walk.{Walk}
 use Rattle.predict.specs.Walk.{withEnding, carriedBy, Stride, takenBy, onwardBy, goesOn}
 
-module _ (c : Cache) (arena : List ℕ) (size : ℕ) (a : Carried) (key : TileKey) where
-  abbrev rd : Reader Carried
-  rd = inCache c arena size
+abbrev pub isReady : Lookup → Bool
+isReady (Lookup.Ready first len) = true
+isReady Lookup.Missing = false
+isReady Lookup.Absent = false
+isReady (Lookup.Refused number) = false
 
-  ready-carried : (ok : Bool) (i : ℕ) → rd .found a key ≡ hitReady ok c a i .carried
-      → carriedBy (inBytes (hitReady ok c a i .answer) arena) rd a key ≡ hitReady ok c a i .carried
-  ready-carried true i e = e
-  ready-carried false i e = refl
+module _ (looks arena : List ℕ) (size : ℕ) (key : TileKey) where
+  run-missed : (ok : Bool) (i : ℕ) → isReady (hitRun ok looks i .answer) ≡ false → hitRun ok looks i .looks ≡ looks
+  run-missed true i e = absurd (true≢false e)
+  run-missed false i e = refl
 
-  hit-carried : (l : Landing) → rd .found a key ≡ hitAt l c arena size a key .carried
-      → carriedBy (inBytes (hitAt l c arena size a key .answer) arena) rd a key ≡ hitAt l c arena size a key .carried
-  hit-carried Landing.Missing e = refl
-  hit-carried Landing.Nothing e = refl
-  hit-carried (Landing.At i) e = ready-carried (known arena a i (lenAt c i) key size) i e
+  page-missed : (past : Bool) (i : ℕ) (ok : Bool)
+      → isReady (cond past (record { answer = Lookup.Absent; looks = looks }) (hitRun ok looks i) .answer) ≡ false
+      → cond past (record { answer = Lookup.Absent; looks = looks }) (hitRun ok looks i) .looks ≡ looks
+  page-missed true i ok e = refl
+  page-missed false i ok e = run-missed ok i e
 
-  pub look-carried : carriedBy (inCache c arena size .at a key) (inCache c arena size) a key ≡ lookUp c arena size a key .carried
+  ring-missed : (in-ring : Bool) (i : ℕ) → isReady (cond in-ring (record { answer = Lookup.Missing; looks = looks }) (hitPage looks arena size key i) .answer) ≡ false
+      → cond in-ring (record { answer = Lookup.Missing; looks = looks }) (hitPage looks arena size key i) .looks ≡ looks
+  ring-missed true i e = refl
+  ring-missed false i e = page-missed (leb 96 i) i (known looks arena i (getD looks (384 + i) 0) key size) e
+
+  pub missed : isReady (lookUp looks arena size key .answer) ≡ false → lookUp looks arena size key .looks ≡ looks
   unfolding lookUp
-  look-carried = hit-carried (landsOn c key) refl
+  missed e = ring-missed (inRing looks key) (pageOf looks key) e
+
+  pub look-carried : carriedBy (inLooks arena size .at looks key) (inLooks arena size) looks key ≡ lookUp looks arena size key .looks
+  look-carried = by (lookUp looks arena size key .answer) refl
+    where
+      by : (l : Lookup) → lookUp looks arena size key .answer ≡ l
+          → carriedBy (inBytes l arena) (inLooks arena size) looks key ≡ lookUp looks arena size key .looks
+      by (Lookup.Ready first len) e = refl
+      by Lookup.Missing e = sym (missed (ap isReady e))
+      by Lookup.Absent e = sym (missed (ap isReady e))
+      by (Lookup.Refused number) e = sym (missed (ap isReady e))
 
 module _ {S : Type 0} (rd : Reader S) where
   pub taken-ended : (e : Ending) → goesOn e ≡ false → (w : Walk) (s : S) → takenBy rd e w s ≡ record { walk = w; carried = s }

@@ -1,6 +1,5 @@
--- Two readers that answer the same, while what they carry stays related, give the same road (`forecast-simulates`). So the code's lookups in
--- the cache give the road over the cache's look, with the clock and ages that its keys leave (`forecast-in-cache`). Two looks that agree give
--- the same road where it finishes at the first (`predict-agrees`). The idea: the same of the walk, by cases of the start's one lookup. Assumes
+-- Two readers that answer the same, while what they carry stays related, give the same road (`forecast-simulates`). Two looks that
+-- agree give the same road where it finishes at the first (`predict-agrees`). The idea: the same of the walk, by cases of the start's one lookup. Assumes
 -- nothing.
 use Prim.Native.Nat.{ℕ}
 use mathlib.Core.Path.{_≡_, refl, sym, ap, _∙_}
@@ -11,16 +10,13 @@ use lib.Ieee.{Float}
 use Rattle.pack.specs.declared.Header.{Header}
 use Rattle.pack.specs.declared.TileKey.{TileKey}
 use Rattle.tile.specs.Layout as Layout
-use Rattle.cache.specs.declared.Cache.{Cache}
-use Rattle.cache.specs.Direct.{Look, ready, missing, absent, stale, look, settled, Agree}
-use Rattle.cache.specs.declared.Carried.{Carried}
-use Rattle.cache.specs.Ages.{carriedOf}
-use Rattle.cache.specs.Reader.{Reader, plain, inCache, Stands}
-use Rattle.cache.proofs.ReaderLaws.{stands-start, stands-at, stands-found}
+use Rattle.cache.specs.Direct.{Look, ready, missing, absent, stale, settled, Agree}
+use Rattle.cache.specs.Reader.{Reader, plain}
 use Rattle.matcher.specs.declared.Forward.{Forward}
 use Rattle.matcher.specs.declared.Forward.the-variants as Forward
 use Rattle.matcher.specs.declared.Matched.{Matched}
 use Rattle.matcher.specs.Score.{sameId}
+use Rattle.predict.specs.declared.Track.{Track}
 use Rattle.predict.specs.declared.Trip.{Trip}
 use Rattle.predict.specs.declared.ridden.Behind.{Behind}
 use Rattle.predict.specs.Start.{startOk}
@@ -52,14 +48,17 @@ module _ {S T : Type 0} (rd : Reader S) (rd' : Reader T) (R : S → T → Type 0
     (n : ℕ)
   where
     run-simulates : (x : Run S) (y : Run T) (b : Behind) (behind : List ℤ) → AlikeRun R x y → AlikeForecast R (forecastOf x b behind) (forecastOf y b behind)
-    run-simulates x y b behind h = record { answer = ap (λ (w : Walk). outcome w b) (h .walk); samples = h .heights; behind = refl; carried = h .carried }
+    run-simulates x y b behind h = record { answer = by (y .walk) (y .track) (h .walk) (h .track); samples = h .heights; behind = refl; carried = h .carried }
+      where
+        by : (w : Walk) (t : Track) → w ≡ x .walk → t ≡ x .track → outcome w t b ≡ outcome (x .walk) (x .track) b
+        by w t p q = rw (p, q)
 
     road-simulates : (trip : Trip) (m : Matched) (forward : Bool) (s : S) (t : T) → R s t → (bs : List ℕ) (samples behind : List ℤ)
         → AlikeForecast R (roadOver rd n trip m forward s bs samples behind) (roadOver rd' n trip m forward t bs samples behind)
     unfolding roadOver
     road-simulates trip m forward s t h bs samples behind =
         run-simulates _ _ _ _
-        (walk-simulates rd rd' R at found trip (budget n) _ _ (record { walk = refl; heights = refl; carried = h }) 2000)
+        (walk-simulates rd rd' R at found trip (budget n) _ _ (record { walk = refl; track = refl; visited = refl; met = refl; heights = refl; carried = h }) 2000)
 
     nothing-simulates : (answer : Outcome) (s : S) (t : T) → R s t → (samples behind : List ℤ)
         → AlikeForecast R (nothing rd n answer s samples behind) (nothing rd' n answer t samples behind)
@@ -100,31 +99,13 @@ module _ {S T : Type 0} (rd : Reader S) (rd' : Reader T) (R : S → T → Type 0
     unfolding forecastOver
     forecast-simulates h m horizon s t r samples behind = directed-simulates (m .forward) h m horizon s t r samples behind
 
--- ---- in the cache
-
-pub forecast-in-cache : (c : Cache) (arena : List ℕ) (n : ℕ) (h : Header) (m : Matched) (horizon : Float) (samples behind : List ℤ)
-    → AlikeForecast (Stands c arena (h .tile)) (forecastOver (inCache c arena (h .tile)) n h m horizon (carriedOf c) samples behind)
-    (predictOver (look c arena (h .tile)) n h m horizon samples behind)
-forecast-in-cache c arena n h m horizon samples behind =
-    forecast-simulates (inCache c arena (h .tile)) (plain (look c arena (h .tile))) (Stands c arena (h .tile)) at found n h m horizon (carriedOf c) []
-    (stands-start c arena (h .tile)) samples behind
-  where
-    at : (a : Carried) (keys : List TileKey) (key : TileKey) → Stands c arena (h .tile) a keys
-        → look c arena (h .tile) key ≡ inCache c arena (h .tile) .at a key
-    at a keys key r = sym (stands-at c arena (h .tile) a keys r key)
-
-    found : (a : Carried) (keys : List TileKey) (key : TileKey) (bs : List ℕ) → Stands c arena (h .tile) a keys
-        → inCache c arena (h .tile) .at a key ≡ ready bs
-        → Stands c arena (h .tile) (inCache c arena (h .tile) .found a key) (plain (look c arena (h .tile)) .found keys key)
-    found a keys key bs r e = stands-found c arena (h .tile) a keys r key bs (at a keys key r ∙ e)
-
 -- ---- two looks
 
-finished-settles : (ending : Ending) (w : Walk) (b : Behind) → isFinished (outcomeBy ending w b) ≡ true → isSettled ending ≡ true
-finished-settles Ending.Going w b e = refl
-finished-settles (Ending.Stops end) w b e = refl
-finished-settles (Ending.Need key) w b e = e
-finished-settles Ending.Stale w b e = e
+finished-settles : (ending : Ending) (w : Walk) (t : Track) (b : Behind) → isFinished (outcomeBy ending w t b) ≡ true → isSettled ending ≡ true
+finished-settles Ending.Going w t b e = refl
+finished-settles (Ending.Stops end) w t b e = refl
+finished-settles (Ending.Need key) w t b e = e
+finished-settles Ending.Stale w t b e = e
 
 module _ (one two : TileKey → Look) (agree : Agree one two) (n : ℕ) where
   road-agrees : (trip : Trip) (m : Matched) (forward : Bool) (s : List TileKey) (bs : List ℕ) (samples behind : List ℤ)
@@ -135,7 +116,7 @@ module _ (one two : TileKey → Look) (agree : Agree one two) (n : ℕ) where
     where
       by : (x y : Run (List TileKey)) (b : Behind) (behind : List ℤ) → (isSettled (x .walk .ending) ≡ true → y ≡ x)
           → isFinished (forecastOf x b behind .answer) ≡ true → forecastOf y b behind ≡ forecastOf x b behind
-      by x y b behind same e = ap (λ (r : Run (List TileKey)). forecastOf r b behind) (same (finished-settles (x .walk .ending) (x .walk) b e))
+      by x y b behind same e = ap (λ (r : Run (List TileKey)). forecastOf r b behind) (same (finished-settles (x .walk .ending) (x .walk) (x .track) b e))
 
   tile-agrees : (trip : Trip) (m : Matched) (forward : Bool) (s : List TileKey) (bs : List ℕ) (samples behind : List ℤ)
       → isFinished (tileOver (plain one) n trip m forward s bs samples behind .answer) ≡ true

@@ -16,6 +16,7 @@ use Rattle.tile.specs.Layout as Layout
 use Rattle.cache.specs.Direct.{Look, ready, missing, absent, stale, settled, Agree}
 use Rattle.cache.specs.Reader.{Reader, plain}
 use Rattle.predict.specs.declared.outgoing.Leg.{Leg}
+use Rattle.predict.specs.declared.Track.{Track}
 use Rattle.predict.specs.declared.Trip.{Trip}
 use Rattle.predict.specs.Vertex.{Along}
 use Rattle.predict.specs.declared.Decision.{Decision}
@@ -25,8 +26,9 @@ use Rattle.predict.specs.Cross.{Ways}
 use Rattle.predict.specs.Decide.{decide}
 use Rattle.predict.proofs.CrossLaws.{Alike, isSettled, up-simulates, over-simulates, cross-settles}
 use Rattle.predict.specs.declared.Walk.{Walk}
-use Rattle.predict.specs.Walk.{withEnding, taken, moved, reached, enterLook, turned, incomingOf, arrivalOf, nextLook, carriedBy, Stride, Run}
-use Rattle.predict.specs.Walk.{takenBy, onwardBy, waysOver, crossedOver, goesOn, legOf, along, crossedRun, drivenTo, driven, edgeLook, edgeStep, walkTo}
+use Rattle.predict.specs.Walk.{withEnding, taken, Onto, enterLook, turned, incomingOf, arrivalOf, nextLook, carriedBy, Stride, Run}
+use Rattle.predict.specs.Walk.{takenBy, onwardBy, waysOver, crossedOver, goesOn, legOf, along}
+use Rattle.predict.specs.Walk.{runOf, crossedRun, reachedRun, drivenTo, driven, edgeLook, edgeStep, walkTo}
 
 -- ---- one edge after another
 
@@ -62,6 +64,9 @@ pub record AlikeStride {S T : Type 0} (R : S → T → Type 0) (x : Stride S) (y
 
 pub record AlikeRun {S T : Type 0} (R : S → T → Type 0) (x : Run S) (y : Run T) : Type 0 where
   pub walk : y .walk ≡ x .walk
+  pub track : y .track ≡ x .track
+  pub visited : y .visited ≡ x .visited
+  pub met : y .met ≡ x .met
   pub heights : y .heights ≡ x .heights
   pub carried : R (x .carried) (y .carried)
 
@@ -92,14 +97,14 @@ module _ {S T : Type 0} (rd : Reader S) (rd' : Reader T) (R : S → T → Type 0
     onward-simulates (Ending.Need key) w x y h = record { walk = refl; carried = h .carried }
     onward-simulates Ending.Stale w x y h = record { walk = refl; carried = h .carried }
 
-    crossed-simulates : (header : Header) (w : Walk) (s : S) (t : T) → R s t → (bs : List ℕ) (leg : Leg)
-        → AlikeStride R (crossedOver rd header w s bs leg) (crossedOver rd' header w t bs leg)
+    crossed-simulates : (header : Header) (v : List ℕ) (w : Walk) (k : Track) (s : S) (t : T) → R s t → (bs : List ℕ) (leg : Leg)
+        → AlikeStride R (crossedOver rd header v w k s bs leg) (crossedOver rd' header v w k t bs leg)
     unfolding crossedOver
-    crossed-simulates header w s t h bs leg =
-        let incoming : Float = incomingOf w (Layout.headOf bs .«lon_um») in
+    crossed-simulates header v w k s t h bs leg =
+        let incoming : Float = incomingOf k (w .approach) (Layout.headOf bs .«lon_um») in
         let turn : Walk = turned w (leg .edge) incoming in
-        by turn (waysOver rd header turn s bs leg incoming) (waysOver rd' header turn t bs leg incoming)
-        (over-simulates rd rd' R at found (arrivalOf header turn incoming) (turn .visited) s t h _ _)
+        by turn (waysOver rd header v turn s bs leg incoming) (waysOver rd' header v turn t bs leg incoming)
+        (over-simulates rd rd' R at found (arrivalOf header turn incoming) v s t h _ _)
       where
         by : (w : Walk) (x : Ways S) (y : Ways T) → Alike R x y → AlikeStride R (onwardBy rd (x .ending) w x) (onwardBy rd' (y .ending) w y)
         by w x y h =
@@ -107,66 +112,77 @@ module _ {S T : Type 0} (rd : Reader S) (rd' : Reader T) (R : S → T → Type 0
             (onward-simulates (x .ending) w x y h)
 
     module _ (trip : Trip) (budget : ℕ) where
-      crossing-simulates : (w : Walk) (s : S) (t : T) → R s t → (bs : List ℕ) (hs : List ℤ)
-          → AlikeRun R (crossedRun rd trip budget w s bs hs) (crossedRun rd' trip budget w t bs hs)
-      crossing-simulates w s t h bs hs =
-          let x : AlikeStride R (crossedOver rd (trip .header) w s bs (legOf (trip .header) (w .way) bs))
-          (crossedOver rd' (trip .header) w t bs (legOf (trip .header) (w .way) bs))
-          = crossed-simulates (trip .header) w s t h bs (legOf (trip .header) (w .way) bs) in
-          record { walk = x .walk; heights = refl; carried = x .carried }
+      crossing-simulates : (o : Onto) (k : Track) (s : S) (t : T) → R s t → (bs : List ℕ) (hs : List ℤ)
+          → AlikeRun R (crossedRun rd trip budget o k s bs hs) (crossedRun rd' trip budget o k t bs hs)
+      crossing-simulates o k s t h bs hs =
+          let leg : Leg = legOf (trip .header) (o .walk .way) bs in
+          let x : AlikeStride R (crossedOver rd (trip .header) (o .visited) (o .walk) k s bs leg)
+          (crossedOver rd' (trip .header) (o .visited) (o .walk) k t bs leg)
+          = crossed-simulates (trip .header) (o .visited) (o .walk) k s t h bs leg in
+          record { walk = x .walk; track = refl; visited = refl; met = refl; heights = refl; carried = x .carried }
 
-      driven-simulates : (w : Walk) (s : S) (t : T) → R s t → (bs : List ℕ) (a : Along)
-          → AlikeRun R (drivenTo rd trip budget w s bs a) (drivenTo rd' trip budget w t bs a)
-      driven-simulates w s t h bs a = by (a .track .over)
+      -- what is carried alone differs
+      run-simulates : (o : Onto) (k : Track) (s : S) (t : T) → R s t → (hs : List ℤ)
+          → AlikeRun R (runOf rd trip budget o k s hs) (runOf rd' trip budget o k t hs)
+      run-simulates o k s t h hs = record { walk = refl; track = refl; visited = refl; met = refl; heights = refl; carried = h }
+
+      driven-simulates : (o : Onto) (s : S) (t : T) → R s t → (bs : List ℕ) (a : Along)
+          → AlikeRun R (drivenTo rd trip budget o s bs a) (drivenTo rd' trip budget o t bs a)
+      driven-simulates o s t h bs a = by (a .track .over)
         where
           by : (over : Bool)
               → AlikeRun R
-              (cond over (record { walk = reached w (a .track); carried = s; heights = a .heights })
-              (crossedRun rd trip budget (moved w (a .track)) s bs (a .heights)))
-              (cond over (record { walk = reached w (a .track); carried = t; heights = a .heights })
-              (crossedRun rd' trip budget (moved w (a .track)) t bs (a .heights)))
-          by true = record { walk = refl; heights = refl; carried = h }
-          by false = crossing-simulates (moved w (a .track)) s t h bs (a .heights)
+              (cond over (reachedRun rd trip budget o (a .track) s (a .heights)) (crossedRun rd trip budget o (a .track) s bs (a .heights)))
+              (cond over (reachedRun rd' trip budget o (a .track) t (a .heights)) (crossedRun rd' trip budget o (a .track) t bs (a .heights)))
+          by true = record { walk = refl; track = refl; visited = refl; met = refl; heights = refl; carried = h }
+          by false = crossing-simulates o (a .track) s t h bs (a .heights)
 
-      -- from the same walk and heights
-      edge-simulates : (w : Walk) (hs : List ℤ) (s : S) (t : T) → R s t → (l : Look) → rd .at s (w .way .tile) ≡ l
-          → AlikeRun R (edgeLook rd trip budget l (record { walk = w; carried = s; heights = hs }))
-          (edgeLook rd' trip budget l (record { walk = w; carried = t; heights = hs }))
-      edge-simulates w hs s t h (ready bs) e =
-          by (enterLook (ready bs) w budget) (goesOn (enterLook (ready bs) w budget .ending)) (found s t (w .way .tile) bs h e)
+      -- from the same walk, with the same behind it
+      edge-simulates : (o : Onto) (k : Track) (hs : List ℤ) (s : S) (t : T) → R s t → (l : Look) → rd .at s (o .walk .way .tile) ≡ l
+          → AlikeRun R (edgeLook rd trip budget l (runOf rd trip budget o k s hs)) (edgeLook rd' trip budget l (runOf rd' trip budget o k t hs))
+      edge-simulates o k hs s t h (ready bs) e =
+          by (enterLook (ready bs) (o .visited) (o .met) (o .walk) budget)
+          (goesOn (enterLook (ready bs) (o .visited) (o .met) (o .walk) budget .walk .ending)) (found s t (o .walk .way .tile) bs h e)
         where
-          by : (x : Walk) (goes : Bool) → R (rd .found s (w .way .tile)) (rd' .found t (w .way .tile))
+          by : (x : Onto) (goes : Bool) → R (rd .found s (o .walk .way .tile)) (rd' .found t (o .walk .way .tile))
               → AlikeRun R
-              (cond goes (driven rd trip budget x (rd .found s (w .way .tile)) bs hs)
-              (record { walk = x; carried = rd .found s (w .way .tile); heights = hs }))
-              (cond goes (driven rd' trip budget x (rd' .found t (w .way .tile)) bs hs)
-              (record { walk = x; carried = rd' .found t (w .way .tile); heights = hs }))
-          by x true h = driven-simulates x (rd .found s (w .way .tile)) (rd' .found t (w .way .tile)) h bs (along trip x bs hs)
-          by x false h = record { walk = refl; heights = refl; carried = h }
-      edge-simulates w hs s t h missing e = record { walk = refl; heights = refl; carried = h }
-      edge-simulates w hs s t h absent e = record { walk = refl; heights = refl; carried = h }
-      edge-simulates w hs s t h stale e = record { walk = refl; heights = refl; carried = h }
+              (cond goes (driven rd trip budget x k (rd .found s (o .walk .way .tile)) bs hs)
+              (runOf rd trip budget x k (rd .found s (o .walk .way .tile)) hs))
+              (cond goes (driven rd' trip budget x k (rd' .found t (o .walk .way .tile)) bs hs)
+              (runOf rd' trip budget x k (rd' .found t (o .walk .way .tile)) hs))
+          by x true h =
+              driven-simulates x (rd .found s (o .walk .way .tile)) (rd' .found t (o .walk .way .tile)) h bs (along trip (x .walk) k bs hs)
+          by x false h = run-simulates x k (rd .found s (o .walk .way .tile)) (rd' .found t (o .walk .way .tile)) h hs
+      edge-simulates o k hs s t h missing e =
+          run-simulates (enterLook missing (o .visited) (o .met) (o .walk) budget) k s t h hs
+      edge-simulates o k hs s t h absent e =
+          run-simulates (enterLook absent (o .visited) (o .met) (o .walk) budget) k s t h hs
+      edge-simulates o k hs s t h stale e =
+          run-simulates (enterLook stale (o .visited) (o .met) (o .walk) budget) k s t h hs
 
-      same-simulates : (w : Walk) (hs : List ℤ) (s : S) (t : T) → R s t
-          → AlikeRun R (edgeStep rd trip budget (record { walk = w; carried = s; heights = hs }))
-          (edgeStep rd' trip budget (record { walk = w; carried = t; heights = hs }))
-      same-simulates w hs s t h = rw (at s t (w .way .tile) h) (by (goesOn (w .ending)))
+      same-simulates : (o : Onto) (k : Track) (hs : List ℤ) (s : S) (t : T) → R s t
+          → AlikeRun R (edgeStep rd trip budget (runOf rd trip budget o k s hs)) (edgeStep rd' trip budget (runOf rd' trip budget o k t hs))
+      same-simulates o k hs s t h = rw (at s t (o .walk .way .tile) h) (by (goesOn (o .walk .ending)))
         where
           by : (goes : Bool)
               → AlikeRun R
-              (cond goes (edgeLook rd trip budget (rd .at s (w .way .tile)) (record { walk = w; carried = s; heights = hs }))
-              (record { walk = w; carried = s; heights = hs }))
-              (cond goes (edgeLook rd' trip budget (rd .at s (w .way .tile)) (record { walk = w; carried = t; heights = hs }))
-              (record { walk = w; carried = t; heights = hs }))
-          by true = edge-simulates w hs s t h (rd .at s (w .way .tile)) refl
-          by false = record { walk = refl; heights = refl; carried = h }
+              (cond goes (edgeLook rd trip budget (rd .at s (o .walk .way .tile)) (runOf rd trip budget o k s hs)) (runOf rd trip budget o k s hs))
+              (cond goes (edgeLook rd' trip budget (rd .at s (o .walk .way .tile)) (runOf rd' trip budget o k t hs)) (runOf rd' trip budget o k t hs))
+          by true = edge-simulates o k hs s t h (rd .at s (o .walk .way .tile)) refl
+          by false = run-simulates o k s t h hs
 
       step-simulates : (x : Run S) (y : Run T) → AlikeRun R x y → AlikeRun R (edgeStep rd trip budget x) (edgeStep rd' trip budget y)
-      step-simulates x y h = from (y .walk) (y .heights) (h .walk) (h .heights)
+      step-simulates x y h = from (y .walk) (y .track) (y .visited) (y .met) (y .heights) (h .walk) (h .track) (h .visited) (h .met) (h .heights)
         where
-          from : (w : Walk) (hs : List ℤ) → w ≡ x .walk → hs ≡ x .heights
-              → AlikeRun R (edgeStep rd trip budget x) (edgeStep rd' trip budget (record { walk = w; carried = y .carried; heights = hs }))
-          from w hs p q = rw (p, q) (same-simulates (x .walk) (x .heights) (x .carried) (y .carried) (h .carried))
+          before : Onto
+          before = record { walk = x .walk; visited = x .visited; met = x .met }
+
+          from : (w : Walk) (k : Track) (v m : List ℕ) (hs : List ℤ)
+              → w ≡ x .walk → k ≡ x .track → v ≡ x .visited → m ≡ x .met → hs ≡ x .heights
+              → AlikeRun R (edgeStep rd trip budget x)
+              (edgeStep rd' trip budget (record { walk = w; track = k; visited = v; met = m; carried = y .carried; heights = hs }))
+          from w k v m hs p q r o u =
+              rw (p, q, r, o, u) (same-simulates before (x .track) (x .heights) (x .carried) (y .carried) (h .carried))
 
       pub walk-simulates : (x : Run S) (y : Run T) → AlikeRun R x y → (n : ℕ) → AlikeRun R (walkTo rd trip budget x n) (walkTo rd' trip budget y n)
       unfolding walkTo
@@ -208,15 +224,15 @@ module _ (one two : TileKey → Look) (agree : Agree one two) where
   onward-agrees (Ending.Need key) w x was e = absurd (true≢false (sym e))
   onward-agrees Ending.Stale w x was e = absurd (true≢false (sym e))
 
-  crossed-agrees : (header : Header) (w : Walk) (s : List TileKey) (bs : List ℕ) (leg : Leg)
-      → isSettled (crossedOver (plain one) header w s bs leg .walk .ending) ≡ true
-      → crossedOver (plain two) header w s bs leg ≡ crossedOver (plain one) header w s bs leg
+  crossed-agrees : (header : Header) (v : List ℕ) (w : Walk) (k : Track) (s : List TileKey) (bs : List ℕ) (leg : Leg)
+      → isSettled (crossedOver (plain one) header v w k s bs leg .walk .ending) ≡ true
+      → crossedOver (plain two) header v w k s bs leg ≡ crossedOver (plain one) header v w k s bs leg
   unfolding crossedOver
-  crossed-agrees header w s bs leg e =
-      let incoming : Float = incomingOf w (Layout.headOf bs .«lon_um») in
+  crossed-agrees header v w k s bs leg e =
+      let incoming : Float = incomingOf k (w .approach) (Layout.headOf bs .«lon_um») in
       let turn : Walk = turned w (leg .edge) incoming in
-      by turn (waysOver (plain one) header turn s bs leg incoming) (waysOver (plain two) header turn s bs leg incoming)
-      (cross-settles one two agree (arrivalOf header turn incoming) (turn .visited) _ _ 8) e
+      by turn (waysOver (plain one) header v turn s bs leg incoming) (waysOver (plain two) header v turn s bs leg incoming)
+      (cross-settles one two agree (arrivalOf header turn incoming) v _ _ 8) e
     where
       by : (w : Walk) (x y : Ways (List TileKey)) → (isSettled (x .ending) ≡ true → y ≡ x)
           → isSettled (onwardBy (plain one) (x .ending) w x .walk .ending) ≡ true
@@ -227,39 +243,41 @@ module _ (one two : TileKey → Look) (agree : Agree one two) where
           rw (same (o .0)) (o .1)
 
   module _ (trip : Trip) (budget : ℕ) where
-    driven-agrees : (w : Walk) (s : List TileKey) (bs : List ℕ) (a : Along)
-        → isSettled (drivenTo (plain one) trip budget w s bs a .walk .ending) ≡ true
-        → drivenTo (plain two) trip budget w s bs a ≡ drivenTo (plain one) trip budget w s bs a
-    driven-agrees w s bs a e = by (a .track .over) e
+    driven-agrees : (o : Onto) (s : List TileKey) (bs : List ℕ) (a : Along)
+        → isSettled (drivenTo (plain one) trip budget o s bs a .walk .ending) ≡ true
+        → drivenTo (plain two) trip budget o s bs a ≡ drivenTo (plain one) trip budget o s bs a
+    driven-agrees o s bs a e = by (a .track .over) e
       where
         over : Run (List TileKey)
-        over = record { walk = reached w (a .track); carried = s; heights = a .heights }
+        over = reachedRun (plain one) trip budget o (a .track) s (a .heights)
 
         by : (t : Bool)
-            → isSettled (cond t over (crossedRun (plain one) trip budget (moved w (a .track)) s bs (a .heights)) .walk .ending) ≡ true
-            → cond t over (crossedRun (plain two) trip budget (moved w (a .track)) s bs (a .heights))
-            ≡ cond t over (crossedRun (plain one) trip budget (moved w (a .track)) s bs (a .heights))
+            → isSettled (cond t over (crossedRun (plain one) trip budget o (a .track) s bs (a .heights)) .walk .ending) ≡ true
+            → cond t over (crossedRun (plain two) trip budget o (a .track) s bs (a .heights))
+            ≡ cond t over (crossedRun (plain one) trip budget o (a .track) s bs (a .heights))
         by true e = refl
         by false e =
-            let m : Walk = moved w (a .track) in
-            rw (crossed-agrees (trip .header) m s bs (legOf (trip .header) (m .way) bs) e)
+            rw (crossed-agrees (trip .header) (o .visited) (o .walk) (a .track) s bs (legOf (trip .header) (o .walk .way) bs) e)
 
     edge-agrees : (p q : Look) → (settled p ≡ true → q ≡ p) → (r : Run (List TileKey))
         → isSettled (edgeLook (plain one) trip budget p r .walk .ending) ≡ true
         → edgeLook (plain two) trip budget q r ≡ edgeLook (plain one) trip budget p r
     unfolding withEnding
-    edge-agrees (ready bs) q same r e = rw (same refl) (by (enterLook (ready bs) (r .walk) budget) (goesOn (enterLook (ready bs) (r .walk) budget .ending)) e)
+    edge-agrees (ready bs) q same r e =
+        rw (same refl)
+        (by (enterLook (ready bs) (r .visited) (r .met) (r .walk) budget)
+        (goesOn (enterLook (ready bs) (r .visited) (r .met) (r .walk) budget .walk .ending)) e)
       where
         s : List TileKey
         s = plain one .found (r .carried) (r .walk .way .tile)
 
-        by : (w : Walk) (goes : Bool)
-            → isSettled (cond goes (driven (plain one) trip budget w s bs (r .heights)) (record { walk = w; carried = s; heights = r .heights }) .walk .ending)
-            ≡ true
-            → cond goes (driven (plain two) trip budget w s bs (r .heights)) (record { walk = w; carried = s; heights = r .heights })
-            ≡ cond goes (driven (plain one) trip budget w s bs (r .heights)) (record { walk = w; carried = s; heights = r .heights })
-        by w true e = driven-agrees w s bs (along trip w bs (r .heights)) e
-        by w false e = refl
+        by : (o : Onto) (goes : Bool)
+            → isSettled (cond goes (driven (plain one) trip budget o (r .track) s bs (r .heights))
+            (runOf (plain one) trip budget o (r .track) s (r .heights)) .walk .ending) ≡ true
+            → cond goes (driven (plain two) trip budget o (r .track) s bs (r .heights)) (runOf (plain two) trip budget o (r .track) s (r .heights))
+            ≡ cond goes (driven (plain one) trip budget o (r .track) s bs (r .heights)) (runOf (plain one) trip budget o (r .track) s (r .heights))
+        by o true e = driven-agrees o s bs (along trip (o .walk) (r .track) bs (r .heights)) e
+        by o false e = refl
     edge-agrees missing q same r e = absurd (true≢false (sym e))
     edge-agrees absent q same r e = absurd (true≢false (sym e))
     edge-agrees stale q same r e = absurd (true≢false (sym e))

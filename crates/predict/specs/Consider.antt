@@ -17,7 +17,6 @@ use Rattle.predict.specs.Choose.{push}
 use Rattle.predict.specs.Cost.{hasFlag, costOf}
 use Rattle.predict.specs.Outgoing.{outgoingOf}
 use Rattle.predict.specs.declared.Arrival.{Arrival}
-use Rattle.predict.specs.declared.Visited.{Visited}
 use Rattle.predict.specs.Visits.{wasVisited}
 
 -- the edge from the node: an edge that ends there is followed against its direction
@@ -31,19 +30,19 @@ choiceOf a bs key entry = record {
 }
 
 -- ONEWAY is 1
-unfoldable pub isWayOn : Arrival → Visited → List ℕ → TileKey → Incident → Bool
+unfoldable pub isWayOn : Arrival → List ℕ → List ℕ → TileKey → Incident → Bool
 isWayOn a v bs key entry =
     not (eqb (entry .edge) (a .way .edge) && sameKey key (a .way .tile))
     && (not (entry .ends && hasFlag (Layout.edgeOf bs (entry .edge) .flags) 1) && not (wasVisited v key (entry .edge)))
 
-unfoldable pub considerStep : Choices → Arrival → Visited → List ℕ → TileKey → Incident → Choices
+unfoldable pub considerStep : Choices → Arrival → List ℕ → List ℕ → TileKey → Incident → Choices
 considerStep c a v bs key entry = cond (isWayOn a v bs key entry) (push c (choiceOf a bs key entry)) c
 
 -- the first n entries of the node
-unfoldable pub considerTo : Choices → Arrival → Visited → List ℕ → TileKey → ℕ → ℕ → Choices
+unfoldable pub considerTo : Choices → Arrival → List ℕ → List ℕ → TileKey → ℕ → ℕ → Choices
 considerTo c a v bs key node n =
     upTo (λ (d : Choices) (i : ℕ). considerStep d a v bs key (Layout.entryOf bs (Layout.adjacencyStart bs node + i))) c n
 
 -- all of them: where starts fall there are none
-unfoldable pub consider : Choices → Arrival → Visited → List ℕ → TileKey → ℕ → Choices
+unfoldable pub consider : Choices → Arrival → List ℕ → List ℕ → TileKey → ℕ → Choices
 consider c a v bs key node = considerTo c a v bs key node (Layout.adjacencyEnd bs node - Layout.adjacencyStart bs node)

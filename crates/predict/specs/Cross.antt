@@ -3,7 +3,7 @@
 -- any reader.
 use Prim.Native.Nat.{ℕ}
 use mathlib.Core.Bool.{Bool, true, false, cond}
-use mathlib.Core.List.{List}
+use mathlib.Core.List.{List, []}
 use lib.Dec.{ltb}
 use lib.IntN.{ℤ, pos, _+ℤ_}
 use lib.ListN.{getD}
@@ -16,12 +16,9 @@ use Rattle.pack.specs.declared.Keyed.the-variants as Keyed
 use Rattle.tile.specs.Readers.{nodeAt}
 use Rattle.tile.specs.declared.Found.{Found}
 use Rattle.tile.specs.declared.Found.the-variants as Found
-use Rattle.cache.specs.declared.Cache.{Cache}
 use Rattle.cache.specs.Direct.{Look, ready, missing, absent, stale}
-use Rattle.cache.specs.declared.Carried.{Carried}
-use Rattle.cache.specs.declared.Hit.{Hit}
-use Rattle.cache.specs.Ages.{lookUp}
-use Rattle.cache.specs.Reader.{Reader, inBytes, inCache}
+use Rattle.cache.specs.declared.Lookup.{Lookup}
+use Rattle.cache.specs.Reader.{Reader, inBytes, inLooks}
 use Rattle.predict.specs.declared.Choices.{Choices}
 use Rattle.predict.specs.declared.twins.Twin.{Twin}
 use Rattle.predict.specs.declared.twins.TwinList.{TwinList}
@@ -30,7 +27,6 @@ use Rattle.predict.specs.declared.Arrival.{Arrival}
 use Rattle.predict.specs.declared.Crossing.{Crossing}
 use Rattle.predict.specs.declared.Ending.{Ending}
 use Rattle.predict.specs.declared.Ending.the-variants as Ending
-use Rattle.predict.specs.declared.Visited.{Visited}
 use Rattle.predict.specs.Consider.{consider}
 
 -- the ways on so far, whether one may lie off the map, how the lookups ended, and what they carry
@@ -40,12 +36,12 @@ pub record Ways (S : Type 0) : Type 0 where
   pub ending : Ending
   pub carried : S
 
-abbrev pub considerBy : Found → Choices → Arrival → Visited → List ℕ → TileKey → Choices
+abbrev pub considerBy : Found → Choices → Arrival → List ℕ → List ℕ → TileKey → Choices
 considerBy (Found.At node) c a v bs key = consider c a v bs key node
 considerBy Found.Nothing c a v bs key = c
 
 -- the tile's own node at the same point, if it has one
-abbrev pub considerAt : Choices → Arrival → Visited → List ℕ → TileKey → Twin → Choices
+abbrev pub considerAt : Choices → Arrival → List ℕ → List ℕ → TileKey → Twin → Choices
 considerAt c a v bs key twin = considerBy (nodeAt bs (twin .x) (twin .y)) c a v bs key
 
 abbrev pub block : {S : Type 0} → Ways S → Ways S
@@ -54,7 +50,7 @@ block x = record { choices = x .choices; blocked = true; ending = x .ending; car
 abbrev pub ended : {S : Type 0} → Ways S → Ending → Ways S
 ended x ending = record { choices = x .choices; blocked = x .blocked; ending = ending; carried = x .carried }
 
-module _ {S : Type 0} (rd : Reader S) (a : Arrival) (v : Visited) where
+module _ {S : Type 0} (rd : Reader S) (a : Arrival) (v : List ℕ) where
   abbrev pub twinLook : Look → Ways S → TileKey → Twin → Ways S
   twinLook (ready bs) x key twin = record {
     choices = considerAt (x .choices) a v bs key twin;
@@ -94,25 +90,26 @@ module _ {S : Type 0} (rd : Reader S) (a : Arrival) (v : Visited) where
 
 -- ---- the code's
 
-abbrev pub crossing : Ways Carried → Crossing
-crossing x = record { choices = x .choices; blocked = x .blocked; ending = x .ending; carried = x .carried }
+abbrev pub crossing : Ways (List ℕ) → Crossing
+crossing x = record { choices = x .choices; blocked = x .blocked; ending = x .ending }
 
-abbrev pub waysOf : Crossing → Ways Carried
-waysOf x = record { choices = x .choices; blocked = x .blocked; ending = x .ending; carried = x .carried }
+abbrev pub waysOf : Crossing → List ℕ → Ways (List ℕ)
+waysOf x s = record { choices = x .choices; blocked = x .blocked; ending = x .ending; carried = s }
 
--- by the answer of a lookup: what `twinLook` gives at the bytes of that answer, and what the lookup carries
-abbrev pub hitReader : Hit → List ℕ → Reader Carried
-hitReader hit arena = record { at = λ (s : Carried) (key : TileKey). inBytes (hit .answer) arena; found = λ (s : Carried) (key : TileKey). hit .carried }
+abbrev pub endedSo : Crossing → Ending → Crossing
+endedSo x ending = record { choices = x .choices; blocked = x .blocked; ending = ending }
 
-abbrev pub twinFound : Crossing → Hit → List ℕ → Arrival → Visited → TileKey → Twin → Crossing
-twinFound x hit arena a v key twin = crossing (twinLook (hitReader hit arena) a v (inBytes (hit .answer) arena) (waysOf x) key twin)
+-- by the answer of a lookup: what `twinLook` gives at the bytes of that answer, but for what is carried
+abbrev pub twinFound : Crossing → Lookup → List ℕ → Arrival → List ℕ → TileKey → Twin → Crossing
+twinFound x answer arena a v key twin =
+    crossing (twinLook (inLooks arena (a .header .tile)) a v (inBytes answer arena) (waysOf x []) key twin)
 
-module _ (x : Crossing) (c : Cache) (arena : List ℕ) (a : Arrival) (v : Visited) (twin : Twin) where
-  unfoldable pub twinStep : Crossing
-  twinStep = crossing (twinOver (inCache c arena (a .header .tile)) a v (waysOf x) twin)
+module _ (x : Crossing) (arena : List ℕ) (a : Arrival) (v : List ℕ) (s : List ℕ) (twin : Twin) where
+  unfoldable pub twinStep : Ways (List ℕ)
+  twinStep = twinOver (inLooks arena (a .header .tile)) a v (waysOf x s) twin
 
-  unfoldable pub crossStep : ℕ → ℕ → Crossing
-  crossStep i n = crossing (stepOver (inCache c arena (a .header .tile)) a v (waysOf x) twin i n)
+  unfoldable pub crossStep : ℕ → ℕ → Ways (List ℕ)
+  crossStep i n = stepOver (inLooks arena (a .header .tile)) a v (waysOf x s) twin i n
 
-unfoldable pub cross : Cache → List ℕ → Arrival → Visited → Carried → Choices → TwinList → Crossing
-cross c arena a v s choices twins = crossing (crossOver (inCache c arena (a .header .tile)) a v s choices twins)
+unfoldable pub cross : List ℕ → Arrival → List ℕ → List ℕ → Choices → TwinList → Ways (List ℕ)
+cross arena a v s choices twins = crossOver (inLooks arena (a .header .tile)) a v s choices twins

@@ -20,9 +20,9 @@ use Rattle.geo.specs.Flat.{whole}
 use Rattle.cache.specs.declared.Cache.{Cache}
 use Rattle.cache.specs.State.{cacheOk}
 use Rattle.cache.specs.Direct.{Look, ready, missing, absent, stale, look, looked}
-use Rattle.cache.specs.declared.Carried.{Carried}
-use Rattle.cache.specs.Ages.{carriedOf, aged}
-use Rattle.cache.specs.Reader.{Reader, plain, inCache}
+use Rattle.cache.specs.declared.Lookup.{Lookup}
+use Rattle.cache.specs.Ages.{lookupsOf, aged}
+use Rattle.cache.specs.Reader.{Reader, plain, inBytes, inLooks}
 use Rattle.matcher.specs.declared.Forward.{Forward}
 use Rattle.matcher.specs.declared.Forward.the-variants as Forward
 use Rattle.matcher.specs.declared.Heading.the-variants as Heading
@@ -40,8 +40,8 @@ use Rattle.predict.specs.declared.End.{End}
 use Rattle.predict.specs.declared.End.the-variants as End
 use Rattle.predict.specs.declared.Ending.{Ending}
 use Rattle.predict.specs.declared.Ending.the-variants as Ending
-use Rattle.predict.specs.Meets.{nothingMet, budget}
-use Rattle.predict.specs.Visits.{nothingVisited}
+use Rattle.predict.specs.Meets.{budget}
+use Rattle.predict.specs.declared.Track.{Track}
 use Rattle.predict.specs.declared.Walk.{Walk}
 use Rattle.predict.specs.Walk.{Run, walkOver}
 use Rattle.predict.specs.declared.Outcome.{Outcome}
@@ -57,14 +57,15 @@ legOf h m e forward = record { header = h; key = m .tile .key; edge = e; forward
 abbrev pub noMark : Mark
 noMark = Ridden.noMark
 
+-- how far the road has been followed before its first edge
+unfoldable pub trackFrom : Point → Mark → Track
+trackFrom here mark = record { here = here; distance = whole 0; mark = mark; history = first here; over = false }
+
 -- the walk before its first edge
-unfoldable pub walkFrom : Matched → Leg → Point → Mark → Walk
-walkFrom m leg here mark = record {
+unfoldable pub walkFrom : Matched → Leg → Walk
+walkFrom m leg = record {
   way = record { tile = leg .key; edge = m .edge; forward = leg .forward };
   from = firstOf leg (m .segment);
-  track = record { here = here; distance = whole 0; mark = mark; history = first here; over = false };
-  visited = nothingVisited;
-  met = nothingMet;
   entry = Heading.Nothing;
   approach = whole 0;
   road = record { class = leg .edge .class; group = leg .edge .group; flags = leg .edge .flags };
@@ -73,25 +74,25 @@ walkFrom m leg here mark = record {
 }
 
 -- what is answered of a walk; the confidence from 0 to 100
-unfoldable pub prediction : Walk → End → Behind → Prediction
-prediction w end b = record {
-  len = w .track .mark .len;
+unfoldable pub prediction : Walk → Track → End → Behind → Prediction
+prediction w t end b = record {
+  len = t .mark .len;
   behind = b .len;
   «behind_m» = b .m;
   end = end;
-  «end_m» = w .track .distance;
+  «end_m» = t .distance;
   confidence = toUnsigned 8 (clamp (mul binary32 (w .confidence) (whole 100)) (whole 0) (whole 100));
 }
 
 -- a walk that still goes on after its last edge is Uncertain
-abbrev pub outcomeBy : Ending → Walk → Behind → Outcome
-outcomeBy Ending.Going w b = Outcome.Road (prediction w End.Uncertain b)
-outcomeBy (Ending.Stops end) w b = Outcome.Road (prediction w end b)
-outcomeBy (Ending.Need key) w b = Outcome.Need key
-outcomeBy Ending.Stale w b = Outcome.Refused 12
+abbrev pub outcomeBy : Ending → Walk → Track → Behind → Outcome
+outcomeBy Ending.Going w t b = Outcome.Road (prediction w t End.Uncertain b)
+outcomeBy (Ending.Stops end) w t b = Outcome.Road (prediction w t end b)
+outcomeBy (Ending.Need key) w t b = Outcome.Need key
+outcomeBy Ending.Stale w t b = Outcome.Refused 12
 
-abbrev pub outcome : Walk → Behind → Outcome
-outcome w b = outcomeBy (w .ending) w b
+abbrev pub outcome : Walk → Track → Behind → Outcome
+outcome w t b = outcomeBy (w .ending) w t b
 
 -- an answer, both arrays of heights, and what the lookups carry
 pub record Forecast (S : Type 0) : Type 0 where
@@ -101,7 +102,7 @@ pub record Forecast (S : Type 0) : Type 0 where
   pub carried : S
 
 abbrev pub forecastOf : {S : Type 0} → Run S → Behind → List ℤ → Forecast S
-forecastOf r b behind = record { answer = outcome (r .walk) b; samples = r .heights; behind = behind; carried = r .carried }
+forecastOf r b behind = record { answer = outcome (r .walk) (r .track) b; samples = r .heights; behind = behind; carried = r .carried }
 
 abbrev pub uncertain : Outcome
 uncertain = Outcome.Road (record { len = 0; behind = 0; «behind_m» = whole 0; end = End.Uncertain; «end_m» = whole 0; confidence = 0 })
@@ -117,7 +118,7 @@ module _ {S : Type 0} (rd : Reader S) (n : ℕ) where
       let here = place (trip .header) bs e m in
       let b = Ridden.ridden trip (legOf (trip .header) m e (not forward)) bs (Layout.headOf bs .«lon_um») m here behind in
       let p = pushed noMark samples (whole 0) (pos 0) in
-      forecastOf (walkOver rd trip (budget n) (walkFrom m (legOf (trip .header) m e forward) here (p .mark)) s (p .heights)) (b .behind) (b .heights)
+      forecastOf (walkOver rd trip (budget n) (walkFrom m (legOf (trip .header) m e forward)) (trackFrom here (p .mark)) s (p .heights)) (b .behind) (b .heights)
 
   -- nothing was written
   abbrev pub nothing : Outcome → S → List ℤ → List ℤ → Forecast S
@@ -196,20 +197,29 @@ predict c arena h m horizon samples behind =
 abbrev pub noDirection : Cache → Predicted
 noDirection c = record { answer = uncertain; cache = c }
 
-abbrev pub closed : Cache → Carried → Outcome → Predicted
-closed c s answer = record { answer = answer; cache = cacheAfter answer c (aged c s) }
+abbrev pub closed : Cache → List ℕ → Outcome → Predicted
+closed c looks answer = record { answer = answer; cache = cacheAfter answer c (aged c looks) }
 
-abbrev pub afterOf : Cache → Forecast Carried → After
+abbrev pub afterOf : Cache → Forecast (List ℕ) → After
 afterOf c f = record { predicted = closed c (f .carried) (f .answer); samples = f .samples; behind = f .behind }
 
-unfoldable pub roadOf : Cache → List ℕ → Trip → Matched → Bool → Carried → List ℕ → List ℤ → List ℤ → After
-roadOf c arena trip m forward s bs samples behind =
-    afterOf c (roadOver (inCache c arena (trip .header .tile)) (c .pages .count) trip m forward s bs samples behind)
+unfoldable pub roadOf : List ℕ → List ℕ → ℕ → Trip → Matched → Bool → List ℕ → List ℤ → List ℤ → Forecast (List ℕ)
+roadOf looks arena n trip m forward bs samples behind = roadOver (inLooks arena (trip .header .tile)) n trip m forward looks bs samples behind
 
-unfoldable pub fromTile : Cache → List ℕ → Trip → Matched → Bool → Carried → List ℕ → List ℤ → List ℤ → After
-fromTile c arena trip m forward s bs samples behind =
-    afterOf c (tileOver (inCache c arena (trip .header .tile)) (c .pages .count) trip m forward s bs samples behind)
+unfoldable pub fromTile : List ℕ → List ℕ → ℕ → Trip → Matched → Bool → List ℕ → List ℤ → List ℤ → Forecast (List ℕ)
+fromTile looks arena n trip m forward bs samples behind = tileOver (inLooks arena (trip .header .tile)) n trip m forward looks bs samples behind
+
+-- by the answer of the lookup of the start's tile, with the numbers after it
+abbrev pub startedLook : Look → List ℕ → List ℕ → ℕ → Header → Matched → Bool → Float → List ℤ → List ℤ → Forecast (List ℕ)
+startedLook (ready bs) looks arena n h m forward horizon samples behind = fromTile looks arena n (tripOf h m horizon) m forward bs samples behind
+startedLook missing looks arena n h m forward horizon samples behind = nothing (inLooks arena (h .tile)) n Outcome.Rematch looks samples behind
+startedLook absent looks arena n h m forward horizon samples behind =
+    nothing (inLooks arena (h .tile)) n (Outcome.Need (m .tile .key)) looks samples behind
+startedLook stale looks arena n h m forward horizon samples behind = nothing (inLooks arena (h .tile)) n (Outcome.Refused 12) looks samples behind
+
+unfoldable pub startedBy : List ℕ → List ℕ → ℕ → Header → Lookup → Matched → Bool → Float → List ℤ → List ℤ → Forecast (List ℕ)
+startedBy looks arena n h answer m forward horizon samples behind = startedLook (inBytes answer arena) looks arena n h m forward horizon samples behind
 
 unfoldable pub fromStart : Cache → List ℕ → Header → Matched → Bool → Float → List ℤ → List ℤ → After
 fromStart c arena h m forward horizon samples behind =
-    afterOf c (startOver (inCache c arena (h .tile)) (c .pages .count) h m forward horizon (carriedOf c) samples behind)
+    afterOf c (startOver (inLooks arena (h .tile)) (c .pages .count) h m forward horizon (lookupsOf c) samples behind)

@@ -1,28 +1,24 @@
--- The edges followed last: `predict.rs`, `visited`. VISITED is 128: past it the oldest goes.
-use Prim.Native.Nat.{ℕ, _+_, _%_}
-use mathlib.Core.Bool.{Bool, _&&_}
+-- The edges followed last: `predict.rs`, `visited`. VISITED is 128: past it the oldest goes. They are 128 numbers above 0, one an edge, 0 where
+-- none stands yet, and the place that the next one takes behind them.
+use Prim.Native.Nat.{ℕ, _+_, _*_, _%_}
+use mathlib.Core.Bool.{Bool}
+use mathlib.Core.List.{List}
 use lib.Dec.{eqb}
 use lib.ListN.{getD, set, replicate}
 use Rattle.pack.specs.declared.TileKey.{TileKey}
-use Rattle.cache.specs.declared.MaybeKey.the-variants as MaybeKey
 use Rattle.cache.specs.Search.{lowest, isFound}
-use Rattle.cache.specs.Keys.{holds}
-use Rattle.predict.specs.declared.Followed.{Followed}
-use Rattle.predict.specs.declared.Visited.{Visited}
 
-abbrev pub noEdge : Followed
-noEdge = record { tile = MaybeKey.Nothing; edge = 0 }
+-- an edge of a tile, whose row, column and edge have 16 bits each: two edges of one number are the same (`proofs.NumberLaws`)
+abbrev pub numberOf : TileKey → ℕ → ℕ
+numberOf key edge = (key .row * 0x1_0000 + key .col) * 0x1_0000 + edge + 1
 
-abbrev pub nothingVisited : Visited
-nothingVisited = record { v = replicate 128 noEdge; next = 0 }
+abbrev pub nothingVisited : List ℕ
+nothingVisited = replicate 129 0
 
 -- in the next place, and the place after it next, round the array
-unfoldable pub visit : Visited → TileKey → ℕ → Visited
-visit d key edge = record { v = set (d .v) (d .next) (record { tile = MaybeKey.Key key; edge = edge }); next = (d .next + 1) % 128 }
-
-abbrev pub isFollowed : Followed → TileKey → ℕ → Bool
-isFollowed f key edge = eqb (f .edge) edge && holds (f .tile) key
+unfoldable pub visit : List ℕ → TileKey → ℕ → List ℕ
+visit d key edge = let at = getD d 128 0 % 128 in set (set d at (numberOf key edge)) 128 ((at + 1) % 128)
 
 -- `visited.contains(..)`
-unfoldable pub wasVisited : Visited → TileKey → ℕ → Bool
-wasVisited d key edge = isFound (lowest (λ (i : ℕ). isFollowed (getD (d .v) i noEdge) key edge) 128)
+unfoldable pub wasVisited : List ℕ → TileKey → ℕ → Bool
+wasVisited d key edge = isFound (lowest (λ (i : ℕ). eqb (getD d i 0) (numberOf key edge)) 128)

@@ -1,10 +1,10 @@
 -- Following the road ahead from edge to edge: `predict.rs`, `predict`, the edge loop, at most MAX_EDGES (2,000) of them. Each step is written
--- once, over any reader: `walkTo` knows no cache, and the direct engine shares it. `follow` is it at the cache's lookups. A tile that is not
+-- once, over any reader: `walkTo` knows no cache, and the direct engine shares it. `follow` is it at the code's lookups. A tile that is not
 -- loaded ends the walk with its key, one that no longer passes with 12; a missing tile of an edge that is taken ends it with its key too, as in
 -- the Rust.
 use Prim.Native.Nat.{ℕ, _+_, _-_, _%_}
 use mathlib.Core.Bool.{Bool, true, false, cond}
-use mathlib.Core.List.{List}
+use mathlib.Core.List.{List, []}
 use lib.IntN.{ℤ}
 use lib.Ieee.{Float}
 use lib.ListN.{length}
@@ -14,14 +14,11 @@ use Rattle.pack.specs.declared.TileKey.{TileKey}
 use Rattle.cache.specs.Runs.{span}
 use Rattle.tile.specs.Layout as Layout
 use Rattle.tile.specs.declared.Edge.{Edge}
-use Rattle.cache.specs.declared.Cache.{Cache}
 use Rattle.cache.specs.Direct.{Look, ready, missing, absent, stale}
 use Rattle.cache.specs.declared.Lookup.{Lookup}
 use Rattle.cache.specs.declared.Lookup.the-variants as Lookup
-use Rattle.cache.specs.declared.Carried.{Carried}
-use Rattle.cache.specs.declared.Hit.{Hit}
 use Rattle.cache.specs.Ages.{lookUp}
-use Rattle.cache.specs.Reader.{Reader, inBytes, inCache}
+use Rattle.cache.specs.Reader.{Reader, inBytes, inLooks}
 use Rattle.matcher.specs.declared.Heading.{Heading}
 use Rattle.matcher.specs.declared.Heading.the-variants as Heading
 use Rattle.predict.specs.declared.Way.{Way}
@@ -41,14 +38,13 @@ use Rattle.predict.specs.declared.Decision.{Decision}
 use Rattle.predict.specs.declared.End.the-variants as End
 use Rattle.predict.specs.declared.Ending.{Ending}
 use Rattle.predict.specs.declared.Ending.the-variants as Ending
-use Rattle.predict.specs.declared.Met.{Met}
-use Rattle.predict.specs.Visits.{visit}
-use Rattle.predict.specs.Meets.{meet}
+use Rattle.predict.specs.Visits.{nothingVisited, visit}
+use Rattle.predict.specs.Meets.{nothingMet, meet}
 use Rattle.predict.specs.Consider.{consider}
 use Rattle.predict.specs.Cross.{Ways, crossOver, waysOf}
 use Rattle.predict.specs.Decide.{decide}
 use Rattle.predict.specs.declared.Walk.{Walk}
-use Rattle.predict.specs.declared.Step.{Step}
+use Rattle.predict.specs.declared.Followed.{Followed}
 use Rattle.predict.specs.declared.enter.Entered.{Entered}
 
 -- ---- a walk with one thing changed
@@ -57,9 +53,6 @@ unfoldable pub withEnding : Walk → Ending → Walk
 withEnding w ending = record {
   way = w .way;
   from = w .from;
-  track = w .track;
-  visited = w .visited;
-  met = w .met;
   entry = w .entry;
   approach = w .approach;
   road = w .road;
@@ -67,32 +60,15 @@ withEnding w ending = record {
   ending = ending;
 }
 
-unfoldable pub moved : Walk → Track → Walk
-moved w t = record {
-  way = w .way;
-  from = w .from;
-  track = t;
-  visited = w .visited;
-  met = w .met;
-  entry = w .entry;
-  approach = w .approach;
-  road = w .road;
-  confidence = w .confidence;
-  ending = w .ending;
-}
-
 -- at the horizon, or with the last sample
-unfoldable pub reached : Walk → Track → Walk
-reached w t = withEnding (moved w t) (Ending.Stops End.Horizon)
+unfoldable pub reached : Walk → Walk
+reached w = withEnding w (Ending.Stops End.Horizon)
 
 -- the way decided on, from its first point past the node
 unfoldable pub taken : Walk → Decision → Walk
 taken w d = record {
   way = d .way;
   from = 1;
-  track = w .track;
-  visited = w .visited;
-  met = w .met;
   entry = w .entry;
   approach = w .approach;
   road = w .road;
@@ -104,26 +80,9 @@ unfoldable pub onRoad : Walk → Road → Walk
 onRoad w road = record {
   way = w .way;
   from = w .from;
-  track = w .track;
-  visited = w .visited;
-  met = w .met;
   entry = w .entry;
   approach = w .approach;
   road = road;
-  confidence = w .confidence;
-  ending = w .ending;
-}
-
-unfoldable pub throughEdge : Walk → Met → Walk
-throughEdge w met = record {
-  way = w .way;
-  from = w .from;
-  track = w .track;
-  visited = visit (w .visited) (w .way .tile) (w .way .edge);
-  met = met;
-  entry = w .entry;
-  approach = w .approach;
-  road = w .road;
   confidence = w .confidence;
   ending = w .ending;
 }
@@ -132,9 +91,6 @@ unfoldable pub withEntry : Walk → Heading → Float → Walk
 withEntry w entry approach = record {
   way = w .way;
   from = w .from;
-  track = w .track;
-  visited = w .visited;
-  met = w .met;
   entry = entry;
   approach = approach;
   road = w .road;
@@ -144,16 +100,26 @@ withEntry w entry approach = record {
 
 -- ---- onto an edge
 
--- its tile takes so many pages: with room the edge counts as followed, without it is Memory
-abbrev pub entered : Walk → ℕ → ℕ → Walk
-entered w budget pages =
-    let m = meet (w .met) budget (w .way .tile) pages in cond (m .fits) (throughEdge w (m .met)) (withEnding w (Ending.Stops End.Memory))
+-- a walk, and the edges and tiles behind it
+pub record Onto : Type 0 where
+  pub walk : Walk
+  pub visited : List ℕ
+  pub met : List ℕ
 
-abbrev pub enterLook : Look → Walk → ℕ → Walk
-enterLook (ready bs) w budget = entered w budget (span (length bs))
-enterLook missing w budget = withEnding w (Ending.Need (w .way .tile))
-enterLook absent w budget = withEnding w (Ending.Need (w .way .tile))
-enterLook stale w budget = withEnding w Ending.Stale
+abbrev pub stopped : List ℕ → List ℕ → Walk → Ending → Onto
+stopped v m w ending = record { walk = withEnding w ending; visited = v; met = m }
+
+-- its tile takes so many pages: with room the edge counts as followed, without it is Memory
+abbrev pub entered : List ℕ → List ℕ → Walk → ℕ → ℕ → Onto
+entered v m w budget pages =
+    let x = meet m budget (w .way .tile) pages in
+    cond (x .fits) (record { walk = w; visited = visit v (w .way .tile) (w .way .edge); met = x .met }) (stopped v (x .met) w (Ending.Stops End.Memory))
+
+abbrev pub enterLook : Look → List ℕ → List ℕ → Walk → ℕ → Onto
+enterLook (ready bs) v m w budget = entered v m w budget (span (length bs))
+enterLook missing v m w budget = stopped v m w (Ending.Need (w .way .tile))
+enterLook absent v m w budget = stopped v m w (Ending.Need (w .way .tile))
+enterLook stale v m w budget = stopped v m w Ending.Stale
 
 -- ---- at a junction
 
@@ -173,8 +139,8 @@ abbrev pub boundOf : Heading → Float → Bound
 boundOf Heading.Nothing incoming = record { heading = incoming; round = false }
 boundOf (Heading.Degrees d) incoming = record { heading = d; round = true }
 
-abbrev pub incomingOf : Walk → ℕ → Float
-incomingOf w lonUm = incoming (w .track .history) (w .track .here) (w .track .distance) lonUm (w .approach)
+abbrev pub incomingOf : Track → Float → ℕ → Float
+incomingOf t approach lonUm = incoming (t .history) (t .here) (t .distance) lonUm approach
 
 abbrev pub nodeOf : Leg → ℕ
 nodeOf leg = cond (leg .forward) (leg .edge .to) (leg .edge .from)
@@ -204,9 +170,12 @@ pub record Stride (S : Type 0) : Type 0 where
   pub walk : Walk
   pub carried : S
 
--- with the heights beside it
+-- with how far it has come, the edges and tiles behind it, and the heights
 pub record Run (S : Type 0) : Type 0 where
   pub walk : Walk
+  pub track : Track
+  pub visited : List ℕ
+  pub met : List ℕ
   pub carried : S
   pub heights : List ℤ
 
@@ -236,18 +205,18 @@ module _ {S : Type 0} (rd : Reader S) where
   onwardOver w x = onwardBy (x .ending) w x
 
   -- the ways on of the edge's own tile, then of the tiles that share the node
-  abbrev pub waysOver : Header → Walk → S → List ℕ → Leg → Float → Ways S
-  waysOver h w s bs leg incoming =
+  abbrev pub waysOver : Header → List ℕ → Walk → S → List ℕ → Leg → Float → Ways S
+  waysOver h v w s bs leg incoming =
       let a = arrivalOf h w incoming in
       let node = nodeOf leg in
       let at = Layout.nodeOf bs node in
-      crossOver rd a (w .visited) s (consider noChoices a (w .visited) bs (w .way .tile) node) (boundaryTwins (at .x) (at .y) (h .tile % 0x1_0000))
+      crossOver rd a v s (consider noChoices a v bs (w .way .tile) node) (boundaryTwins (at .x) (at .y) (h .tile % 0x1_0000))
 
-  unfoldable pub crossedOver : Header → Walk → S → List ℕ → Leg → Stride S
-  crossedOver h w s bs leg =
-      let incoming = incomingOf w (Layout.headOf bs .«lon_um») in
-      let t = turned w (leg .edge) incoming in
-      onwardOver t (waysOver h t s bs leg incoming)
+  unfoldable pub crossedOver : Header → List ℕ → Walk → Track → S → List ℕ → Leg → Stride S
+  crossedOver h v w t s bs leg =
+      let incoming = incomingOf t (w .approach) (Layout.headOf bs .«lon_um») in
+      let d = turned w (leg .edge) incoming in
+      onwardOver d (waysOver h v d s bs leg incoming)
 
 -- ---- an edge
 
@@ -261,32 +230,38 @@ abbrev pub legOf : Header → Way → List ℕ → Leg
 legOf h way bs = record { header = h; key = way .tile; edge = Layout.edgeOf bs (way .edge); forward = way .forward }
 
 -- the points of the walk's edge that lie ahead
-unfoldable pub along : Trip → Walk → List ℕ → List ℤ → Along
-along trip w bs hs =
-    toEnd trip (legOf (trip .header) (w .way) bs) bs (Layout.headOf bs .«lon_um») (w .from) (record { track = w .track; heights = hs })
+unfoldable pub along : Trip → Walk → Track → List ℕ → List ℤ → Along
+along trip w t bs hs =
+    toEnd trip (legOf (trip .header) (w .way) bs) bs (Layout.headOf bs .«lon_um») (w .from) (record { track = t; heights = hs })
 
 module _ {S : Type 0} (rd : Reader S) (trip : Trip) (budget : ℕ) where
-  abbrev pub crossedRun : Walk → S → List ℕ → List ℤ → Run S
-  crossedRun w s bs hs =
-      let x = crossedOver rd (trip .header) w s bs (legOf (trip .header) (w .way) bs) in record { walk = x .walk; carried = x .carried; heights = hs }
+  abbrev pub runOf : Onto → Track → S → List ℤ → Run S
+  runOf o t s hs = record { walk = o .walk; track = t; visited = o .visited; met = o .met; carried = s; heights = hs }
+
+  abbrev pub crossedRun : Onto → Track → S → List ℕ → List ℤ → Run S
+  crossedRun o t s bs hs =
+      let x = crossedOver rd (trip .header) (o .visited) (o .walk) t s bs (legOf (trip .header) (o .walk .way) bs) in
+      record { walk = x .walk; track = t; visited = o .visited; met = o .met; carried = x .carried; heights = hs }
+
+  abbrev pub reachedRun : Onto → Track → S → List ℤ → Run S
+  reachedRun o t s hs = record { walk = reached (o .walk); track = t; visited = o .visited; met = o .met; carried = s; heights = hs }
 
   -- over at the horizon, else on from the junction
-  abbrev pub drivenTo : Walk → S → List ℕ → Along → Run S
-  drivenTo w s bs a =
-      cond (a .track .over) (record { walk = reached w (a .track); carried = s; heights = a .heights }) (crossedRun (moved w (a .track)) s bs (a .heights))
+  abbrev pub drivenTo : Onto → S → List ℕ → Along → Run S
+  drivenTo o s bs a = cond (a .track .over) (reachedRun o (a .track) s (a .heights)) (crossedRun o (a .track) s bs (a .heights))
 
-  abbrev pub driven : Walk → S → List ℕ → List ℤ → Run S
-  driven w s bs hs = drivenTo w s bs (along trip w bs hs)
+  abbrev pub driven : Onto → Track → S → List ℕ → List ℤ → Run S
+  driven o t s bs hs = drivenTo o s bs (along trip (o .walk) t bs hs)
 
   -- once the edge's tile was looked up: along the edge, if there is room for it
   abbrev pub edgeLook : Look → Run S → Run S
   edgeLook (ready bs) r =
-      let w = enterLook (ready bs) (r .walk) budget in
+      let o = enterLook (ready bs) (r .visited) (r .met) (r .walk) budget in
       let s = rd .found (r .carried) (r .walk .way .tile) in
-      cond (goesOn (w .ending)) (driven w s bs (r .heights)) (record { walk = w; carried = s; heights = r .heights })
-  edgeLook missing r = record { walk = enterLook missing (r .walk) budget; carried = r .carried; heights = r .heights }
-  edgeLook absent r = record { walk = enterLook absent (r .walk) budget; carried = r .carried; heights = r .heights }
-  edgeLook stale r = record { walk = enterLook stale (r .walk) budget; carried = r .carried; heights = r .heights }
+      cond (goesOn (o .walk .ending)) (driven o (r .track) s bs (r .heights)) (runOf o (r .track) s (r .heights))
+  edgeLook missing r = runOf (enterLook missing (r .visited) (r .met) (r .walk) budget) (r .track) (r .carried) (r .heights)
+  edgeLook absent r = runOf (enterLook absent (r .visited) (r .met) (r .walk) budget) (r .track) (r .carried) (r .heights)
+  edgeLook stale r = runOf (enterLook stale (r .visited) (r .met) (r .walk) budget) (r .track) (r .carried) (r .heights)
 
   -- nothing more once the walk ended
   abbrev pub edgeStep : Run S → Run S
@@ -296,13 +271,11 @@ module _ {S : Type 0} (rd : Reader S) (trip : Trip) (budget : ℕ) where
   unfoldable pub walkTo : Run S → ℕ → Run S
   walkTo r n = upTo (λ (x : Run S) (i : ℕ). edgeStep x) r n
 
-  abbrev pub walkOver : Walk → S → List ℤ → Run S
-  walkOver w s hs = walkTo (record { walk = w; carried = s; heights = hs }) 2000
+  -- from no edge and no tile
+  abbrev pub walkOver : Walk → Track → S → List ℤ → Run S
+  walkOver w t s hs = walkTo (record { walk = w; track = t; visited = nothingVisited; met = nothingMet; carried = s; heights = hs }) 2000
 
 -- ---- the code's
-
-abbrev pub stepOf : Stride Carried → Step
-stepOf x = record { walk = x .walk; carried = x .carried }
 
 -- where an answer in pages stands
 abbrev pub firstOf : Lookup → ℕ
@@ -317,36 +290,47 @@ lenOf Lookup.Missing = 0
 lenOf Lookup.Absent = 0
 lenOf (Lookup.Refused number) = 0
 
-abbrev pub enteredBy : Walk → Hit → List ℕ → ℕ → Entered
-enteredBy w hit arena budget = record {
-  walk = enterLook (inBytes (hit .answer) arena) w budget;
-  carried = hit .carried;
-  first = firstOf (hit .answer);
-  len = lenOf (hit .answer);
+-- the walk on its edge, where the tile stands, and the numbers that are lent
+pub record Entering : Type 0 where
+  pub entered : Entered
+  pub looks : List ℕ
+  pub visited : List ℕ
+  pub met : List ℕ
+
+abbrev pub enteringOf : Onto → Lookup → List ℕ → Entering
+enteringOf o answer looks = record {
+  entered = record { walk = o .walk; first = firstOf answer; len = lenOf answer };
+  looks = looks;
+  visited = o .visited;
+  met = o .met;
 }
 
-unfoldable pub enter : Cache → List ℕ → ℕ → ℕ → Walk → Carried → Entered
-enter c arena size budget w s =
-    cond (goesOn (w .ending)) (enteredBy w (lookUp c arena size s (w .way .tile)) arena budget) (record { walk = w; carried = s; first = 0; len = 0 })
+-- by the answer of a lookup, but for the numbers of lookups
+abbrev pub enteredBy : List ℕ → List ℕ → Walk → Lookup → List ℕ → ℕ → Entering
+enteredBy v m w answer arena budget = enteringOf (enterLook (inBytes answer arena) v m w budget) answer []
 
-abbrev pub nextBy : Walk → Hit → List ℕ → Step
-nextBy w hit arena = record { walk = nextLook (inBytes (hit .answer) arena) w; carried = hit .carried }
+unfoldable pub enter : List ℕ → List ℕ → List ℕ → Walk → List ℕ → ℕ → ℕ → Entering
+enter looks v m w arena size budget =
+    let hit = lookUp looks arena size (w .way .tile) in
+    cond (goesOn (w .ending)) (enteringOf (enterLook (inBytes (hit .answer) arena) v m w budget) (hit .answer) (hit .looks))
+    (record { entered = record { walk = w; first = 0; len = 0 }; looks = looks; visited = v; met = m })
 
-unfoldable pub decided : Cache → List ℕ → ℕ → Walk → Carried → Decision → Step
-decided c arena size w s d = stepOf (decidedOver (inCache c arena size) w s d)
+abbrev pub nextBy : Walk → Lookup → List ℕ → Walk
+nextBy w answer arena = nextLook (inBytes answer arena) w
 
-unfoldable pub onward : Cache → List ℕ → ℕ → Walk → Crossing → Step
-onward c arena size w x = stepOf (onwardOver (inCache c arena size) w (waysOf x))
+unfoldable pub decided : List ℕ → List ℕ → ℕ → Walk → Decision → Stride (List ℕ)
+decided looks arena size w d = decidedOver (inLooks arena size) w looks d
 
-unfoldable pub crossed : Cache → List ℕ → Header → Walk → Carried → List ℕ → Leg → Step
-crossed c arena h w s bs leg = stepOf (crossedOver (inCache c arena (h .tile)) h w s bs leg)
+unfoldable pub onward : List ℕ → List ℕ → ℕ → Walk → Crossing → Stride (List ℕ)
+onward looks arena size w x = onwardOver (inLooks arena size) w (waysOf x looks)
 
-pub record Followed : Type 0 where
-  pub step : Step
-  pub heights : List ℤ
+unfoldable pub crossed : List ℕ → List ℕ → List ℕ → Header → Walk → Track → List ℕ → Leg → Stride (List ℕ)
+crossed looks v arena h w t bs leg = crossedOver (inLooks arena (h .tile)) h v w t looks bs leg
 
-abbrev pub followedOf : Run Carried → Followed
-followedOf r = record { step = record { walk = r .walk; carried = r .carried }; heights = r .heights }
+unfoldable pub follow : List ℕ → List ℕ → List ℕ → List ℕ → Trip → ℕ → Walk → Track → List ℤ → Run (List ℕ)
+follow looks v m arena trip budget w t hs =
+    walkTo (inLooks arena (trip .header .tile)) trip budget
+    (record { walk = w; track = t; visited = v; met = m; carried = looks; heights = hs }) 2000
 
-unfoldable pub follow : Cache → List ℕ → Trip → ℕ → Walk → Carried → List ℤ → Followed
-follow c arena trip budget w s hs = followedOf (walkOver (inCache c arena (trip .header .tile)) trip budget w s hs)
+abbrev pub followed : Run (List ℕ) → Followed
+followed r = record { walk = r .walk; track = r .track }

@@ -2,7 +2,6 @@
 use crate::Arrival;
 use crate::Choice;
 use crate::Choices;
-use crate::Visited;
 use crate::Way;
 use crate::outgoing::Leg;
 use pack::TileKey;
@@ -39,8 +38,14 @@ fn choice_of(a: Arrival, bytes: &[u8], key: TileKey, entry: Incident) -> Choice
 }
 
 // Whether an edge at the node is a way on: not the one the walk came by, no oneway against its direction, none followed before.
-fn is_way_on(a: Arrival, v: Visited, bytes: &[u8], key: TileKey, entry: Incident) -> bool
-    ensures { λ r. ⌜ r ≡ Consider.isWayOn a v (now (bytes .entry)) key entry ⌝ }
+fn is_way_on(
+    a: Arrival,
+    visited: &[u64; crate::VISITED + 1],
+    bytes: &[u8],
+    key: TileKey,
+    entry: Incident,
+) -> bool
+    ensures { λ r. ⌜ r ≡ Consider.isWayOn a (now (visited .entry)) (now (bytes .entry)) key entry ⌝ }
 {
     let way = a.way;
     if entry.edge == way.edge {
@@ -55,21 +60,21 @@ fn is_way_on(a: Arrival, v: Visited, bytes: &[u8], key: TileKey, entry: Incident
             return false;
         }
     }
-    !crate::visits::was_visited(v, key, entry.edge)
+    !crate::visits::was_visited(visited, key, entry.edge)
 }
 
 // One edge at the node.
 fn consider_step(
     c: Choices,
     a: Arrival,
-    v: Visited,
+    visited: &[u64; crate::VISITED + 1],
     bytes: &[u8],
     key: TileKey,
     entry: Incident,
 ) -> Choices
-    ensures { λ r. ⌜ r ≡ Consider.considerStep c a v (now (bytes .entry)) key entry ⌝ }
+    ensures { λ r. ⌜ r ≡ Consider.considerStep c a (now (visited .entry)) (now (bytes .entry)) key entry ⌝ }
 {
-    if is_way_on(a, v, bytes, key, entry) {
+    if is_way_on(a, visited, bytes, key, entry) {
         let choice = choice_of(a, bytes, key, entry);
         return crate::choose::push(c, choice);
     }
@@ -80,19 +85,19 @@ fn consider_step(
 pub(crate) fn consider(
     c: Choices,
     a: Arrival,
-    v: Visited,
+    visited: &[u64; crate::VISITED + 1],
     bytes: &[u8],
     key: TileKey,
     node: u16,
 ) -> Choices
-    ensures { λ r. ⌜ r ≡ Consider.consider c a v (now (bytes .entry)) key node ⌝ }
+    ensures { λ r. ⌜ r ≡ Consider.consider c a (now (visited .entry)) (now (bytes .entry)) key node ⌝ }
 {
     let end = tile::raw::adjacency_end(bytes, node);
     let mut d = c;
     let mut i = tile::raw::adjacency_start(bytes, node as u32) as u32;
     while i < end {
         let entry = tile::raw::entry(bytes, i);
-        d = consider_step(d, a, v, bytes, key, entry);
+        d = consider_step(d, a, visited, bytes, key, entry);
         i += 1;
     }
     d

@@ -3,12 +3,8 @@ use crate::Arrival;
 use crate::Choices;
 use crate::Crossing;
 use crate::Ending;
-use crate::Visited;
 use crate::twins::Twin;
 use crate::twins::TwinList;
-use cache::Cache;
-use cache::Carried;
-use cache::Hit;
 use cache::Lookup;
 use pack::Keyed;
 use pack::TileKey;
@@ -24,46 +20,43 @@ ghost use Rattle.predict.specs.Cross as Cross;
 fn consider_at(
     c: Choices,
     a: Arrival,
-    v: Visited,
+    visited: &[u64; crate::VISITED + 1],
     bytes: &[u8],
     key: TileKey,
     twin: Twin,
 ) -> Choices
-    ensures { λ r. ⌜ r ≡ Cross.considerAt c a v (now (bytes .entry)) key twin ⌝ }
+    ensures { λ r. ⌜ r ≡ Cross.considerAt c a (now (visited .entry)) (now (bytes .entry)) key twin ⌝ }
 {
     match tile::read::node_at(bytes, twin.x, twin.y) {
-        Found::At(node) => crate::consider::consider(c, a, v, bytes, key, node),
+        Found::At(node) => crate::consider::consider(c, a, visited, bytes, key, node),
         Found::Nothing => c,
     }
 }
 
 // The lookups end here.
 fn ended(x: Crossing, ending: Ending) -> Crossing
-    ensures { λ r. ⌜ r ≡ Cross.crossing (Cross.ended (Cross.waysOf x) ending) ⌝ }
+    ensures { λ r. ⌜ r ≡ Cross.endedSo x ending ⌝ }
 {
     let choices = x.choices;
-    let carried = x.carried;
     Crossing {
         choices,
         blocked: x.blocked,
         ending,
-        carried,
     }
 }
 
 // What the lookup of a tile that shares the node gives.
 fn twin_found(
     x: Crossing,
-    hit: Hit,
+    answer: Lookup,
     arena: &[u8],
     a: Arrival,
-    v: Visited,
+    visited: &[u64; crate::VISITED + 1],
     key: TileKey,
     twin: Twin,
 ) -> Crossing
-    ensures { λ r. ⌜ r ≡ Cross.twinFound x hit (now (arena .entry)) a v key twin ⌝ }
+    ensures { λ r. ⌜ r ≡ Cross.twinFound x answer (now (arena .entry)) a (now (visited .entry)) key twin ⌝ }
 {
-    let answer = hit.answer;
     let mut d = x;
     match answer {
         Lookup::Missing => {
@@ -73,18 +66,16 @@ fn twin_found(
         Lookup::Absent => ended(x, Ending::Need(key)),
         Lookup::Refused(_) => ended(x, Ending::Stale),
         Lookup::Ready(first, len) => {
-            let carried = hit.carried;
             let old = d.choices;
             let choices = consider_at(
                 old,
                 a,
-                v,
+                visited,
                 cache::ages::run_bytes(arena, first, len),
                 key,
                 twin,
             );
             d.choices = choices;
-            d.carried = carried;
             d
         }
     }
@@ -113,15 +104,22 @@ fn key_of(a: Arrival, twin: Twin) -> Keyed
 }
 
 // A tile that shares the node; one outside the grid blocks the road.
-fn twin_step(x: Crossing, c: Cache, arena: &[u8], a: Arrival, v: Visited, twin: Twin) -> Crossing
-    ensures { λ r. ⌜ r ≡ Cross.twinStep x c (now (arena .entry)) a v twin ⌝ }
+fn twin_step(
+    x: Crossing,
+    arena: &[u8],
+    a: Arrival,
+    visited: &[u64; crate::VISITED + 1],
+    looks: &mut [u32; cache::ages::LOOKUPS],
+    twin: Twin,
+) -> Crossing
+    ensures { λ r. ⌜ r ≡ Cross.crossing (Cross.twinStep x (now (arena .entry)) a (now (visited .entry)) (now (looks .entry)) twin) ⌝ }
+    ensures { λ r. ⌜ now (looks .exit) ≡ Cross.twinStep x (now (arena .entry)) a (now (visited .entry)) (now (looks .entry)) twin .carried ⌝ }
 {
     match key_of(a, twin) {
         Keyed::In(key) => {
             let header = a.header;
-            let carried = x.carried;
-            let hit = cache::ages::look_up(c, arena, header.tile, carried, key);
-            twin_found(x, hit, arena, a, v, key, twin)
+            let answer = cache::ages::look_up(looks, arena, header.tile, key);
+            twin_found(x, answer, arena, a, visited, key, twin)
         }
         Keyed::Outside => {
             let mut d = x;
@@ -132,25 +130,26 @@ fn twin_step(x: Crossing, c: Cache, arena: &[u8], a: Arrival, v: Visited, twin: 
     }
 }
 
-// Tile number `i` of those that share the node, once all before it were found or missing.
+// One tile more of those that share the node, once all before it were found or missing.
 fn cross_step(
     x: Crossing,
-    c: Cache,
     arena: &[u8],
     a: Arrival,
-    v: Visited,
+    visited: &[u64; crate::VISITED + 1],
+    looks: &mut [u32; cache::ages::LOOKUPS],
     twin: Twin,
     i: usize,
     n: usize,
 ) -> Crossing
-    ensures { λ r. ⌜ r ≡ Cross.crossStep x c (now (arena .entry)) a v twin i n ⌝ }
+    ensures { λ r. ⌜ r ≡ Cross.crossing (Cross.crossStep x (now (arena .entry)) a (now (visited .entry)) (now (looks .entry)) twin i n) ⌝ }
+    ensures { λ r. ⌜ now (looks .exit) ≡ Cross.crossStep x (now (arena .entry)) a (now (visited .entry)) (now (looks .entry)) twin i n .carried ⌝ }
 {
     let ending = x.ending;
     if n <= i {
         return x;
     }
     match ending {
-        Ending::Going => twin_step(x, c, arena, a, v, twin),
+        Ending::Going => twin_step(x, arena, a, visited, looks, twin),
         Ending::Stops(_) => x,
         Ending::Need(_) => x,
         Ending::Stale => x,
@@ -159,21 +158,20 @@ fn cross_step(
 
 // The ways on from a node of a tile, and from the tiles that share it.
 pub(crate) fn cross(
-    c: Cache,
     arena: &[u8],
     a: Arrival,
-    v: Visited,
-    carried: Carried,
+    visited: &[u64; crate::VISITED + 1],
+    looks: &mut [u32; cache::ages::LOOKUPS],
     choices: Choices,
     twins: TwinList,
 ) -> Crossing
-    ensures { λ r. ⌜ r ≡ Cross.cross c (now (arena .entry)) a v carried choices twins ⌝ }
+    ensures { λ r. ⌜ r ≡ Cross.crossing (Cross.cross (now (arena .entry)) a (now (visited .entry)) (now (looks .entry)) choices twins) ⌝ }
+    ensures { λ r. ⌜ now (looks .exit) ≡ Cross.cross (now (arena .entry)) a (now (visited .entry)) (now (looks .entry)) choices twins .carried ⌝ }
 {
     let mut x = Crossing {
         choices,
         blocked: false,
         ending: Ending::Going,
-        carried,
     };
     let mut i = 0;
     while i < 8 {
@@ -182,7 +180,7 @@ pub(crate) fn cross(
             return x;
         }
         let twin = twins.v[i];
-        x = cross_step(x, c, arena, a, v, twin, i, twins.len);
+        x = cross_step(x, arena, a, visited, looks, twin, i, twins.len);
         i += 1;
     }
     x

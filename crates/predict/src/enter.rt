@@ -2,9 +2,6 @@
 use crate::End;
 use crate::Ending;
 use crate::Walk;
-use cache::Cache;
-use cache::Carried;
-use cache::Hit;
 use cache::Lookup;
 ghost use mathlib.Core.Path.{_≡_};
 ghost use Rattle.predict.specs.Walk as Walks;
@@ -12,7 +9,6 @@ ghost use Rattle.predict.specs.Walk as Walks;
 // The walk on its edge, and where the tile's bytes stand in the arena.
 pub(crate) struct Entered {
     pub walk: Walk,
-    pub carried: Carried,
     pub first: usize,
     pub len: usize,
 }
@@ -22,17 +18,11 @@ pub(crate) fn with_ending(w: Walk, ending: Ending) -> Walk
     ensures { λ r. ⌜ r ≡ Walks.withEnding w ending ⌝ }
 {
     let way = w.way;
-    let track = w.track;
-    let visited = w.visited;
-    let met = w.met;
     let entry = w.entry;
     let road = w.road;
     Walk {
         way,
         from: w.from,
-        track,
-        visited,
-        met,
         entry,
         approach: w.approach,
         road,
@@ -42,49 +32,51 @@ pub(crate) fn with_ending(w: Walk, ending: Ending) -> Walk
 }
 
 // A tile of so many pages was found: if it has room, the edge counts as followed.
-fn on_edge(w: Walk, budget: usize, pages: usize) -> Walk
-    ensures { λ r. ⌜ r ≡ Walks.entered w budget pages ⌝ }
+fn on_edge(
+    w: Walk,
+    budget: usize,
+    pages: usize,
+    visited: &mut [u64; crate::VISITED + 1],
+    met: &mut [u64; crate::MAX_TILES + 2],
+) -> Walk
+    ensures { λ r. ⌜ r ≡ Walks.entered (now (visited .entry)) (now (met .entry)) w budget pages .walk ⌝ }
+    ensures { λ r. ⌜ now (visited .exit) ≡ Walks.entered (now (visited .entry)) (now (met .entry)) w budget pages .visited ⌝ }
+    ensures { λ r. ⌜ now (met .exit) ≡ Walks.entered (now (visited .entry)) (now (met .entry)) w budget pages .met ⌝ }
 {
     let way = w.way;
     let key = way.tile;
-    let before = w.met;
-    let meeting = crate::meets::meet(before, budget, key, pages);
-    if !meeting.fits {
+    if !crate::meets::meet(met, budget, key, pages) {
         return with_ending(w, Ending::Stops(End::Memory));
     }
-    let met = meeting.met;
-    let old = w.visited;
-    let visited = crate::visits::visit(old, key, way.edge);
-    let mut d = w;
-    d.met = met;
-    d.visited = visited;
-    d
+    crate::visits::visit(visited, key, way.edge);
+    w
 }
 
 // What the lookup of the edge's tile gives.
-fn entered_by(w: Walk, hit: Hit, arena: &[u8], budget: usize) -> Entered
-    ensures { λ r. ⌜ r ≡ Walks.enteredBy w hit (now (arena .entry)) budget ⌝ }
+fn entered_by(
+    w: Walk,
+    answer: Lookup,
+    arena: &[u8],
+    budget: usize,
+    visited: &mut [u64; crate::VISITED + 1],
+    met: &mut [u64; crate::MAX_TILES + 2],
+) -> Entered
+    ensures { λ r. ⌜ r ≡ Walks.enteredBy (now (visited .entry)) (now (met .entry)) w answer (now (arena .entry)) budget .entered ⌝ }
+    ensures { λ r. ⌜ now (visited .exit) ≡ Walks.enteredBy (now (visited .entry)) (now (met .entry)) w answer (now (arena .entry)) budget .visited ⌝ }
+    ensures { λ r. ⌜ now (met .exit) ≡ Walks.enteredBy (now (visited .entry)) (now (met .entry)) w answer (now (arena .entry)) budget .met ⌝ }
 {
-    let answer = hit.answer;
-    let carried = hit.carried;
     let way = w.way;
     let key = way.tile;
     match answer {
         Lookup::Ready(first, len) => {
             let bytes = cache::ages::run_bytes(arena, first, len);
-            let walk = on_edge(w, budget, cache::runs::span(bytes.len()));
-            Entered {
-                walk,
-                carried,
-                first,
-                len,
-            }
+            let walk = on_edge(w, budget, cache::runs::span(bytes.len()), visited, met);
+            Entered { walk, first, len }
         }
         Lookup::Refused(_) => {
             let walk = with_ending(w, Ending::Stale);
             Entered {
                 walk,
-                carried,
                 first: 0,
                 len: 0,
             }
@@ -93,7 +85,6 @@ fn entered_by(w: Walk, hit: Hit, arena: &[u8], budget: usize) -> Entered
             let walk = with_ending(w, Ending::Need(key));
             Entered {
                 walk,
-                carried,
                 first: 0,
                 len: 0,
             }
@@ -103,26 +94,29 @@ fn entered_by(w: Walk, hit: Hit, arena: &[u8], budget: usize) -> Entered
 
 // Onto the next edge, if the walk goes on.
 pub(crate) fn enter(
-    c: Cache,
+    w: Walk,
     arena: &[u8],
     size: u32,
     budget: usize,
-    w: Walk,
-    carried: Carried,
+    looks: &mut [u32; cache::ages::LOOKUPS],
+    visited: &mut [u64; crate::VISITED + 1],
+    met: &mut [u64; crate::MAX_TILES + 2],
 ) -> Entered
-    ensures { λ r. ⌜ r ≡ Walks.enter c (now (arena .entry)) size budget w carried ⌝ }
+    ensures { λ r. ⌜ r ≡ Walks.enter (now (looks .entry)) (now (visited .entry)) (now (met .entry)) w (now (arena .entry)) size budget .entered ⌝ }
+    ensures { λ r. ⌜ now (looks .exit) ≡ Walks.enter (now (looks .entry)) (now (visited .entry)) (now (met .entry)) w (now (arena .entry)) size budget .looks ⌝ }
+    ensures { λ r. ⌜ now (visited .exit) ≡ Walks.enter (now (looks .entry)) (now (visited .entry)) (now (met .entry)) w (now (arena .entry)) size budget .visited ⌝ }
+    ensures { λ r. ⌜ now (met .exit) ≡ Walks.enter (now (looks .entry)) (now (visited .entry)) (now (met .entry)) w (now (arena .entry)) size budget .met ⌝ }
 {
     let ending = w.ending;
     match ending {
         Ending::Going => {
             let way = w.way;
             let key = way.tile;
-            let hit = cache::ages::look_up(c, arena, size, carried, key);
-            entered_by(w, hit, arena, budget)
+            let answer = cache::ages::look_up(looks, arena, size, key);
+            entered_by(w, answer, arena, budget, visited, met)
         }
         Ending::Stops(_) | Ending::Need(_) | Ending::Stale => Entered {
             walk: w,
-            carried,
             first: 0,
             len: 0,
         },

@@ -1,14 +1,12 @@
 // The edge loop: left from inside the loop over an edge's points at the horizon, or with the last sample.
 use crate::End;
 use crate::Ending;
-use crate::Step;
+use crate::Followed;
 use crate::Track;
 use crate::Trip;
 use crate::Walk;
 use crate::Way;
 use crate::outgoing::Leg;
-use cache::Cache;
-use cache::Carried;
 use pack::Header;
 ghost use mathlib.Core.Path.{_≡_};
 ghost use Rattle.predict.specs.Walk as Walks;
@@ -36,44 +34,38 @@ pub(crate) fn leg_of(header: Header, way: Way, bytes: &[u8]) -> Leg
     }
 }
 
-// The walk further along its edge.
-fn moved(w: Walk, t: Track) -> Walk
-    ensures { λ r. ⌜ r ≡ Walks.moved w t ⌝ }
-{
-    let mut d = w;
-    d.track = t;
-    d
-}
-
 // The walk at the horizon.
-fn reached(w: Walk, t: Track) -> Walk
-    ensures { λ r. ⌜ r ≡ Walks.reached w t ⌝ }
+fn reached(w: Walk) -> Walk
+    ensures { λ r. ⌜ r ≡ Walks.reached w ⌝ }
 {
-    let d = moved(w, t);
-    crate::enter::with_ending(d, Ending::Stops(End::Horizon))
+    crate::enter::with_ending(w, Ending::Stops(End::Horizon))
 }
 
 // At most 2,000 edges.
 pub(crate) fn follow(
-    c: Cache,
+    start: Walk,
+    first: Track,
     arena: &[u8],
     trip: Trip,
     budget: usize,
-    start: Walk,
-    first: Carried,
+    looks: &mut [u32; cache::ages::LOOKUPS],
+    visited: &mut [u64; crate::VISITED + 1],
+    met: &mut [u64; crate::MAX_TILES + 2],
     heights: &mut [i16],
-) -> Step
-    ensures { λ r. ⌜ r ≡ Walks.follow c (now (arena .entry)) trip budget start first (now (heights .entry)) .step ⌝ }
-    ensures { λ r. ⌜ now (heights .exit) ≡ Walks.follow c (now (arena .entry)) trip budget start first (now (heights .entry)) .heights ⌝ }
+) -> Followed
+    ensures { λ r. ⌜ r ≡ Walks.followed (Walks.follow (now (looks .entry)) (now (visited .entry)) (now (met .entry)) (now (arena .entry)) trip budget start first (now (heights .entry))) ⌝ }
+    ensures { λ r. ⌜ now (looks .exit) ≡ Walks.follow (now (looks .entry)) (now (visited .entry)) (now (met .entry)) (now (arena .entry)) trip budget start first (now (heights .entry)) .carried ⌝ }
+    ensures { λ r. ⌜ now (visited .exit) ≡ Walks.follow (now (looks .entry)) (now (visited .entry)) (now (met .entry)) (now (arena .entry)) trip budget start first (now (heights .entry)) .visited ⌝ }
+    ensures { λ r. ⌜ now (met .exit) ≡ Walks.follow (now (looks .entry)) (now (visited .entry)) (now (met .entry)) (now (arena .entry)) trip budget start first (now (heights .entry)) .met ⌝ }
+    ensures { λ r. ⌜ now (heights .exit) ≡ Walks.follow (now (looks .entry)) (now (visited .entry)) (now (met .entry)) (now (arena .entry)) trip budget start first (now (heights .entry)) .heights ⌝ }
 {
     let header = trip.header;
     let mut w = start;
-    let mut carried = first;
+    let mut t = first;
     let mut n: usize = 0;
     'edges: while n < 2000 {
-        let e = crate::enter::enter(c, arena, header.tile, budget, w, carried);
+        let e = crate::enter::enter(w, arena, header.tile, budget, looks, visited, met);
         w = e.walk;
-        carried = e.carried;
         let ending = w.ending;
         if !goes_on(ending) {
             break 'edges;
@@ -83,25 +75,21 @@ pub(crate) fn follow(
         let leg = leg_of(header, w.way, bytes);
         let edge = leg.edge;
         let last = (edge.vertices as u32) + 1;
-        let mut t = w.track;
         if t.over {
-            w = reached(w, t);
+            w = reached(w);
             break 'edges;
         }
         let mut i = w.from;
         'points: while i <= last {
             t = crate::vertex::advance(trip, leg, bytes, head.lon_um, t, i, heights);
             if t.over {
-                w = reached(w, t);
+                w = reached(w);
                 break 'edges;
             }
             i += 1;
         }
-        w = moved(w, t);
-        let s = crate::turn::crossed(c, arena, header, w, carried, bytes, leg);
-        w = s.walk;
-        carried = s.carried;
+        w = crate::turn::crossed(w, t, arena, header, looks, &*visited, bytes, leg);
         n += 1;
     }
-    Step { walk: w, carried }
+    Followed { walk: w, track: t }
 }

@@ -28,8 +28,6 @@ mod visits;
 use crate::cost::Bound;
 use crate::cost::Road;
 use cache::Cache;
-use cache::Carried;
-use cache::MaybeKey;
 use geo::Point;
 use matcher::Heading;
 use matcher::Matched;
@@ -115,29 +113,11 @@ pub enum Ending {
     Stale,
 }
 
-// An edge that was followed.
-pub(crate) struct Followed {
-    pub tile: MaybeKey,
-    pub edge: u16,
-}
+// The edges followed last that are kept, each as a number above 0; the place that the next one takes stands behind them.
+pub const VISITED: usize = 128;
 
-// The edges followed last, and the place that the next one takes.
-pub struct Visited {
-    pub v: [Followed; 128],
-    pub next: usize,
-}
-
-// A tile that the road touches.
-pub(crate) struct MetTile {
-    pub key: MaybeKey,
-}
-
-// They, how many they are, and the pages that they take.
-pub(crate) struct Met {
-    pub v: [MetTile; 96],
-    pub len: usize,
-    pub pages: usize,
-}
+// The tiles that a road may touch, each as a number above 0; how many they are, and the pages that they take, stand behind them.
+pub const MAX_TILES: usize = 96;
 
 // How the walk comes to a junction: the way it came by, the heading that turns are judged by, and the road that it follows.
 pub struct Arrival {
@@ -152,7 +132,6 @@ pub(crate) struct Crossing {
     pub choices: Choices,
     pub blocked: bool,
     pub ending: Ending,
-    pub carried: Carried,
 }
 
 // The way that is taken, and how sure the road is after it.
@@ -162,15 +141,12 @@ pub struct Decision {
     pub confidence: f32,
 }
 
-// A walk before an edge: the way it takes, and the number of the first point along it that lies ahead; how far it has come; the edges and
-// tiles behind it; the heading with which a roundabout was entered, and that of the approach to one; the road that it prefers; how sure it is;
-// and whether it goes on.
+// A walk before an edge: the way it takes, and the number of the first point along it that lies ahead; the heading with which a roundabout was
+// entered, and that of the approach to one; the road that it prefers; how sure it is; and whether it goes on. How far it has come is its track;
+// the edges and tiles behind it are lent as numbers.
 pub struct Walk {
     pub way: Way,
     pub from: u32,
-    pub track: Track,
-    pub visited: Visited,
-    pub met: Met,
     pub entry: Heading,
     pub approach: f32,
     pub road: Road,
@@ -178,10 +154,10 @@ pub struct Walk {
     pub ending: Ending,
 }
 
-// A walk, and what its lookups carry.
-pub(crate) struct Step {
+// A walk, and how far it has come.
+pub(crate) struct Followed {
     pub walk: Walk,
-    pub carried: Carried,
+    pub track: Track,
 }
 
 // Samples for 10 km, both ends included.

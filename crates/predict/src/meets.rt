@@ -1,30 +1,7 @@
 // The tiles that the road touches, and the room that they take.
-use crate::Met;
-use crate::MetTile;
-use cache::MaybeKey;
 use pack::TileKey;
 ghost use mathlib.Core.Path.{_≡_};
 ghost use Rattle.predict.specs.Meets as Meets;
-
-// The tiles met, and whether the last one had room.
-pub(crate) struct Meeting {
-    pub met: Met,
-    pub fits: bool,
-}
-
-pub(crate) fn nothing_met() -> Met
-    ensures { λ r. ⌜ r ≡ Meets.nothingMet ⌝ }
-{
-    let none = MetTile {
-        key: MaybeKey::Nothing,
-    };
-    let v = [none; 96];
-    Met {
-        v,
-        len: 0,
-        pages: 0,
-    }
-}
 
 // The pages that a road may take: all but room for two of the largest tiles, and at least one.
 pub(crate) fn budget(count: usize) -> usize
@@ -36,18 +13,24 @@ pub(crate) fn budget(count: usize) -> usize
     count - 12
 }
 
-fn has_met(m: Met, key: TileKey) -> bool
-    ensures { λ r. ⌜ r ≡ Meets.hasMet m key ⌝ }
+// A tile as one number above 0.
+fn number_of(key: TileKey) -> u64
+    ensures { λ r. ⌜ r ≡ Meets.numberOf key ⌝ }
 {
-    let n = m.len;
+    (key.row as u64) * 65536 + (key.col as u64) + 1
+}
+
+fn has_met(met: &[u64; crate::MAX_TILES + 2], key: TileKey) -> bool
+    ensures { λ r. ⌜ r ≡ Meets.hasMet (now (met .entry)) key ⌝ }
+{
+    let number = number_of(key);
+    let n = met[96] as usize;
     let mut i = 0;
     while i < n {
-        if 96 <= i {
+        if crate::MAX_TILES <= i {
             return false;
         }
-        let t = m.v[i];
-        let k = t.key;
-        if cache::keys::holds(k, key) {
+        if met[i] == number {
             return true;
         }
         i += 1;
@@ -56,37 +39,38 @@ fn has_met(m: Met, key: TileKey) -> bool
 }
 
 // Whether another tile has room.
-fn has_room(m: Met, pages: usize, budget: usize) -> bool
-    ensures { λ r. ⌜ r ≡ Meets.hasRoom m pages budget ⌝ }
+fn has_room(met: &[u64; crate::MAX_TILES + 2], pages: usize, budget: usize) -> bool
+    ensures { λ r. ⌜ r ≡ Meets.hasRoom (now (met .entry)) pages budget ⌝ }
 {
-    if 96 <= m.len {
+    if 96 <= met[96] {
         return false;
     }
-    if budget < m.pages {
+    let taken = met[97] as usize;
+    if budget < taken {
         return false;
     }
-    pages <= budget - m.pages
+    pages <= budget - taken
 }
 
-// A tile of so many pages, once, if it has room.
-pub(crate) fn meet(m: Met, budget: usize, key: TileKey, pages: usize) -> Meeting
-    ensures { λ r. ⌜ r ≡ Meets.meet m budget key pages ⌝ }
+// A tile of so many pages, once; whether it has room.
+pub(crate) fn meet(
+    met: &mut [u64; crate::MAX_TILES + 2],
+    budget: usize,
+    key: TileKey,
+    pages: usize,
+) -> bool
+    ensures { λ r. ⌜ r ≡ Meets.meet (now (met .entry)) budget key pages .fits ⌝ }
+    ensures { λ r. ⌜ now (met .exit) ≡ Meets.meet (now (met .entry)) budget key pages .met ⌝ }
 {
-    if has_met(m, key) {
-        return Meeting { met: m, fits: true };
+    if has_met(&*met, key) {
+        return true;
     }
-    if !has_room(m, pages, budget) {
-        return Meeting {
-            met: m,
-            fits: false,
-        };
+    if !has_room(&*met, pages, budget) {
+        return false;
     }
-    let mut d = m;
-    let at = d.len;
-    d.v[at] = MetTile {
-        key: MaybeKey::Key(key),
-    };
-    d.len = at + 1;
-    d.pages = d.pages + pages;
-    Meeting { met: d, fits: true }
+    let at = met[96] as usize;
+    met[at] = number_of(key);
+    met[96] = (at + 1) as u64;
+    met[97] = met[97] + (pages as u64);
+    true
 }

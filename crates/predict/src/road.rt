@@ -1,11 +1,11 @@
 // The road ahead of a start, once the state and the start's key have passed.
 use crate::End;
 use crate::Ending;
+use crate::Followed;
 use crate::Mark;
 use crate::Outcome;
 use crate::Predicted;
 use crate::Prediction;
-use crate::Step;
 use crate::Track;
 use crate::Trip;
 use crate::Walk;
@@ -14,7 +14,6 @@ use crate::cost::Road;
 use crate::outgoing::Leg;
 use crate::ridden::Behind;
 use cache::Cache;
-use cache::Carried;
 use cache::Lookup;
 use geo::Point;
 use matcher::Forward;
@@ -52,10 +51,11 @@ fn no_direction(c: Cache) -> Predicted
     }
 }
 
-fn prediction(w: Walk, end: End, b: Behind) -> Prediction
-    ensures { λ r. ⌜ r ≡ Predict.prediction w end b ⌝ }
+fn prediction(f: Followed, end: End, b: Behind) -> Prediction
+    ensures { λ r. ⌜ r ≡ Predict.prediction (f .walk) (f .track) end b ⌝ }
 {
-    let t = w.track;
+    let w = f.walk;
+    let t = f.track;
     let mark = t.mark;
     let sure = num::order::clamp(w.confidence * 100.0, 0.0, 100.0);
     Prediction {
@@ -69,32 +69,33 @@ fn prediction(w: Walk, end: End, b: Behind) -> Prediction
 }
 
 // What a walk answers. One that went on to its last edge is Uncertain.
-fn outcome(w: Walk, b: Behind) -> Outcome
-    ensures { λ r. ⌜ r ≡ Predict.outcome w b ⌝ }
+fn outcome(f: Followed, b: Behind) -> Outcome
+    ensures { λ r. ⌜ r ≡ Predict.outcome (f .walk) (f .track) b ⌝ }
 {
+    let w = f.walk;
     let ending = w.ending;
     match ending {
-        Ending::Going => Outcome::Road(prediction(w, End::Uncertain, b)),
-        Ending::Stops(end) => Outcome::Road(prediction(w, end, b)),
+        Ending::Going => Outcome::Road(prediction(f, End::Uncertain, b)),
+        Ending::Stops(end) => Outcome::Road(prediction(f, end, b)),
         Ending::Need(key) => Outcome::Need(key),
         Ending::Stale => Outcome::Refused(12),
     }
 }
 
 // The state afterwards: after a late 12 the one given, else with the clock and the ages that the lookups left.
-fn closed(c: Cache, carried: Carried, answer: Outcome) -> Predicted
-    ensures { λ r. ⌜ r ≡ Predict.closed c carried answer ⌝ }
+fn closed(c: Cache, looks: &[u32; cache::ages::LOOKUPS], answer: Outcome) -> Predicted
+    ensures { λ r. ⌜ r ≡ Predict.closed c (now (looks .entry)) answer ⌝ }
 {
     match answer {
         Outcome::Refused(number) => {
             if number == 12 {
                 return refused(c, 12);
             }
-            let d = cache::ages::aged(c, carried);
+            let d = cache::ages::aged(c, looks);
             Predicted { answer, cache: d }
         }
         Outcome::Road(_) | Outcome::Need(_) | Outcome::Rematch => {
-            let d = cache::ages::aged(c, carried);
+            let d = cache::ages::aged(c, looks);
             Predicted { answer, cache: d }
         }
     }
@@ -110,9 +111,23 @@ fn no_mark() -> Mark
     }
 }
 
+// How far the road has been followed before its first edge.
+fn track_from(here: Point, mark: Mark) -> Track
+    ensures { λ r. ⌜ r ≡ Predict.trackFrom here mark ⌝ }
+{
+    let history = crate::incoming::first(here);
+    Track {
+        here,
+        distance: 0.0,
+        mark,
+        history,
+        over: false,
+    }
+}
+
 // The walk before its first edge.
-fn walk_from(start: Matched, leg: Leg, here: Point, mark: Mark) -> Walk
-    ensures { λ r. ⌜ r ≡ Predict.walkFrom start leg here mark ⌝ }
+fn walk_from(start: Matched, leg: Leg) -> Walk
+    ensures { λ r. ⌜ r ≡ Predict.walkFrom start leg ⌝ }
 {
     let edge = leg.edge;
     let tile = leg.key;
@@ -121,27 +136,14 @@ fn walk_from(start: Matched, leg: Leg, here: Point, mark: Mark) -> Walk
         edge: start.edge,
         forward: leg.forward,
     };
-    let history = crate::incoming::first(here);
-    let t = Track {
-        here,
-        distance: 0.0,
-        mark,
-        history,
-        over: false,
-    };
     let road = Road {
         class: edge.class,
         group: edge.group,
         flags: edge.flags,
     };
-    let visited = crate::visits::nothing_visited();
-    let met = crate::meets::nothing_met();
     Walk {
         way,
         from: crate::start::first_of(leg, start.segment),
-        track: t,
-        visited,
-        met,
         entry: Heading::Nothing,
         approach: 0.0,
         road,
@@ -166,19 +168,20 @@ fn leg_of(header: Header, start: Matched, edge: Edge, forward: bool) -> Leg
 
 // The road of a start that has passed: behind it, then ahead.
 fn road_of(
-    c: Cache,
     arena: &[u8],
     trip: Trip,
+    pages: usize,
     start: Matched,
     forward: bool,
-    carried: Carried,
+    looks: &mut [u32; cache::ages::LOOKUPS],
     bytes: &[u8],
     samples: &mut [i16],
     behind: &mut [i16],
-) -> Predicted
-    ensures { λ r. ⌜ r ≡ Predict.roadOf c (now (arena .entry)) trip start forward carried (now (bytes .entry)) (now (samples .entry)) (now (behind .entry)) .predicted ⌝ }
-    ensures { λ r. ⌜ now (samples .exit) ≡ Predict.roadOf c (now (arena .entry)) trip start forward carried (now (bytes .entry)) (now (samples .entry)) (now (behind .entry)) .samples ⌝ }
-    ensures { λ r. ⌜ now (behind .exit) ≡ Predict.roadOf c (now (arena .entry)) trip start forward carried (now (bytes .entry)) (now (samples .entry)) (now (behind .entry)) .behind ⌝ }
+) -> Outcome
+    ensures { λ r. ⌜ r ≡ Predict.roadOf (now (looks .entry)) (now (arena .entry)) pages trip start forward (now (bytes .entry)) (now (samples .entry)) (now (behind .entry)) .answer ⌝ }
+    ensures { λ r. ⌜ now (looks .exit) ≡ Predict.roadOf (now (looks .entry)) (now (arena .entry)) pages trip start forward (now (bytes .entry)) (now (samples .entry)) (now (behind .entry)) .carried ⌝ }
+    ensures { λ r. ⌜ now (samples .exit) ≡ Predict.roadOf (now (looks .entry)) (now (arena .entry)) pages trip start forward (now (bytes .entry)) (now (samples .entry)) (now (behind .entry)) .samples ⌝ }
+    ensures { λ r. ⌜ now (behind .exit) ≡ Predict.roadOf (now (looks .entry)) (now (arena .entry)) pages trip start forward (now (bytes .entry)) (now (samples .entry)) (now (behind .entry)) .behind ⌝ }
 {
     let header = trip.header;
     let head = tile::read::head(bytes);
@@ -189,57 +192,105 @@ fn road_of(
     let none = no_mark();
     let mark = crate::samples::push_on(none, samples, 0.0, 0);
     let leg = leg_of(header, start, edge, forward);
-    let w = walk_from(start, leg, here, mark);
-    let g = c.pages;
-    let s = crate::follow::follow(
-        c,
+    let w = walk_from(start, leg);
+    let t = track_from(here, mark);
+    let mut visited = [0u64; crate::VISITED + 1];
+    let mut met = [0u64; crate::MAX_TILES + 2];
+    let f = crate::follow::follow(
+        w,
+        t,
         arena,
         trip,
-        crate::meets::budget(g.count),
-        w,
-        carried,
+        crate::meets::budget(pages),
+        looks,
+        &mut visited,
+        &mut met,
         samples,
     );
-    let end = s.walk;
-    let after = s.carried;
-    let answer = outcome(end, b);
-    closed(c, after, answer)
+    outcome(f, b)
 }
 
 // The start's tile was found: 6 where it is another one, 10 where the start lies outside it.
 fn from_tile(
-    c: Cache,
     arena: &[u8],
     trip: Trip,
+    pages: usize,
     start: Matched,
     forward: bool,
-    carried: Carried,
+    looks: &mut [u32; cache::ages::LOOKUPS],
     bytes: &[u8],
     samples: &mut [i16],
     behind: &mut [i16],
-) -> Predicted
-    ensures { λ r. ⌜ r ≡ Predict.fromTile c (now (arena .entry)) trip start forward carried (now (bytes .entry)) (now (samples .entry)) (now (behind .entry)) .predicted ⌝ }
-    ensures { λ r. ⌜ now (samples .exit) ≡ Predict.fromTile c (now (arena .entry)) trip start forward carried (now (bytes .entry)) (now (samples .entry)) (now (behind .entry)) .samples ⌝ }
-    ensures { λ r. ⌜ now (behind .exit) ≡ Predict.fromTile c (now (arena .entry)) trip start forward carried (now (bytes .entry)) (now (samples .entry)) (now (behind .entry)) .behind ⌝ }
+) -> Outcome
+    ensures { λ r. ⌜ r ≡ Predict.fromTile (now (looks .entry)) (now (arena .entry)) pages trip start forward (now (bytes .entry)) (now (samples .entry)) (now (behind .entry)) .answer ⌝ }
+    ensures { λ r. ⌜ now (looks .exit) ≡ Predict.fromTile (now (looks .entry)) (now (arena .entry)) pages trip start forward (now (bytes .entry)) (now (samples .entry)) (now (behind .entry)) .carried ⌝ }
+    ensures { λ r. ⌜ now (samples .exit) ≡ Predict.fromTile (now (looks .entry)) (now (arena .entry)) pages trip start forward (now (bytes .entry)) (now (samples .entry)) (now (behind .entry)) .samples ⌝ }
+    ensures { λ r. ⌜ now (behind .exit) ≡ Predict.fromTile (now (looks .entry)) (now (arena .entry)) pages trip start forward (now (bytes .entry)) (now (samples .entry)) (now (behind .entry)) .behind ⌝ }
 {
     let id = tile::read::id(bytes);
     if !matcher::score::same_id(id, start.tile) {
-        return closed(c, carried, Outcome::Rematch);
+        return Outcome::Rematch;
     }
     if !crate::start::start_ok(bytes, start) {
-        return closed(c, carried, Outcome::Refused(10));
+        return Outcome::Refused(10);
     }
     road_of(
-        c,
         arena,
         trip,
+        pages,
         start,
         forward,
-        carried,
+        looks,
         bytes,
         samples,
         behind,
     )
+}
+
+// What the lookup of the start's tile gives.
+fn started_by(
+    arena: &[u8],
+    header: Header,
+    pages: usize,
+    answer: Lookup,
+    start: Matched,
+    forward: bool,
+    horizon_m: f32,
+    looks: &mut [u32; cache::ages::LOOKUPS],
+    samples: &mut [i16],
+    behind: &mut [i16],
+) -> Outcome
+    ensures { λ r. ⌜ r ≡ Predict.startedBy (now (looks .entry)) (now (arena .entry)) pages header answer start forward «horizon_m» (now (samples .entry)) (now (behind .entry)) .answer ⌝ }
+    ensures { λ r. ⌜ now (looks .exit) ≡ Predict.startedBy (now (looks .entry)) (now (arena .entry)) pages header answer start forward «horizon_m» (now (samples .entry)) (now (behind .entry)) .carried ⌝ }
+    ensures { λ r. ⌜ now (samples .exit) ≡ Predict.startedBy (now (looks .entry)) (now (arena .entry)) pages header answer start forward «horizon_m» (now (samples .entry)) (now (behind .entry)) .samples ⌝ }
+    ensures { λ r. ⌜ now (behind .exit) ≡ Predict.startedBy (now (looks .entry)) (now (arena .entry)) pages header answer start forward «horizon_m» (now (samples .entry)) (now (behind .entry)) .behind ⌝ }
+{
+    let id = start.tile;
+    let key = id.key;
+    match answer {
+        Lookup::Missing => Outcome::Rematch,
+        Lookup::Absent => Outcome::Need(key),
+        Lookup::Refused(_) => Outcome::Refused(12),
+        Lookup::Ready(first, len) => {
+            let trip = Trip {
+                header,
+                horizon_m,
+                z_dm: start.z_dm,
+            };
+            let bytes = cache::ages::run_bytes(arena, first, len);
+            from_tile(
+                arena,
+                trip,
+                pages,
+                start,
+                forward,
+                looks,
+                bytes,
+                samples,
+                behind,
+            )
+        }
+    }
 }
 
 // The start's tile, by a lookup.
@@ -258,35 +309,21 @@ fn from_start(
     ensures { λ r. ⌜ now (behind .exit) ≡ Predict.fromStart c (now (arena .entry)) header start forward «horizon_m» (now (samples .entry)) (now (behind .entry)) .behind ⌝ }
 {
     let id = start.tile;
-    let key = id.key;
-    let none = cache::ages::carried_of(c);
-    let hit = cache::ages::look_up(c, arena, header.tile, none, key);
-    let answer = hit.answer;
-    let carried = hit.carried;
-    match answer {
-        Lookup::Missing => closed(c, carried, Outcome::Rematch),
-        Lookup::Absent => closed(c, carried, Outcome::Need(key)),
-        Lookup::Refused(_) => refused(c, 12),
-        Lookup::Ready(first, len) => {
-            let trip = Trip {
-                header,
-                horizon_m,
-                z_dm: start.z_dm,
-            };
-            let bytes = cache::ages::run_bytes(arena, first, len);
-            from_tile(
-                c,
-                arena,
-                trip,
-                start,
-                forward,
-                carried,
-                bytes,
-                samples,
-                behind,
-            )
-        }
-    }
+    let mut looks = cache::ages::lookups_of(c);
+    let found = cache::ages::look_up(&mut looks, arena, header.tile, id.key);
+    let answer = started_by(
+        arena,
+        header,
+        c.pages.count,
+        found,
+        start,
+        forward,
+        horizon_m,
+        &mut looks,
+        samples,
+        behind,
+    );
+    closed(c, &looks, answer)
 }
 
 // The road ahead of a start whose key lies in the grid.

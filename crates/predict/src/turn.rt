@@ -3,14 +3,11 @@ use crate::Arrival;
 use crate::Crossing;
 use crate::Decision;
 use crate::Ending;
-use crate::Step;
+use crate::Track;
 use crate::Walk;
 use crate::cost::Bound;
 use crate::cost::Road;
 use crate::outgoing::Leg;
-use cache::Cache;
-use cache::Carried;
-use cache::Hit;
 use cache::Lookup;
 use matcher::Heading;
 use pack::Header;
@@ -23,17 +20,11 @@ fn with_entry(w: Walk, entry: Heading, approach: f32) -> Walk
     ensures { λ r. ⌜ r ≡ Walks.withEntry w entry approach ⌝ }
 {
     let way = w.way;
-    let track = w.track;
-    let visited = w.visited;
-    let met = w.met;
     let road = w.road;
     let ending = w.ending;
     Walk {
         way,
         from: w.from,
-        track,
-        visited,
-        met,
         entry,
         approach,
         road,
@@ -73,13 +64,12 @@ fn bound_of(entry: Heading, incoming: f32) -> Bound
 }
 
 // The heading at the end of the edge.
-fn incoming_of(w: Walk, lon_um: u32) -> f32
-    ensures { λ r. ⌜ r ≡ Walks.incomingOf w «lon_um» ⌝ }
+fn incoming_of(t: Track, approach: f32, lon_um: u32) -> f32
+    ensures { λ r. ⌜ r ≡ Walks.incomingOf t approach «lon_um» ⌝ }
 {
-    let t = w.track;
     let history = t.history;
     let here = t.here;
-    crate::incoming::incoming(history, here, t.distance, lon_um, w.approach)
+    crate::incoming::incoming(history, here, t.distance, lon_um, approach)
 }
 
 // The junction's node.
@@ -121,11 +111,9 @@ fn taken(w: Walk, d: Decision) -> Walk
 }
 
 // What the lookup of the next edge's tile gives.
-fn next_by(w: Walk, hit: Hit, arena: &[u8]) -> Step
-    ensures { λ r. ⌜ r ≡ Walks.nextBy w hit (now (arena .entry)) ⌝ }
+fn next_by(w: Walk, answer: Lookup, arena: &[u8]) -> Walk
+    ensures { λ r. ⌜ r ≡ Walks.nextBy w answer (now (arena .entry)) ⌝ }
 {
-    let answer = hit.answer;
-    let carried = hit.carried;
     let way = w.way;
     let key = way.tile;
     match answer {
@@ -135,22 +123,23 @@ fn next_by(w: Walk, hit: Hit, arena: &[u8]) -> Step
             let road = road_of(old, next);
             let mut d = w;
             d.road = road;
-            Step { walk: d, carried }
+            d
         }
-        Lookup::Refused(_) => {
-            let walk = crate::enter::with_ending(w, Ending::Stale);
-            Step { walk, carried }
-        }
-        Lookup::Missing | Lookup::Absent => {
-            let walk = crate::enter::with_ending(w, Ending::Need(key));
-            Step { walk, carried }
-        }
+        Lookup::Refused(_) => crate::enter::with_ending(w, Ending::Stale),
+        Lookup::Missing | Lookup::Absent => crate::enter::with_ending(w, Ending::Need(key)),
     }
 }
 
 // On by the way that was decided on, if there is one.
-fn decided(c: Cache, arena: &[u8], size: u32, w: Walk, carried: Carried, d: Decision) -> Step
-    ensures { λ r. ⌜ r ≡ Walks.decided c (now (arena .entry)) size w carried d ⌝ }
+fn decided(
+    w: Walk,
+    arena: &[u8],
+    size: u32,
+    looks: &mut [u32; cache::ages::LOOKUPS],
+    d: Decision,
+) -> Walk
+    ensures { λ r. ⌜ r ≡ Walks.decided (now (looks .entry)) (now (arena .entry)) size w d .walk ⌝ }
+    ensures { λ r. ⌜ now (looks .exit) ≡ Walks.decided (now (looks .entry)) (now (arena .entry)) size w d .carried ⌝ }
 {
     let ending = d.ending;
     let v = taken(w, d);
@@ -158,45 +147,53 @@ fn decided(c: Cache, arena: &[u8], size: u32, w: Walk, carried: Carried, d: Deci
         Ending::Going => {
             let way = v.way;
             let key = way.tile;
-            let hit = cache::ages::look_up(c, arena, size, carried, key);
-            next_by(v, hit, arena)
+            let answer = cache::ages::look_up(looks, arena, size, key);
+            next_by(v, answer, arena)
         }
-        Ending::Stops(_) | Ending::Need(_) | Ending::Stale => Step { walk: v, carried },
+        Ending::Stops(_) | Ending::Need(_) | Ending::Stale => v,
     }
 }
 
 // On from a junction whose ways on are known.
-fn onward(c: Cache, arena: &[u8], size: u32, w: Walk, x: Crossing) -> Step
-    ensures { λ r. ⌜ r ≡ Walks.onward c (now (arena .entry)) size w x ⌝ }
+fn onward(
+    w: Walk,
+    arena: &[u8],
+    size: u32,
+    looks: &mut [u32; cache::ages::LOOKUPS],
+    x: Crossing,
+) -> Walk
+    ensures { λ r. ⌜ r ≡ Walks.onward (now (looks .entry)) (now (arena .entry)) size w x .walk ⌝ }
+    ensures { λ r. ⌜ now (looks .exit) ≡ Walks.onward (now (looks .entry)) (now (arena .entry)) size w x .carried ⌝ }
 {
     let ending = x.ending;
-    let carried = x.carried;
     match ending {
         Ending::Going => {
             let choices = x.choices;
             let d = crate::decide::decide(choices, x.blocked, w.confidence);
-            decided(c, arena, size, w, carried, d)
+            decided(w, arena, size, looks, d)
         }
         Ending::Stops(_) | Ending::Need(_) | Ending::Stale => {
-            let walk = crate::enter::with_ending(w, ending);
-            Step { walk, carried }
+            crate::enter::with_ending(w, ending)
         }
     }
 }
+
 // The junction at the end of the walk's edge.
 pub(crate) fn crossed(
-    c: Cache,
+    w: Walk,
+    t: Track,
     arena: &[u8],
     header: Header,
-    w: Walk,
-    carried: Carried,
+    looks: &mut [u32; cache::ages::LOOKUPS],
+    visited: &[u64; crate::VISITED + 1],
     bytes: &[u8],
     leg: Leg,
-) -> Step
-    ensures { λ r. ⌜ r ≡ Walks.crossed c (now (arena .entry)) header w carried (now (bytes .entry)) leg ⌝ }
+) -> Walk
+    ensures { λ r. ⌜ r ≡ Walks.crossed (now (looks .entry)) (now (visited .entry)) (now (arena .entry)) header w t (now (bytes .entry)) leg .walk ⌝ }
+    ensures { λ r. ⌜ now (looks .exit) ≡ Walks.crossed (now (looks .entry)) (now (visited .entry)) (now (arena .entry)) header w t (now (bytes .entry)) leg .carried ⌝ }
 {
     let head = tile::read::head(bytes);
-    let incoming = incoming_of(w, head.lon_um);
+    let incoming = incoming_of(t, w.approach, head.lon_um);
     let d = turned(w, leg.edge, incoming);
     let way = d.way;
     let road = d.road;
@@ -208,12 +205,11 @@ pub(crate) fn crossed(
         bound,
         road,
     };
-    let visited = d.visited;
     let node = node_of(leg);
     let none = crate::choose::no_choices();
     let choices = crate::consider::consider(none, arrival, visited, bytes, way.tile, node);
     let at = tile::raw::node(bytes, node);
     let twins = crate::twins::boundary_twins(at.x, at.y, (header.tile % 65536) as u16);
-    let x = crate::cross::cross(c, arena, arrival, visited, carried, choices, twins);
-    onward(c, arena, header.tile, d, x)
+    let x = crate::cross::cross(arena, arrival, visited, looks, choices, twins);
+    onward(d, arena, header.tile, looks, x)
 }

@@ -1,55 +1,31 @@
 // The edges followed last: none of them is followed again.
-use crate::Followed;
-use crate::Visited;
-use cache::MaybeKey;
 use pack::TileKey;
 ghost use mathlib.Core.Path.{_≡_};
 ghost use Rattle.predict.specs.Visits as Visits;
 
-pub(crate) fn nothing_visited() -> Visited
-    ensures { λ r. ⌜ r ≡ Visits.nothingVisited ⌝ }
+// An edge of a tile as one number above 0.
+fn number_of(key: TileKey, edge: u16) -> u64
+    ensures { λ r. ⌜ r ≡ Visits.numberOf key edge ⌝ }
 {
-    let none = Followed {
-        tile: MaybeKey::Nothing,
-        edge: 0,
-    };
-    let v = [none; 128];
-    Visited { v, next: 0 }
+    ((key.row as u64) * 65536 + (key.col as u64)) * 65536 + (edge as u64) + 1
 }
 
 // One edge more, in the place of the oldest once all are taken.
-pub(crate) fn visit(d: Visited, key: TileKey, edge: u16) -> Visited
-    ensures { λ r. ⌜ r ≡ Visits.visit d key edge ⌝ }
+pub(crate) fn visit(visited: &mut [u64; crate::VISITED + 1], key: TileKey, edge: u16)
+    ensures { λ r. ⌜ now (visited .exit) ≡ Visits.visit (now (visited .entry)) key edge ⌝ }
 {
-    let mut v = d;
-    let at = v.next;
-    if at < 128 {
-        v.v[at] = Followed {
-            tile: MaybeKey::Key(key),
-            edge,
-        };
-    }
-    v.next = (at % 128 + 1) % 128;
-    v
+    let at = (visited[128] % 128) as usize;
+    visited[at] = number_of(key, edge);
+    visited[128] = ((at + 1) % 128) as u64;
 }
 
-fn is_followed(f: Followed, key: TileKey, edge: u16) -> bool
-    ensures { λ r. ⌜ r ≡ Visits.isFollowed f key edge ⌝ }
+pub(crate) fn was_visited(visited: &[u64; crate::VISITED + 1], key: TileKey, edge: u16) -> bool
+    ensures { λ r. ⌜ r ≡ Visits.wasVisited (now (visited .entry)) key edge ⌝ }
 {
-    if f.edge != edge {
-        return false;
-    }
-    let tile = f.tile;
-    cache::keys::holds(tile, key)
-}
-
-pub(crate) fn was_visited(v: Visited, key: TileKey, edge: u16) -> bool
-    ensures { λ r. ⌜ r ≡ Visits.wasVisited v key edge ⌝ }
-{
+    let number = number_of(key, edge);
     let mut i = 0;
-    while i < 128 {
-        let f = v.v[i];
-        if is_followed(f, key, edge) {
+    while i < crate::VISITED {
+        if visited[i] == number {
             return true;
         }
         i += 1;

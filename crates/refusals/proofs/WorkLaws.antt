@@ -71,6 +71,7 @@ use Rattle.predict.specs.declared.Ending as RoadEnding
 use Rattle.predict.specs.declared.Ending.the-variants as RoadEnds
 use Rattle.predict.specs.declared.Outcome as RoadOutcome
 use Rattle.predict.specs.declared.Outcome.the-variants as Road
+use Rattle.predict.specs.declared.Track.{Track}
 use Rattle.predict.specs.declared.Walk.{Walk}
 use Rattle.predict.specs.declared.ridden.Behind.{Behind}
 use Rattle.engine.specs.Fixes.{placeOf}
@@ -151,11 +152,11 @@ OnlyStart (Road.Need key) = Unit
 OnlyStart Road.Rematch = Unit
 OnlyStart (Road.Refused number) = (number ≡ 12) ⊎ (number ≡ 10)
 
-walk-start : (x : RoadEnding.Ending) (w : Walk) (b : Behind) → OnlyStart (Predict.outcomeBy x w b)
-walk-start RoadEnds.Going w b = tt
-walk-start (RoadEnds.Stops end) w b = tt
-walk-start (RoadEnds.Need key) w b = tt
-walk-start RoadEnds.Stale w b = inl refl
+walk-start : (x : RoadEnding.Ending) (w : Walk) (t : Track) (b : Behind) → OnlyStart (Predict.outcomeBy x w t b)
+walk-start RoadEnds.Going w t b = tt
+walk-start (RoadEnds.Stops end) w t b = tt
+walk-start (RoadEnds.Need key) w t b = tt
+walk-start RoadEnds.Stale w t b = inl refl
 
 module _ (rd : Reader (List TileKey)) (n : ℕ) where
   tile-start : (t s : Bool) (x y z : Forecast (List TileKey)) → OnlyStart (x .answer) → OnlyStart (y .answer) → OnlyStart (z .answer)
@@ -172,8 +173,9 @@ module _ (rd : Reader (List TileKey)) (n : ℕ) where
       let here = place (trip .header) bs e m in
       let b = Ridden.ridden trip (Predict.legOf (trip .header) m e (not forward)) bs (Layout.headOf bs .«lon_um») m here behind in
       let p = pushed Predict.noMark samples (whole 0) (pos 0) in
-      let r = walkOver rd trip (budget n) (Predict.walkFrom m (Predict.legOf (trip .header) m e forward) here (p .mark)) s (p .heights) in
-      walk-start (r .walk .ending) (r .walk) (b .behind)
+      let t = Predict.trackFrom here (p .mark) in
+      let r = walkOver rd trip (budget n) (Predict.walkFrom m (Predict.legOf (trip .header) m e forward)) t s (p .heights) in
+      walk-start (r .walk .ending) (r .walk) (r .track) (b .behind)
 
   look-start : (l : Look) (h : Header) (m : Matched) (forward : Bool) (horizon : Float) (s : List TileKey) (samples behind : List ℤ)
       → OnlyStart (Predict.startLook rd n l h m forward horizon s samples behind .answer)

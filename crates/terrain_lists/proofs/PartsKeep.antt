@@ -74,13 +74,14 @@ use Rattle.predict.specs.Ridden.{noMark, ridden}
 use Rattle.predict.specs.Samples.{Pushed, pushed}
 use Rattle.predict.specs.Walk as Walks
 use Rattle.predict.specs.Walk.{walkOver}
-use Rattle.predict.specs.Predict.{Forecast, walkFrom, outcomeBy, roadOver, startLook, directedOver, forecastOver, predictOver, predictedIn, tripOf}
+use Rattle.predict.specs.Predict.{Forecast, trackFrom, walkFrom, outcomeBy, roadOver, startLook, directedOver, forecastOver, predictOver, predictedIn, tripOf}
 use Rattle.predict.specs.Start.{startOk, place}
 use Rattle.predict.specs.declared.Ending as Ends
 use Rattle.predict.specs.declared.Ending.the-variants as Ends′
 use Rattle.predict.specs.declared.Outcome as Roads′
 use Rattle.predict.specs.declared.Outcome.the-variants as Road
 use Rattle.predict.specs.declared.Trip.{Trip}
+use Rattle.predict.specs.declared.Track.{Track}
 use Rattle.predict.specs.declared.Walk.{Walk}
 use Rattle.predict.specs.declared.ridden.Behind.{Behind}
 use Rattle.terrain.specs.Parts as Parts
@@ -210,11 +211,11 @@ LateOnly (Road.Road p) = Unit
 LateOnly (Road.Need key) = Unit
 LateOnly Road.Rematch = Unit
 
-ended-late : (x : Ends.Ending) (w : Walk) (b : Behind) → LateOnly (outcomeBy x w b)
-ended-late Ends′.Going w b = tt
-ended-late (Ends′.Stops end) w b = tt
-ended-late (Ends′.Need key) w b = tt
-ended-late Ends′.Stale w b = λ h. refl
+ended-late : (x : Ends.Ending) (w : Walk) (t : Track) (b : Behind) → LateOnly (outcomeBy x w t b)
+ended-late Ends′.Going w t b = tt
+ended-late (Ends′.Stops end) w t b = tt
+ended-late (Ends′.Need key) w t b = tt
+ended-late Ends′.Stale w t b = λ h. refl
 
 module _ {S : Type 0} (rd : Reader S) (n : ℕ) (samples behind : List ℤ) (m : Matched) where
   abbrev Late : Forecast S → Type 0
@@ -226,8 +227,8 @@ module _ {S : Type 0} (rd : Reader S) (n : ℕ) (samples behind : List ℤ) (m :
       let e : Edge = Layout.edgeOf bs (m .edge) in
       let here : Point = place (trip .header) bs e m in
       let p : Pushed = pushed noMark samples (whole 0) (pos 0) in
-      let r : Walks.Run S = walkOver rd trip (budget n) (walkFrom m (Predict.legOf (trip .header) m e forward) here (p .mark)) s (p .heights) in
-      ended-late (r .walk .ending) (r .walk) (ridden trip (Predict.legOf (trip .header) m e (not forward)) bs (Layout.headOf bs .«lon_um») m here behind .behind)
+      let r : Walks.Run S = walkOver rd trip (budget n) (walkFrom m (Predict.legOf (trip .header) m e forward)) (trackFrom here (p .mark)) s (p .heights) in
+      ended-late (r .walk .ending) (r .walk) (r .track) (ridden trip (Predict.legOf (trip .header) m e (not forward)) bs (Layout.headOf bs .«lon_um») m here behind .behind)
 
   start-late : (l : Look) (h : Header) (forward : Bool) (horizon : Float) (s : S) → Late (startLook rd n l h m forward horizon s samples behind)
   start-late (ready bs) h forward horizon s =

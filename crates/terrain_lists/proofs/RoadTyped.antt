@@ -25,22 +25,18 @@ use Rattle.matcher.specs.Score.{sameId}
 use Rattle.matcher.specs.declared.Forward.{Forward}
 use Rattle.matcher.specs.declared.Forward.the-variants as Forward
 use Rattle.matcher.specs.declared.Matched.{Matched}
-use Rattle.predict.specs.Cross.{Ways}
-use Rattle.predict.specs.Decide.{decide}
-use Rattle.predict.specs.Meets.{meet, budget}
+use Rattle.predict.specs.Visits.{nothingVisited}
+use Rattle.predict.specs.Meets.{nothingMet, budget}
 use Rattle.predict.specs.Outgoing.{lastOf}
 use Rattle.predict.specs.Start.{firstOf, place}
 use Rattle.predict.specs.Predict as Start
-use Rattle.predict.specs.Predict.{walkFrom, prediction, outcomeBy, Forecast, forecastOf, tripOf, roadOver, startLook, directedOver, forecastOver}
+use Rattle.predict.specs.Predict.{trackFrom, walkFrom, prediction, outcomeBy, Forecast, forecastOf, tripOf, roadOver, startLook, directedOver, forecastOver}
 use Rattle.predict.specs.Ridden.{Backs, Written, backStep, backNext, backsTo, backs, lastSample, noMark, ridden}
 use Rattle.predict.specs.Samples.{Pushed, sampleAt, heightAt, pushFrom, pushed}
 use Rattle.predict.specs.Start.{startOk}
 use Rattle.predict.specs.Vertex as Vertex
 use Rattle.predict.specs.Vertex.{Along, stepOf, passed, advanced, vertexStep, vertices, toEnd}
-use Rattle.predict.specs.Walk.{withEnding, moved, reached, taken, onRoad, throughEdge, withEntry, entered, isRound, turned, incomingOf}
-use Rattle.predict.specs.Walk.{nextLook, Run, takenBy, decidedOver, onwardBy, waysOver, crossedOver, goesOn, legOf, along}
-use Rattle.predict.specs.Walk.{driven, edgeLook, edgeStep, walkTo, walkOver}
-use Rattle.predict.specs.declared.Decision.{Decision}
+use Rattle.predict.specs.Walk.{Onto, entered, Run, goesOn, legOf, along, driven, edgeLook, edgeStep, walkTo, walkOver}
 use Rattle.predict.specs.declared.Ending.{Ending}
 use Rattle.predict.specs.declared.Ending.the-variants as Ending
 use Rattle.predict.specs.declared.Mark.{Mark}
@@ -147,81 +143,29 @@ module _ (n : ℕ) where
       (pushed noMark hs (whole 0) (pos 0) .heights) (single-whole 0) (pushed-typed noMark hs (whole 0) (pos 0) h) in
       last-typed _ _ (b .distance) (b .heights)
 
--- ---- a junction leaves the track
-
-abbrev On : Track → Walk → Type 0
-On t w = w .track ≡ t
-
-end-on : (t : Track) (w : Walk) (ending : Ending) → On t w → On t (withEnding w ending)
-unfolding withEnding
-end-on t w ending e = e
-
-next-on : (t : Track) (l : Look) (w : Walk) → On t w → On t (nextLook l w)
-unfolding onRoad
-next-on t (ready bs) w e = e
-next-on t missing w e = end-on t w _ e
-next-on t absent w e = end-on t w _ e
-next-on t stale w e = end-on t w _ e
-
-turned-on : (t : Track) (w : Walk) (edge : Edge) (incoming : Float) → On t w → On t (turned w edge incoming)
-unfolding turned withEntry
-turned-on t w edge incoming e = either (On t) (isRound edge) _ _ e e
-
-module _ {S : Type 0} (rd : Reader S) (t : Track) where
-  taken-on : (ending : Ending) (w : Walk) (s : S) → On t w → On t (takenBy rd ending w s .walk)
-  taken-on Ending.Going w s e = next-on t (rd .at s (w .way .tile)) w e
-  taken-on (Ending.Stops end) w s e = e
-  taken-on (Ending.Need key) w s e = e
-  taken-on Ending.Stale w s e = e
-
-  decided-on : (w : Walk) (s : S) (d : Decision) → On t w → On t (decidedOver rd w s d .walk)
-  unfolding taken
-  decided-on w s d e = taken-on (d .ending) (taken w d) s e
-
-  onward-on : (ending : Ending) (w : Walk) (x : Ways S) → On t w → On t (onwardBy rd ending w x .walk)
-  onward-on Ending.Going w x e = decided-on w (x .carried) (decide (x .choices) (x .blocked) (w .confidence)) e
-  onward-on (Ending.Stops end) w x e = end-on t w _ e
-  onward-on (Ending.Need key) w x e = end-on t w _ e
-  onward-on Ending.Stale w x e = end-on t w _ e
-
-  crossed-on : (h : Header) (w : Walk) (s : S) (bs : List ℕ) (leg : Leg) → On t w → On t (crossedOver rd h w s bs leg .walk)
-  unfolding crossedOver
-  crossed-on h w s bs leg e =
-      let incoming = incomingOf w (Layout.headOf bs .«lon_um») in
-      let next = turned w (leg .edge) incoming in
-      let ways = waysOver rd h next s bs leg incoming in
-      onward-on (ways .ending) next ways (turned-on t w (leg .edge) incoming e)
-
 -- ---- the walk
 
 module _ {S : Type 0} (rd : Reader S) (trip : Trip) (horizon : Single (trip .«horizon_m»)) (room n : ℕ) where
   record RunTyped (r : Run S) : Type 0 where
     heights : Heights n (r .heights)
-    distance : Single (r .walk .track .distance)
+    distance : Single (r .track .distance)
 
-  driven-typed : (w : Walk) (s : S) (bs : List ℕ) (hs : List ℤ) → Heights n hs → Single (w .track .distance) → RunTyped (driven rd trip room w s bs hs)
-  unfolding along reached moved withEnding
-  driven-typed w s bs hs h d =
-      let a : Along = along trip w bs hs in
+  driven-typed : (o : Onto) (k : Track) (s : S) (bs : List ℕ) (hs : List ℤ) → Heights n hs → Single (k .distance)
+      → RunTyped (driven rd trip room o k s bs hs)
+  unfolding along
+  driven-typed o k s bs hs h d =
+      let w : Walk = o .walk in
+      let a : Along = along trip w k bs hs in
       let t : AlongTyped n a
-      = to-end-typed n trip horizon (legOf (trip .header) (w .way) bs) bs (Layout.headOf bs .«lon_um») (w .from) (record { track = w .track; heights = hs })
+      = to-end-typed n trip horizon (legOf (trip .header) (w .way) bs) bs (Layout.headOf bs .«lon_um») (w .from) (record { track = k; heights = hs })
       (record { heights = h; distance = d }) in
-      either RunTyped (a .track .over) _ _ (record { heights = t .heights; distance = t .distance })
-      (record {
-        heights = t .heights;
-        distance = subst (λ (x : Track). Single (x .distance)) (sym (crossed-on rd (a .track) (trip .header) (moved w (a .track)) s bs _ refl)) (t .distance);
-      })
-
-  entered-on : (w : Walk) (pages : ℕ) → On (w .track) (entered w room pages)
-  unfolding throughEdge
-  entered-on w pages = either (On (w .track)) (meet (w .met) room (w .way .tile) pages .fits) _ _ refl (end-on (w .track) w _ refl)
+      either RunTyped (a .track .over) _ _ (record { heights = t .heights; distance = t .distance }) (record { heights = t .heights; distance = t .distance })
 
   look-typed : (l : Look) (r : Run S) → RunTyped r → RunTyped (edgeLook rd trip room l r)
-  unfolding withEnding
   look-typed (ready bs) r t =
-      let next : Walk = entered (r .walk) room (span (length bs)) in
-      let d : Single (next .track .distance) = subst (λ (x : Track). Single (x .distance)) (sym (entered-on (r .walk) (span (length bs)))) (t .distance) in
-      either RunTyped (goesOn (next .ending)) _ _ (driven-typed next _ bs (r .heights) (t .heights) d) (record { heights = t .heights; distance = d })
+      let o : Onto = entered (r .visited) (r .met) (r .walk) room (span (length bs)) in
+      either RunTyped (goesOn (o .walk .ending)) _ _ (driven-typed o (r .track) _ bs (r .heights) (t .heights) (t .distance))
+      (record { heights = t .heights; distance = t .distance })
   look-typed missing r t = record { heights = t .heights; distance = t .distance }
   look-typed absent r t = record { heights = t .heights; distance = t .distance }
   look-typed stale r t = record { heights = t .heights; distance = t .distance }
@@ -247,12 +191,12 @@ OutcomeTyped (Outcome.Need key) = Unit
 OutcomeTyped Outcome.Rematch = Unit
 OutcomeTyped (Outcome.Refused number) = Unit
 
-outcome-typed : (ending : Ending) (w : Walk) (b : Behind) → Single (w .track .distance) → Single (b .m) → OutcomeTyped (outcomeBy ending w b)
+outcome-typed : (ending : Ending) (w : Walk) (k : Track) (b : Behind) → Single (k .distance) → Single (b .m) → OutcomeTyped (outcomeBy ending w k b)
 unfolding prediction
-outcome-typed Ending.Going w b d m = record { behind = m; end = d; confidence = toUnsigned-lt 8 _ }
-outcome-typed (Ending.Stops end) w b d m = record { behind = m; end = d; confidence = toUnsigned-lt 8 _ }
-outcome-typed (Ending.Need key) w b d m = tt
-outcome-typed Ending.Stale w b d m = tt
+outcome-typed Ending.Going w k b d m = record { behind = m; end = d; confidence = toUnsigned-lt 8 _ }
+outcome-typed (Ending.Stops end) w k b d m = record { behind = m; end = d; confidence = toUnsigned-lt 8 _ }
+outcome-typed (Ending.Need key) w k b d m = tt
+outcome-typed Ending.Stale w k b d m = tt
 
 pub record ForecastTyped {S : Type 0} (a b : ℕ) (f : Forecast S) : Type 0 where
   pub answer : OutcomeTyped (f .answer)
@@ -264,18 +208,18 @@ module _ {S : Type 0} (rd : Reader S) (n a b : ℕ) (samples behind : List ℤ) 
   ends-typed : (trip : Trip) (horizon : Single (trip .«horizon_m»)) (r : Run S) (w : Written) → RunTyped rd trip horizon (budget n) a r → WrittenTyped b w
       → ForecastTyped a b (forecastOf r (w .behind) (w .heights))
   ends-typed trip horizon r w t u =
-      record { answer = outcome-typed (r .walk .ending) (r .walk) (w .behind) (t .distance) (u .metres); samples = t .heights; behind = u .heights }
+      record { answer = outcome-typed (r .walk .ending) (r .walk) (r .track) (w .behind) (t .distance) (u .metres); samples = t .heights; behind = u .heights }
 
   road-typed : (trip : Trip) → Single (trip .«horizon_m») → (forward : Bool) (s : S) (bs : List ℕ) → ForecastTyped a b (roadOver rd n trip m forward s bs samples behind)
-  unfolding roadOver walkFrom
+  unfolding roadOver trackFrom
   road-typed trip horizon forward s bs =
       let e : Edge = Layout.edgeOf bs (m .edge) in
       let here : Point = place (trip .header) bs e m in
       let back-leg : Leg = Start.legOf (trip .header) m e (not forward) in
       let leg : Leg = Start.legOf (trip .header) m e forward in
       let p : Pushed = pushed noMark samples (whole 0) (pos 0) in
-      ends-typed trip horizon (walkOver rd trip (budget n) (walkFrom m leg here (p .mark)) s (p .heights)) (ridden trip back-leg bs (Layout.headOf bs .«lon_um») m here behind)
-      (walk-typed rd trip horizon (budget n) a (record { walk = walkFrom m leg here (p .mark); carried = s; heights = p .heights })
+      ends-typed trip horizon (walkOver rd trip (budget n) (walkFrom m leg) (trackFrom here (p .mark)) s (p .heights)) (ridden trip back-leg bs (Layout.headOf bs .«lon_um») m here behind)
+      (walk-typed rd trip horizon (budget n) a (record { walk = walkFrom m leg; track = trackFrom here (p .mark); visited = nothingVisited; met = nothingMet; carried = s; heights = p .heights })
       (record { heights = pushed-typed a noMark samples (whole 0) (pos 0) ahead; distance = single-whole 0 }) 2000)
       (ridden-typed b trip back-leg bs (Layout.headOf bs .«lon_um») m here behind gone back)
 

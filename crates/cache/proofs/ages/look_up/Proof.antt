@@ -1,9 +1,9 @@
 -- `cache::ages::look_up` meets its contract: each return by the ring, by the search for a ready run, and by the run's check.
 use mathlib.Core.Path.{sym, _∙_}
-use borrow.Author.Needs.{needs}
-use borrow.Author.Tests.{not-true, not-false}
-use Rattle.cache.specs.Lookups.{landsOn}
+use borrow.Author.Tests.{le-leb, lt-leb}
+use native.Mathlib.Omega.{arith}
 use Rattle.cache.specs.Ages.{lookUp}
+use borrow.Author.Needs.{needs}
 use Rattle.cache.proofs.ages.look_up.Statement.{statement}
 use Rattle.cache.proofs.ages.look_up.Tie as tie
 
@@ -11,56 +11,64 @@ in-ring-requires : tie.Need-in-ring-requires
 in-ring-requires c κs = tt
 
 returns : tie.Need-returns
-unfolding lookUp landsOn
-returns c = rw (sym (c .before .in-ring .ensures) ∙ c .if1 .taken)
+unfolding lookUp
+returns c =
+    let ring = sym (c .before .in-ring .ensures) ∙ c .if1 .taken in
+    (rw ring, rw ring)
 
-ready-run-requires : tie.Need-ready-run-requires
-ready-run-requires c κs = tt
+page-of-requires : tie.Need-page-of-requires
+page-of-requires c κs = tt
 
 returns-2 : tie.Need-returns-2
-unfolding lookUp landsOn
+unfolding lookUp
 returns-2 c =
-    let run = c .before .before in
-    let ring = run .before .before in
-    rw (
-      sym (ring .before .in-ring .ensures) ∙ ring .if1 .left,
-      run .ready-run .ensures .0,
-      not-true (run .ready-run .result .ready) (c .if2 .taken),
-    )
+    let paged = c .before in
+    let ring = sym (paged .before .before .before .in-ring .ensures) ∙ paged .before .before .if1 .left in
+    let past = le-leb 96 (paged .page-of .result) (c .if2 .taken) in
+    (rw (ring, ← paged .page-of .ensures, past), rw (ring, ← paged .page-of .ensures, past))
+
+add-wide : tie.Need-add-wide
+add-wide c = search needs
+
+mul-wide : tie.Need-mul-wide
+mul-wide c = search needs
+
+element-copy-out-wide : tie.Need-element-copy-out-wide
+element-copy-out-wide c = search needs
+
+wide-requires : tie.Need-wide-requires
+wide-requires c κs = tt
 
 known-requires : tie.Need-known-requires
-known-requires c κs = tt
+known-requires c κs = search needs
 
 mark-requires : tie.Need-mark-requires
-mark-requires c κs = tt
+mark-requires c κs = search needs
 
 returns-3 : tie.Need-returns-3
-unfolding lookUp landsOn
+unfolding lookUp
 returns-3 c =
-    let checked = c .before .before in
-    let run = checked .before .before .before in
-    let ring = run .before .before in
-    rw (
-      sym (ring .before .in-ring .ensures) ∙ ring .if1 .left,
-      run .ready-run .ensures .0,
-      not-false (run .ready-run .result .ready) (checked .before .if2 .left),
-      ← run .ready-run .ensures .1,
-      sym (checked .known .ensures) ∙ c .before .if3 .taken,
-      c .mark .ensures,
+    let checked = c .before .before .before in
+    let sized = checked .before .before in
+    let paged = sized .before .before .before in
+    let ring = sym (paged .before .before .before .in-ring .ensures) ∙ paged .before .before .if1 .left in
+    let below = lt-leb 96 (paged .page-of .result) (omega (arith, sized .before .before .if2 .left)) in
+    let passed = sym (checked .known .ensures) ∙ c .before .before .if3 .taken in (
+      rw (ring, ← paged .page-of .ensures, below, ← sized .wide .ensures, passed),
+      rw (ring, ← paged .page-of .ensures, below, ← sized .wide .ensures, passed, c .mark .ensures),
     )
 
 returns-4 : tie.Need-returns-4
-unfolding lookUp landsOn
+unfolding lookUp
 returns-4 c =
     let checked = c .before in
-    let run = checked .before .before .before in
-    let ring = run .before .before in
-    rw (
-      sym (ring .before .in-ring .ensures) ∙ ring .if1 .left,
-      run .ready-run .ensures .0,
-      not-false (run .ready-run .result .ready) (checked .before .if2 .left),
-      ← run .ready-run .ensures .1,
-      sym (checked .known .ensures) ∙ c .if3 .left,
+    let sized = checked .before .before in
+    let paged = sized .before .before .before in
+    let ring = sym (paged .before .before .before .in-ring .ensures) ∙ paged .before .before .if1 .left in
+    let below = lt-leb 96 (paged .page-of .result) (omega (arith, sized .before .before .if2 .left)) in
+    let stale = sym (checked .known .ensures) ∙ c .if3 .left in (
+      rw (ring, ← paged .page-of .ensures, below, ← sized .wide .ensures, stale),
+      rw (ring, ← paged .page-of .ensures, below, ← sized .wide .ensures, stale),
     )
 
 pub look-up-spec : {M : Type 1} → statement M
@@ -69,8 +77,12 @@ look-up-spec =
     (tie.spec
     in-ring-requires
     returns
-    ready-run-requires
+    page-of-requires
     returns-2
+    add-wide
+    mul-wide
+    element-copy-out-wide
+    wide-requires
     known-requires
     mark-requires
     returns-3

@@ -7,7 +7,7 @@ use Rattle.predict.proofs.cross.cross_step.Tie as tie
 
 returns : tie.Need-returns
 unfolding crossStep
-returns c = rw (le-ltb _ _ (c .if1 .taken))
+returns c = let past = le-ltb _ _ (c .if1 .taken) in (rw past, rw past)
 
 enum-told : tie.Need-enum-told
 enum-told c = search needs
@@ -27,20 +27,27 @@ enum-told-4 c = search needs
 returns-2 : tie.Need-returns-2
 unfolding crossStep twinStep
 returns-2 c =
-    let told = c .before in
-    rw (lt-ltb _ _ (told .before .before .if1 .left), c .twin-step .ensures, told .enum-told .given .1)
+    let told = c .before .before in
+    let below = lt-ltb _ _ (told .before .before .if1 .left) in
+    (rw (below, c .twin-step .ensures .0, told .enum-told .given .1), rw (below, c .twin-step .ensures .1, told .enum-told .given .1))
 
 returns-3 : tie.Need-returns-3
 unfolding crossStep
-returns-3 c = rw (lt-ltb _ _ (c .before .before .if1 .left), c .enum-told2 .given .1)
+returns-3 c =
+    let below = lt-ltb _ _ (c .before .before .if1 .left) in
+    (rw (below, c .enum-told2 .given .1), rw (below, c .enum-told2 .given .1))
 
 returns-4 : tie.Need-returns-4
 unfolding crossStep
-returns-4 c = rw (lt-ltb _ _ (c .before .before .if1 .left), c .enum-told3 .given .1)
+returns-4 c =
+    let below = lt-ltb _ _ (c .before .before .if1 .left) in
+    (rw (below, c .enum-told3 .given .1), rw (below, c .enum-told3 .given .1))
 
 returns-5 : tie.Need-returns-5
 unfolding crossStep
-returns-5 c = rw (lt-ltb _ _ (c .before .before .if1 .left), c .enum-told4 .given .1)
+returns-5 c =
+    let below = lt-ltb _ _ (c .before .before .if1 .left) in
+    (rw (below, c .enum-told4 .given .1), rw (below, c .enum-told4 .given .1))
 
 pub cross-step-spec : {M : Type 1} → statement M
 cross-step-spec =

@@ -39,7 +39,7 @@ returns-3 c = rw (c .ended2 .ensures, c .before .enum-told3 .given .1)
 returns-4 : tie.Need-returns-4
 returns-4 c =
     let run = c .before in
-    rw (run .before .before .before .before .answer .given .1, c .consider-at .ensures, run .run-bytes .ensures)
+    rw (run .before .before .before .answer .given .1, c .consider-at .ensures, run .run-bytes .ensures)
 
 pub twin-found-spec : {M : Type 1} → statement M
 twin-found-spec =

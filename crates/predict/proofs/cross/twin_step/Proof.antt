@@ -1,41 +1,54 @@
--- `predict::cross::twin_step` meets its contract: each return by where the tile lies; what its lookup gives is what the reader gives.
+-- `predict::cross::twin_step` meets its contract: each return by where the tile lies; what its lookup gives and leaves is what the reader
+-- gives and carries.
 use Prim.Native.Nat.{ℕ}
 use mathlib.Core.Path.{_≡_, refl, sym, _∙_}
-use mathlib.Core.List.{List}
+use mathlib.Core.List.{List, []}
 use lib.IntN.{pos, _+ℤ_}
 use denote.Ref.{now}
 use borrow.Author.Needs.{needs}
 use Rattle.pack.specs.Grid.{checkedOf}
 use Rattle.pack.specs.declared.Keyed.the-variants as Keyed
 use Rattle.pack.specs.declared.TileKey.{TileKey}
-use Rattle.cache.specs.declared.Cache.{Cache}
 use Rattle.cache.specs.Direct.{Look, ready, missing, absent, stale}
-use Rattle.cache.specs.declared.Hit.{Hit}
+use Rattle.cache.specs.declared.Lookup.{Lookup}
 use Rattle.cache.specs.Ages.{lookUp}
-use Rattle.cache.specs.Reader.{inCache}
+use Rattle.cache.specs.Reader.{Reader, inBytes, inLooks}
 use Rattle.predict.specs.declared.twins.Twin.{Twin}
 use Rattle.predict.specs.declared.Arrival.{Arrival}
 use Rattle.predict.specs.declared.Crossing.{Crossing}
-use Rattle.predict.specs.declared.Visited.{Visited}
-use Rattle.predict.specs.Cross.{waysOf, crossing, twinLook, twinFound, hitReader, twinStep}
+use Rattle.predict.specs.Cross.{waysOf, crossing, twinLook, twinFound, twinStep}
+use Rattle.predict.specs.Walk.{carriedBy}
+use Rattle.predict.proofs.Looks.{look-carried}
 use Rattle.predict.proofs.cross.twin_step.Statement.{statement}
 use Rattle.predict.proofs.cross.twin_step.Tie as tie
 
-module _ (x : Crossing) (c : Cache) (arena : List ℕ) (a : Arrival) (v : Visited) (twin : Twin) (key : TileKey) where
-  look-same : (look : Look)
-      → crossing (twinLook (hitReader (lookUp c arena (a .header .tile) (x .carried) key) arena) a v look (waysOf x) key twin)
-      ≡ crossing (twinLook (inCache c arena (a .header .tile)) a v look (waysOf x) key twin)
+-- the ways on are the same whatever is carried, and carried is what any look carries
+module _ (rd : Reader (List ℕ)) (x : Crossing) (a : Arrival) (v s : List ℕ) (key : TileKey) (twin : Twin) where
+  look-same : (look : Look) → crossing (twinLook rd a v look (waysOf x []) key twin) ≡ crossing (twinLook rd a v look (waysOf x s) key twin)
   look-same (ready bs) = refl
   look-same missing = refl
   look-same absent = refl
   look-same stale = refl
 
-  -- the tile in the grid, and what its lookup gives
-  found-is : {r : Crossing} {hit : Hit} → r ≡ twinFound x hit arena a v key twin → hit ≡ lookUp c arena (a .header .tile) (x .carried) key
-      → Keyed.In key ≡ checkedOf (a .header) (pos (a .way .tile .row) +ℤ twin .row) (pos (a .way .tile .col) +ℤ twin .col)
-      → r ≡ twinStep x c arena a v twin
+  look-leaves : (look : Look) → carriedBy look rd s key ≡ twinLook rd a v look (waysOf x s) key twin .carried
+  look-leaves (ready bs) = refl
+  look-leaves missing = refl
+  look-leaves absent = refl
+  look-leaves stale = refl
+
+-- the tile in the grid, and what its lookup gives and leaves
+module _ (x : Crossing) (arena : List ℕ) (a : Arrival) (v s : List ℕ) (twin : Twin) (key : TileKey)
+    (g : Keyed.In key ≡ checkedOf (a .header) (pos (a .way .tile .row) +ℤ twin .row) (pos (a .way .tile .col) +ℤ twin .col)) where
+  found-is : {r : Crossing} {answer : Lookup} → r ≡ twinFound x answer arena a v key twin → answer ≡ lookUp s arena (a .header .tile) key .answer
+      → r ≡ crossing (twinStep x arena a v s twin)
   unfolding twinStep
-  found-is e f g = rw (e, f, ← g) (look-same (inCache c arena (a .header .tile) .at (x .carried) key))
+  found-is e f = rw (e, f, ← g) (look-same (inLooks arena (a .header .tile)) x a v s key twin (inLooks arena (a .header .tile) .at s key))
+
+  left-is : {t : List ℕ} → t ≡ lookUp s arena (a .header .tile) key .looks → t ≡ twinStep x arena a v s twin .carried
+  unfolding twinStep
+  left-is e =
+      let rd = inLooks arena (a .header .tile) in
+      rw (e, ← g) (sym (look-carried s arena (a .header .tile) key) ∙ look-leaves rd x a v s key twin (rd .at s key))
 
 key-of-requires : tie.Need-key-of-requires
 key-of-requires c κs = tt
@@ -61,16 +74,20 @@ returns c =
     let told = found .before .before .before .before in
     let keyed = told .before .before in
     let args = keyed .before .before .args in
-    found-is (args .x) (args .c) (now (args .arena)) (args .a) (args .v) (args .twin) (told .key .given .0 .0)
-    (c .twin-found .ensures) (found .look-up .ensures) (sym (told .key .given .1) ∙ keyed .key-of .ensures)
+    let key = told .key .given .0 .0 in
+    let inside = sym (told .key .given .1) ∙ keyed .key-of .ensures in (
+      found-is (args .x) (now (args .arena)) (args .a) (now (args .visited)) (now (args .looks)) (args .twin) key inside (c .twin-found .ensures)
+          (found .look-up .ensures .0),
+      left-is (args .x) (now (args .arena)) (args .a) (now (args .visited)) (now (args .looks)) (args .twin) key inside (found .look-up .ensures .1),
+    )
 
 returns-2 : tie.Need-returns-2
 unfolding twinStep
-returns-2 c = rw (sym (c .before .before .key-of .ensures) ∙ c .enum-told .given .1)
+returns-2 c = let outside = sym (c .before .before .key-of .ensures) ∙ c .enum-told .given .1 in (rw outside, rw outside)
 
 returns-3 : tie.Need-returns-3
 unfolding twinStep
-returns-3 c = rw (sym (c .before .before .key-of .ensures) ∙ c .enum-told2 .given .1)
+returns-3 c = let refused = sym (c .before .before .key-of .ensures) ∙ c .enum-told2 .given .1 in (rw refused, rw refused)
 
 pub twin-step-spec : {M : Type 1} → statement M
 twin-step-spec =

@@ -29,18 +29,29 @@ with-ending-requires-2 : tie.Need-with-ending-requires-2
 with-ending-requires-2 c κs = tt
 
 returns : tie.Need-returns
-returns c = rw (c .before .before .before .before .answer .given .1, c .on-edge .ensures, c .before .span .ensures, c .before .before .run-bytes .ensures)
+returns c =
+    let span = c .before .before .before in
+    let run = span .before in
+    let answer = run .before .before .answer .given .1 in (
+      rw (answer, c .on-edge .ensures .0, span .span .ensures, run .run-bytes .ensures),
+      (
+        rw (answer, c .on-edge .ensures .1 .0, span .span .ensures, run .run-bytes .ensures),
+        rw (answer, c .on-edge .ensures .1 .1, span .span .ensures, run .run-bytes .ensures),
+      ),
+    )
 
 returns-2 : tie.Need-returns-2
-returns-2 c = rw (c .with-ending .ensures, c .before .enum-told .given .1)
+returns-2 c =
+    let answer = c .before .enum-told .given .1 in
+    (rw (c .with-ending .ensures, answer), (rw answer, rw answer))
 
 returns-3 : tie.Need-returns-3
 returns-3 c =
-    let hit = c .before .before .before .before .before .before .args .hit in
+    let answer = c .before .before .before .before .before .args .answer in
     ⊎-elim
-    (λ (e : hit .answer ≡ Lookup.Missing). rw (c .with-ending2 .ensures, e))
-    (λ (e : hit .answer ≡ Lookup.Absent). rw (c .with-ending2 .ensures, e))
-    (asked (hit .answer) (c .before .match .keys3))
+    (λ (e : answer ≡ Lookup.Missing). (rw (c .with-ending2 .ensures, e), (rw e, rw e)))
+    (λ (e : answer ≡ Lookup.Absent). (rw (c .with-ending2 .ensures, e), (rw e, rw e)))
+    (asked answer (c .before .match .keys3))
 
 pub entered-by-spec : {M : Type 1} → statement M
 entered-by-spec =

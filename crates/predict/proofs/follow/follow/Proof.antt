@@ -4,19 +4,22 @@
 use Prim.Native.Nat.{ℕ, _+_, _-_, _≤_}
 use mathlib.Core.Path.{_≡_, refl, sym, ap, _∙_}
 use mathlib.Core.Bool.{true, false}
+use mathlib.Core.List.{List}
 use native.Mathlib.Omega.{arith}
 use lib.ListN.{length}
 use denote.Ref.{now}
 use borrow.Author.Tests.{not-true, not-false}
 use borrow.Author.Needs.{needs}
-use Rattle.cache.specs.Reader.{inCache}
+use Rattle.cache.specs.Reader.{inLooks}
 use Rattle.predict.specs.Vertex.{vertices}
 use Rattle.predict.proofs.VertexLaws.{vertices-start}
-use Rattle.predict.specs.Walk.{walkTo}
+use Rattle.predict.specs.declared.Walk.{Walk}
+use Rattle.predict.specs.declared.enter.Entered.{Entered}
+use Rattle.predict.specs.Walk.{Onto, Stride, Entering, walkTo}
 use Rattle.predict.proofs.WalkLaws.{walk-start}
 use Rattle.predict.proofs.FollowLaws.{
-  runOf,
   alongOf,
+  run,
   points-start,
   points-on,
   points-over,
@@ -31,8 +34,24 @@ use Rattle.predict.proofs.FollowLaws.{
 use Rattle.predict.proofs.follow.follow.Statement.{statement}
 use Rattle.predict.proofs.follow.follow.Tie as tie
 
+abbrev onto : Walk → List ℕ → List ℕ → Onto
+onto w v m = record { walk = w; visited = v; met = m }
+
+-- what `enter` gives back and leaves in the numbers that it is lent
+abbrev ontoEntered : Entered → List ℕ → List ℕ → List ℕ → Entering
+ontoEntered x looks v m = record { entered = x; looks = looks; visited = v; met = m }
+
+entered-is : {x : Entered} {looks v m : List ℕ} {e : Entering} → x ≡ e .entered → looks ≡ e .looks → v ≡ e .visited → m ≡ e .met
+    → ontoEntered x looks v m ≡ e
+entered-is p q r s = λ i. record { entered = p i; looks = q i; visited = r i; met = s i }
+
+-- and `crossed`
+crossed-is : {w : Walk} {looks : List ℕ} {x : Stride (List ℕ)} → w ≡ x .walk → looks ≡ x .carried
+    → _≡_ {A = Stride (List ℕ)} (record { walk = w; carried = looks }) x
+crossed-is p q = λ i. record { walk = p i; carried = q i }
+
 abbrev Inv-points : tie.InvT-points
-Inv-points c arena trip budget heights₀ header w₀ carried n bytes head leg last t₀ i₀ heights w t i =
+Inv-points arena trip budget looks visited met heights₀ header w₀ t₀ n bytes head leg last i₀ heights w t i =
     (i₀ ≤ i)
     × ((i - i₀ ≤ last + 1 - i₀)
     × ((length heights ≡ length heights₀)
@@ -40,26 +59,28 @@ Inv-points c arena trip budget heights₀ header w₀ carried n bytes head leg l
     × ((t .over ≡ false) × (alongOf t heights ≡ vertices trip leg bytes (head .«lon_um») i₀ (alongOf t₀ heights₀) (i - i₀))))))
 
 abbrev μ-points : tie.MeasureT-points
-μ-points c arena trip budget heights₀ header w₀ carried n bytes head leg last t₀ i₀ heights w t i = last + 1 - i
+μ-points arena trip budget looks visited met heights₀ header w₀ t₀ n bytes head leg last i₀ heights w t i = last + 1 - i
 
 abbrev Inv-edges : tie.InvT-edges
-Inv-edges c arena trip budget heights₀ header w₀ carried₀ n₀ heights w carried n =
+Inv-edges arena trip budget looks₀ visited₀ met₀ heights₀ header w₀ t₀ n₀ looks visited met heights w t n =
     (n ≤ 2000)
     × ((length heights ≡ length heights₀)
-    × (runOf w carried heights ≡ walkTo (inCache c arena (trip .header .tile)) trip budget (runOf w₀ carried₀ heights₀) n))
+    × (run arena trip budget (onto w visited met) t looks heights
+    ≡ walkTo (inLooks arena (trip .header .tile)) trip budget (run arena trip budget (onto w₀ visited₀ met₀) t₀ looks₀ heights₀) n))
 
 abbrev μ-edges : tie.MeasureT-edges
-μ-edges c arena trip budget heights₀ header w₀ carried₀ n₀ heights w carried n = 2000 - n
+μ-edges arena trip budget looks₀ visited₀ met₀ heights₀ header w₀ t₀ n₀ looks visited met heights w t n = 2000 - n
 
 edges-holds : tie.Need-edges-holds Inv-points μ-points Inv-edges μ-edges
 edges-holds c =
-    let args = c .before .before .args in (
+    let args = c .before .before .args in
+    let start = onto (args .start) (now (args .visited)) (now (args .met)) in (
       omega arith,
       (
         refl,
         sym
-            (walk-start (inCache (args .c) (now (args .arena)) (args .trip .header .tile)) (args .trip) (args .budget)
-            (runOf (args .start) (args .first) (now (args .heights)))),
+            (walk-start (inLooks (now (args .arena)) (args .trip .header .tile)) (args .trip) (args .budget)
+            (run (now (args .arena)) (args .trip) (args .budget) start (args .first) (now (args .looks)) (now (args .heights)))),
       ),
     )
 
@@ -89,7 +110,8 @@ reached-requires c κs = tt
 
 points-holds : tie.Need-points-holds Inv-points μ-points Inv-edges μ-edges
 points-holds c =
-    let w = c .before .before .before .before .before .before .before .before .before .before .before .enter .result .walk in (
+    let args = c .before .before .before .before .before .before .before .before .before .before .before .before .before .before .before .before .before .args in
+    let edges = c .before .before .before .before .before .before .before .before .before .before .before .before .before .before .edges in (
       omega arith,
       (
         omega arith,
@@ -99,8 +121,8 @@ points-holds c =
             refl,
             (
               c .if2 .left,
-              points-start (c .before .before .before .before .before .before .before .before .before .before .before .before .before .before .before .before .args .trip) (c .before .before .before .before .leg-of .result) (now (c .before .before .before .before .before .before .run-bytes .result)) (c .before .before .before .before .before .head .result .«lon_um») (w .from)
-                  (alongOf (w .track) (c .before .before .before .before .before .before .before .before .before .before .before .before .before .edges .heights)),
+              points-start (args .trip) (c .before .before .before .leg-of .result) (now (c .before .before .before .before .before .run-bytes .result)) (c .before .before .before .before .head .result .«lon_um») (c .before .before .before .before .before .before .before .before .before .enter .result .walk .from)
+                  (alongOf (edges .t) (edges .heights)),
             ),
           ),
         ),
@@ -114,16 +136,16 @@ reached-requires-2 : tie.Need-reached-requires-2 Inv-points μ-points Inv-edges 
 reached-requires-2 c κs = tt
 
 add-i : tie.Need-add-i Inv-points μ-points Inv-edges μ-edges
-add-i c = omega (arith, c .before .before .before .before .points-test .taken, c .before .before .before .before .before .before .before .before .struct-known)
+add-i c = omega (arith, c .before .before .before .before .points-test .taken, c .before .before .before .before .before .before .before .struct-known)
 
 points-less : tie.Need-points-less Inv-points μ-points Inv-edges μ-edges
 points-less c = omega (arith, c .before .before .before .before .points-test .taken)
 
 points-again : tie.Need-points-again Inv-points μ-points Inv-edges μ-edges
 points-again c =
-    let args = c .before .before .before .before .before .before .before .before .before .before .before .before .before .before .before .before .before .before .before .before .before .before .args in
+    let args = c .before .before .before .before .before .before .before .before .before .before .before .before .before .before .before .before .before .before .before .before .before .before .before .args in
+    let edges = c .before .before .before .before .before .before .before .before .before .before .before .before .before .before .before .before .before .before .before .before .edges in
     let points = c .before .before .before .before .before .points in
-    let walk = c .before .before .before .before .before .before .before .before .before .before .before .before .before .before .before .before .before .enter .result .walk in
     let advance = c .before .before .advance in (
       omega (arith, points .inv .0),
       (
@@ -134,17 +156,14 @@ points-again c =
             points .inv .1 .1 .1 .0,
             (
               c .if3 .left,
-              points-on (args .trip) (c .before .before .before .before .before .before .before .before .before .before .leg-of .result) (now (c .before .before .before .before .before .before .before .before .before .before .before .before .run-bytes .result)) (c .before .before .before .before .before .before .before .before .before .before .before .head .result .«lon_um») (walk .from)
-                  (alongOf (walk .track) (c .before .before .before .before .before .before .before .before .before .before .before .before .before .before .before .before .before .before .before .edges .heights)) (points .i) (points .t) (points .heights) (points .inv .0) (points .inv .1 .1 .1 .1 .0)
+              points-on (args .trip) (c .before .before .before .before .before .before .before .before .before .leg-of .result) (now (c .before .before .before .before .before .before .before .before .before .before .before .run-bytes .result)) (c .before .before .before .before .before .before .before .before .before .before .head .result .«lon_um») (c .before .before .before .before .before .before .before .before .before .before .before .before .before .before .before .enter .result .walk .from)
+                  (alongOf (edges .t) (edges .heights)) (points .i) (points .t) (points .heights) (points .inv .0) (points .inv .1 .1 .1 .1 .0)
                   (points .inv .1 .1 .1 .1 .1) (advance .result) (advance .last .1 .1 .1 .1 .1 .1 .0) (advance .ensures .0) (advance .ensures .1),
             ),
           ),
         ),
       ),
     )
-
-moved-requires : tie.Need-moved-requires Inv-points μ-points Inv-edges μ-edges
-moved-requires c κs = tt
 
 crossed-requires : tie.Need-crossed-requires Inv-points μ-points Inv-edges μ-edges
 crossed-requires c κs = tt
@@ -159,29 +178,37 @@ edges-again : tie.Need-edges-again Inv-points μ-points Inv-edges μ-edges
 edges-again c =
     let args = c .before .before .before .before .before .before .before .before .before .before .before .before .before .before .before .before .before .before .before .before .before .before .args in
     let edges = c .before .before .before .before .before .before .before .before .before .before .before .before .before .before .before .before .before .before .before .edges in
-    let points = c .before .before .before .before .before .points in
-    let entered = c .before .before .before .before .before .before .before .before .before .before .before .before .before .before .before .before .before .enter in
+    let entered = c .before .before .before .before .before .before .before .before .before .before .before .before .before .before .enter in
     let walk = entered .result .walk in
-    let run = c .before .before .before .before .before .before .before .before .before .before .before .before .run-bytes in
-    let head = c .before .before .before .before .before .before .before .before .before .before .before .head in
-    let leg = c .before .before .before .before .before .before .before .before .before .before .leg-of in
-    let goes = sym (c .before .before .before .before .before .before .before .before .before .before .before .before .before .before .goes-on .ensures) ∙ not-false _ (c .before .before .before .before .before .before .before .before .before .before .before .before .before .if1 .left) in
+    let e = ontoEntered (entered .result) (entered .last .1 .1 .1 .1 .0) (entered .last .1 .1 .1 .1 .1 .0) (entered .last .1 .1 .1 .1 .1 .1 .0) in
+    let came = entered-is (entered .ensures .0) (entered .ensures .1 .0) (entered .ensures .1 .1 .0) (entered .ensures .1 .1 .1) in
+    let start = onto (args .start) (now (args .visited)) (now (args .met)) in
+    let before = onto (edges .w) (edges .visited) (edges .met) in
+    let read = c .before .before .before .before .before .before .before .before .before .before .run-bytes in
+    let head = c .before .before .before .before .before .before .before .before .before .head in
+    let leg = c .before .before .before .before .before .before .before .before .leg-of in
+    let goes = sym (c .before .before .before .before .before .before .before .before .before .before .before .before .goes-on .ensures) ∙ not-false _ (c .before .before .before .before .before .before .before .before .before .before .before .if1 .left) in
+    let first = alongOf (edges .t) (edges .heights) in
+    let points = c .before .before .before .before .points in
+    let crossed = c .crossed in
     let all : points .i - walk .from ≡ leg .result .edge .vertices + 1 + 1 - walk .from =
-    omega (arith, points .inv .0, points .inv .1 .0, c .before .before .before .before .points-test .left)
+    omega (arith, points .inv .0, points .inv .1 .0, c .before .before .before .points-test .left)
     in
-    let end =
-    ap (vertices (args .trip) (leg .result) (now (run .result)) (head .result .«lon_um») (walk .from) (alongOf (walk .track) (edges .heights))) all
-    in (
+    let end = ap (vertices (args .trip) (leg .result) (now (read .result)) (head .result .«lon_um») (walk .from) first) all in
+    let same = points .inv .1 .1 .1 .0 in (
       omega (arith, c .before .before .before .before .before .before .before .before .before .before .before .before .before .before .before .before .before .before .edges-test .taken),
       (
         points .inv .1 .1 .0 ∙ edges .inv .1 .0,
-        walk-on (args .c) (now (args .arena)) (args .trip) (args .budget) (runOf (args .start) (args .first) (now (args .heights)))
-            (runOf (edges .w) (edges .carried) (edges .heights))
-            (runOf (c .before .before .crossed .result .walk) (c .before .before .crossed .result .carried) (points .heights)) (edges .n) (edges .inv .1 .1)
-            (step-on (args .c) (now (args .arena)) (args .trip) (args .budget) (edges .w) (edges .carried) (edges .heights) (entered .result)
-            (entered .ensures) goes (now (run .result)) (run .ensures) (head .result) (head .ensures) (leg .result) (leg .ensures)
-            (alongOf (points .t) (points .heights)) (sym (points .inv .1 .1 .1 .1 .1 ∙ end)) (points .w) (c .before .before .before .moved .result) (c .before .before .crossed .result)
-            (points .inv .1 .1 .1 .0) (c .before .before .before .moved .ensures) (c .before .before .crossed .ensures) (points .inv .1 .1 .1 .1 .0)),
+        walk-on (now (args .arena)) (args .trip) (args .budget)
+            (run (now (args .arena)) (args .trip) (args .budget) start (args .first) (now (args .looks)) (now (args .heights)))
+            (run (now (args .arena)) (args .trip) (args .budget) before (edges .t) (edges .looks) (edges .heights))
+            (run (now (args .arena)) (args .trip) (args .budget) (onto (crossed .result) (e .visited) (e .met)) (points .t) (crossed .last .1 .1 .1 .1 .0) (points .heights))
+            (edges .n) (edges .inv .1 .1)
+            (step-on (now (args .arena)) (args .trip) (args .budget) before (edges .t) (edges .looks) (edges .heights) e came goes
+            (now (read .result)) (read .ensures) (head .result) (head .ensures) (leg .result) (leg .ensures)
+            (alongOf (points .t) (points .heights)) (sym (points .inv .1 .1 .1 .1 .1 ∙ end))
+            (record { walk = crossed .result; carried = crossed .last .1 .1 .1 .1 .0 })
+            (rw same at (crossed-is (crossed .ensures .0) (crossed .ensures .1))) (points .inv .1 .1 .1 .1 .0)),
       ),
     )
 
@@ -192,82 +219,102 @@ returns : tie.Need-returns Inv-points μ-points Inv-edges μ-edges
 returns c =
     let args = c .before .before .before .before .args in
     let edges = c .before .edges in
+    let start = onto (args .start) (now (args .visited)) (now (args .met)) in
     let all : edges .n ≡ 2000 = omega (arith, edges .inv .0, c .edges-test .left) in
-    follow-is (args .c) (now (args .arena)) (args .trip) (args .budget) (args .start) (args .first) (now (args .heights))
-    (runOf (edges .w) (edges .carried) (edges .heights)) (rw all at (edges .inv .1 .1))
+    follow-is (now (args .arena)) (args .trip) (args .budget) start (args .first) (now (args .looks)) (now (args .heights))
+    (run (now (args .arena)) (args .trip) (args .budget) (onto (edges .w) (edges .visited) (edges .met)) (edges .t) (edges .looks) (edges .heights))
+    (rw all at (edges .inv .1 .1))
 
 same-length-2 : tie.Need-same-length-2 Inv-points μ-points Inv-edges μ-edges
-same-length-2 c = c .before .before .before .before .before .before .edges .inv .1 .0
+same-length-2 c = c .before .before .before .before .before .before .before .before .edges .inv .1 .0
 
 returns-2 : tie.Need-returns-2 Inv-points μ-points Inv-edges μ-edges
 returns-2 c =
-    let args = c .before .before .before .before .before .before .before .before .before .args in
-    let edges = c .before .before .before .before .before .before .edges in
-    let entered = c .before .before .before .before .enter in
-    let e = entered .result in
+    let args = c .before .before .before .before .before .before .before .before .before .before .before .args in
+    let edges = c .before .before .before .before .before .before .before .before .edges in
+    let entered = c .before .before .before .enter in
+    let walk = entered .result .walk in
+    let e = ontoEntered (entered .result) (entered .last .1 .1 .1 .1 .0) (entered .last .1 .1 .1 .1 .1 .0) (entered .last .1 .1 .1 .1 .1 .1 .0) in
+    let came = entered-is (entered .ensures .0) (entered .ensures .1 .0) (entered .ensures .1 .1 .0) (entered .ensures .1 .1 .1) in
+    let start = onto (args .start) (now (args .visited)) (now (args .met)) in
+    let before = onto (edges .w) (edges .visited) (edges .met) in
     let ends = sym (c .before .goes-on .ensures) ∙ not-true _ (c .if1 .taken) in
-    follow-is (args .c) (now (args .arena)) (args .trip) (args .budget) (args .start) (args .first) (now (args .heights))
-    (runOf (e .walk) (e .carried) (edges .heights))
-    (walk-whole (args .c) (now (args .arena)) (args .trip) (args .budget) (runOf (args .start) (args .first) (now (args .heights)))
-    (runOf (edges .w) (edges .carried) (edges .heights)) (runOf (e .walk) (e .carried) (edges .heights)) (edges .n) (edges .inv .1 .1)
-    (step-ended (args .c) (now (args .arena)) (args .trip) (args .budget) (edges .w) (edges .carried) (edges .heights) e (entered .ensures) ends)
-    ends (c .before .before .before .before .before .edges-test .taken))
+    let over = run (now (args .arena)) (args .trip) (args .budget) (onto walk (e .visited) (e .met)) (edges .t) (e .looks) (edges .heights) in
+    follow-is (now (args .arena)) (args .trip) (args .budget) start (args .first) (now (args .looks)) (now (args .heights)) over
+    (walk-whole (now (args .arena)) (args .trip) (args .budget)
+    (run (now (args .arena)) (args .trip) (args .budget) start (args .first) (now (args .looks)) (now (args .heights)))
+    (run (now (args .arena)) (args .trip) (args .budget) before (edges .t) (edges .looks) (edges .heights)) over (edges .n) (edges .inv .1 .1)
+    (step-ended (now (args .arena)) (args .trip) (args .budget) before (edges .t) (edges .looks) (edges .heights) e came ends)
+    ends (c .before .before .before .before .before .before .before .edges-test .taken))
 
 same-length-3 : tie.Need-same-length-3 Inv-points μ-points Inv-edges μ-edges
-same-length-3 c = c .before .before .before .before .before .before .before .before .before .before .before .before .before .before .edges .inv .1 .0
+same-length-3 c = c .before .before .before .before .before .before .before .before .before .before .before .before .before .before .before .edges .inv .1 .0
 
 returns-3 : tie.Need-returns-3 Inv-points μ-points Inv-edges μ-edges
 returns-3 c =
-    let args = c .before .before .before .before .before .before .before .before .before .before .before .before .before .before .before .before .before .args in
-    let edges = c .before .before .before .before .before .before .before .before .before .before .before .before .before .before .edges in
-    let entered = c .before .before .before .before .before .before .before .before .before .before .before .before .enter in
-    let e = entered .result in
-    let run = c .before .before .before .before .before .before .before .run-bytes in
-    let head = c .before .before .before .before .before .before .head in
-    let leg = c .before .before .before .before .before .leg-of in
-    let goes = sym (c .before .before .before .before .before .before .before .before .before .goes-on .ensures) ∙ not-false _ (c .before .before .before .before .before .before .before .before .if1 .left) in
-    let first = alongOf (e .walk .track) (edges .heights) in
-    follow-is (args .c) (now (args .arena)) (args .trip) (args .budget) (args .start) (args .first) (now (args .heights))
-    (runOf (c .reached .result) (e .carried) (edges .heights))
-    (walk-whole (args .c) (now (args .arena)) (args .trip) (args .budget) (runOf (args .start) (args .first) (now (args .heights)))
-    (runOf (edges .w) (edges .carried) (edges .heights)) (runOf (c .reached .result) (e .carried) (edges .heights)) (edges .n) (edges .inv .1 .1)
-    (step-over (args .c) (now (args .arena)) (args .trip) (args .budget) (edges .w) (edges .carried) (edges .heights) e (entered .ensures) goes
-    (now (run .result)) (run .ensures) (head .result) (head .ensures) (leg .result) (leg .ensures) first
-    (points-over (args .trip) (leg .result) (now (run .result)) (head .result .«lon_um») (e .walk .from) first first 0
-    (leg .result .edge .vertices + 1 + 1 - e .walk .from)
-    (sym (vertices-start (args .trip) (leg .result) (now (run .result)) (head .result .«lon_um») (e .walk .from) first)) (c .before .if2 .taken)
-    (omega arith)) (e .walk) (c .reached .result) refl (c .reached .ensures) (c .before .if2 .taken))
-    (reached-ends (c .reached .result) (e .walk) (e .walk .track) (c .reached .ensures)) (c .before .before .before .before .before .before .before .before .before .before .before .before .before .edges-test .taken))
+    let args = c .before .before .before .before .before .before .before .before .before .before .before .before .before .before .before .before .before .before .args in
+    let edges = c .before .before .before .before .before .before .before .before .before .before .before .before .before .before .before .edges in
+    let entered = c .before .before .before .before .before .before .before .before .before .before .enter in
+    let walk = entered .result .walk in
+    let e = ontoEntered (entered .result) (entered .last .1 .1 .1 .1 .0) (entered .last .1 .1 .1 .1 .1 .0) (entered .last .1 .1 .1 .1 .1 .1 .0) in
+    let came = entered-is (entered .ensures .0) (entered .ensures .1 .0) (entered .ensures .1 .1 .0) (entered .ensures .1 .1 .1) in
+    let start = onto (args .start) (now (args .visited)) (now (args .met)) in
+    let before = onto (edges .w) (edges .visited) (edges .met) in
+    let read = c .before .before .before .before .before .before .run-bytes in
+    let head = c .before .before .before .before .before .head in
+    let leg = c .before .before .before .before .leg-of in
+    let goes = sym (c .before .before .before .before .before .before .before .before .goes-on .ensures) ∙ not-false _ (c .before .before .before .before .before .before .before .if1 .left) in
+    let first = alongOf (edges .t) (edges .heights) in
+    let ended = c .reached in
+    let over = run (now (args .arena)) (args .trip) (args .budget) (onto (ended .result) (e .visited) (e .met)) (edges .t) (e .looks) (edges .heights) in
+    follow-is (now (args .arena)) (args .trip) (args .budget) start (args .first) (now (args .looks)) (now (args .heights)) over
+    (walk-whole (now (args .arena)) (args .trip) (args .budget)
+    (run (now (args .arena)) (args .trip) (args .budget) start (args .first) (now (args .looks)) (now (args .heights)))
+    (run (now (args .arena)) (args .trip) (args .budget) before (edges .t) (edges .looks) (edges .heights)) over (edges .n) (edges .inv .1 .1)
+    (step-over (now (args .arena)) (args .trip) (args .budget) before (edges .t) (edges .looks) (edges .heights) e came goes
+    (now (read .result)) (read .ensures) (head .result) (head .ensures) (leg .result) (leg .ensures) first
+    (points-over (args .trip) (leg .result) (now (read .result)) (head .result .«lon_um») (walk .from) first first 0
+    (leg .result .edge .vertices + 1 + 1 - walk .from)
+    (sym (vertices-start (args .trip) (leg .result) (now (read .result)) (head .result .«lon_um») (walk .from) first)) (c .before .if2 .taken)
+    (omega arith)) (ended .result) (ended .ensures) (c .before .if2 .taken))
+    (reached-ends (ended .result) walk (ended .ensures)) (c .before .before .before .before .before .before .before .before .before .before .before .before .before .before .edges-test .taken))
 
 same-length-4 : tie.Need-same-length-4 Inv-points μ-points Inv-edges μ-edges
-same-length-4 c = c .before .before .before .advance .kept .1 .1 .1 .1 .1 .1 .0 ∙ c .before .before .before .before .before .before .points .inv .1 .1 .0 ∙ c .before .before .before .before .before .before .before .before .before .before .before .before .before .before .before .before .before .before .before .before .edges .inv .1 .0
+same-length-4 c = c .before .before .before .advance .kept .1 .1 .1 .1 .1 .1 .0 ∙ c .before .before .before .before .before .before .points .inv .1 .1 .0 ∙ c .before .before .before .before .before .before .before .before .before .before .before .before .before .before .before .before .before .before .before .before .before .edges .inv .1 .0
 
 returns-4 : tie.Need-returns-4 Inv-points μ-points Inv-edges μ-edges
 returns-4 c =
-    let args = c .before .before .before .before .before .before .before .before .before .before .before .before .before .before .before .before .before .before .before .before .before .before .before .args in
-    let edges = c .before .before .before .before .before .before .before .before .before .before .before .before .before .before .before .before .before .before .before .before .edges in
+    let args = c .before .before .before .before .before .before .before .before .before .before .before .before .before .before .before .before .before .before .before .before .before .before .before .before .args in
+    let edges = c .before .before .before .before .before .before .before .before .before .before .before .before .before .before .before .before .before .before .before .before .before .edges in
+    let entered = c .before .before .before .before .before .before .before .before .before .before .before .before .before .before .before .before .enter in
+    let walk = entered .result .walk in
+    let e = ontoEntered (entered .result) (entered .last .1 .1 .1 .1 .0) (entered .last .1 .1 .1 .1 .1 .0) (entered .last .1 .1 .1 .1 .1 .1 .0) in
+    let came = entered-is (entered .ensures .0) (entered .ensures .1 .0) (entered .ensures .1 .1 .0) (entered .ensures .1 .1 .1) in
+    let start = onto (args .start) (now (args .visited)) (now (args .met)) in
+    let before = onto (edges .w) (edges .visited) (edges .met) in
+    let read = c .before .before .before .before .before .before .before .before .before .before .before .before .run-bytes in
+    let head = c .before .before .before .before .before .before .before .before .before .before .before .head in
+    let leg = c .before .before .before .before .before .before .before .before .before .before .leg-of in
+    let goes = sym (c .before .before .before .before .before .before .before .before .before .before .before .before .before .before .goes-on .ensures) ∙ not-false _ (c .before .before .before .before .before .before .before .before .before .before .before .before .before .if1 .left) in
+    let first = alongOf (edges .t) (edges .heights) in
     let points = c .before .before .before .before .before .before .points in
-    let entered = c .before .before .before .before .before .before .before .before .before .before .before .before .before .before .before .before .before .before .enter in
-    let e = entered .result in
-    let run = c .before .before .before .before .before .before .before .before .before .before .before .before .before .run-bytes in
-    let head = c .before .before .before .before .before .before .before .before .before .before .before .before .head in
-    let leg = c .before .before .before .before .before .before .before .before .before .before .before .leg-of in
     let advance = c .before .before .before .advance in
     let heights = advance .last .1 .1 .1 .1 .1 .1 .0 in
-    let goes = sym (c .before .before .before .before .before .before .before .before .before .before .before .before .before .before .before .goes-on .ensures) ∙ not-false _ (c .before .before .before .before .before .before .before .before .before .before .before .before .before .before .if1 .left) in
-    let first = alongOf (e .walk .track) (edges .heights) in
-    follow-is (args .c) (now (args .arena)) (args .trip) (args .budget) (args .start) (args .first) (now (args .heights))
-    (runOf (c .reached2 .result) (e .carried) heights)
-    (walk-whole (args .c) (now (args .arena)) (args .trip) (args .budget) (runOf (args .start) (args .first) (now (args .heights)))
-    (runOf (edges .w) (edges .carried) (edges .heights)) (runOf (c .reached2 .result) (e .carried) heights) (edges .n) (edges .inv .1 .1)
-    (step-over (args .c) (now (args .arena)) (args .trip) (args .budget) (edges .w) (edges .carried) (edges .heights) e (entered .ensures) goes
-    (now (run .result)) (run .ensures) (head .result) (head .ensures) (leg .result) (leg .ensures) (alongOf (advance .result) heights)
-    (points-over (args .trip) (leg .result) (now (run .result)) (head .result .«lon_um») (e .walk .from) first (alongOf (advance .result) heights)
-    (points .i + 1 - e .walk .from) (leg .result .edge .vertices + 1 + 1 - e .walk .from)
-    (points-on (args .trip) (leg .result) (now (run .result)) (head .result .«lon_um») (e .walk .from) first (points .i) (points .t) (points .heights)
+    let ended = c .reached2 in
+    let reached = rw (points .inv .1 .1 .1 .0) at (ended .ensures) in
+    let over = run (now (args .arena)) (args .trip) (args .budget) (onto (ended .result) (e .visited) (e .met)) (advance .result) (e .looks) heights in
+    follow-is (now (args .arena)) (args .trip) (args .budget) start (args .first) (now (args .looks)) (now (args .heights)) over
+    (walk-whole (now (args .arena)) (args .trip) (args .budget)
+    (run (now (args .arena)) (args .trip) (args .budget) start (args .first) (now (args .looks)) (now (args .heights)))
+    (run (now (args .arena)) (args .trip) (args .budget) before (edges .t) (edges .looks) (edges .heights)) over (edges .n) (edges .inv .1 .1)
+    (step-over (now (args .arena)) (args .trip) (args .budget) before (edges .t) (edges .looks) (edges .heights) e came goes
+    (now (read .result)) (read .ensures) (head .result) (head .ensures) (leg .result) (leg .ensures) (alongOf (advance .result) heights)
+    (points-over (args .trip) (leg .result) (now (read .result)) (head .result .«lon_um») (walk .from) first (alongOf (advance .result) heights)
+    (points .i + 1 - walk .from) (leg .result .edge .vertices + 1 + 1 - walk .from)
+    (points-on (args .trip) (leg .result) (now (read .result)) (head .result .«lon_um») (walk .from) first (points .i) (points .t) (points .heights)
     (points .inv .0) (points .inv .1 .1 .1 .1 .0) (points .inv .1 .1 .1 .1 .1) (advance .result) heights (advance .ensures .0) (advance .ensures .1))
-    (c .before .if3 .taken) (omega (arith, c .before .before .before .before .before .points-test .taken))) (points .w) (c .reached2 .result) (points .inv .1 .1 .1 .0) (c .reached2 .ensures)
-    (c .before .if3 .taken)) (reached-ends (c .reached2 .result) (points .w) (advance .result) (c .reached2 .ensures)) (c .before .before .before .before .before .before .before .before .before .before .before .before .before .before .before .before .before .before .before .edges-test .taken))
+    (c .before .if3 .taken) (omega (arith, c .before .before .before .before .before .points-test .taken))) (ended .result) reached (c .before .if3 .taken))
+    (reached-ends (ended .result) walk reached) (c .before .before .before .before .before .before .before .before .before .before .before .before .before .before .before .before .before .before .before .before .edges-test .taken))
 
 pub follow-spec : {M : Type 1} → statement M
 follow-spec =
@@ -292,7 +339,6 @@ follow-spec =
     add-i
     points-less
     points-again
-    moved-requires
     crossed-requires
     add-n
     edges-less

@@ -1,30 +1,35 @@
--- `predict::meets::has_met` meets its contract. The loop's invariant: no place passed holds the key. Past the last of the 96 places stands
--- one that holds none.
+-- `predict::meets::has_met` meets its contract. The loop's invariant: no place passed holds the tile's number. From place 96 on stands none.
 use Prim.Native.Nat.{ℕ, _≤_, _-_}
-use mathlib.Core.Path.{_≡_, sym, _∙_}
-use mathlib.Core.Bool.{false}
+use mathlib.Core.Path.{_≡_}
+use mathlib.Core.Bool.{false, _&&_}
 use mathlib.Core.List.{List}
 use native.Mathlib.Omega.{arith}
-use lib.ListN.{length, length-map, getD, List·getD-eq-default}
+use lib.Dec.{eqb, ltb}
+use lib.ListN.{getD}
+use denote.Ref.{now}
 use borrow.Author.Needs.{needs}
-use Rattle.pack.specs.declared.TileKey.{TileKey}
+use borrow.Author.Tests.{eq-eqb, ne-eqb, lt-ltb, le-ltb}
 use Rattle.cache.specs.declared.victim.Found.the-variants as Found
-use Rattle.cache.specs.Keys.{holds}
 use Rattle.cache.specs.Search.{lowest}
 use Rattle.cache.proofs.SearchLaws.{lowest-start, lowest-hit, lowest-miss, lowest-past}
-use Rattle.predict.specs.declared.MetTile.{MetTile}
-use Rattle.predict.specs.Meets.{noTile, hasMet}
+use Rattle.predict.specs.Meets.{tilesOf, hasMet}
 use Rattle.predict.proofs.meets.has_met.Statement.{statement}
 use Rattle.predict.proofs.meets.has_met.Tie as tie
 
-past : (key : TileKey) (v : List MetTile) (i : ℕ) → length v ≤ i → holds (getD v i noTile .key) key ≡ false
-past key v i h = rw (List·getD-eq-default v noTile h)
+past : (m : List ℕ) (number k : ℕ) → 96 ≤ k → (ltb k 96 && eqb (getD m k 0) number) ≡ false
+past m number k h = rw (le-ltb k 96 h)
 
 abbrev Inv-loop : tie.InvT-loop
-Inv-loop key m n i₀ i = (i ≤ n) × (lowest (λ (j : ℕ). holds (getD (m .v) j noTile .key) key) i ≡ Found.Nothing)
+Inv-loop m number n i₀ i = (i ≤ n) × (lowest (λ (j : ℕ). ltb j 96 && eqb (getD m j 0) number) i ≡ Found.Nothing)
 
 abbrev μ-loop : tie.MeasureT-loop
-μ-loop key m n i₀ i = n - i
+μ-loop m number n i₀ i = n - i
+
+number-of-requires : tie.Need-number-of-requires Inv-loop μ-loop
+number-of-requires c κs = tt
+
+element-copy-out-n : tie.Need-element-copy-out-n Inv-loop μ-loop
+element-copy-out-n c = search needs
 
 loop-holds : tie.Need-loop-holds Inv-loop μ-loop
 loop-holds c = (search needs, lowest-start _)
@@ -32,30 +37,33 @@ loop-holds c = (search needs, lowest-start _)
 returns : tie.Need-returns Inv-loop μ-loop
 unfolding hasMet
 returns c =
-    let start = c .before .before .before in
-    let v = start .args .t1 .v in
     let at-loop = c .before .before .loop in
-    let size : length v ≡ 96 = sym (length-map v _) ∙ start .good .0 .1 .1 .0 .1 .0 .1 in
-    rw (lowest-past _ (at-loop .i) (start .args .t1 .len) (at-loop .inv .0)
-    (λ (k : ℕ) (h : at-loop .i ≤ k). past (start .args .key) v k (omega (arith, c .if1 .taken)))
-    (at-loop .inv .1))
+    let number = c .before .before .before .before .number-of in
+    let m = now (c .before .before .before .before .before .args .met) in
+    rw (
+      ← number .ensures,
+      lowest-past _ (at-loop .i) (tilesOf m) (at-loop .inv .0) (λ (k : ℕ) (h : at-loop .i ≤ k). past m (number .result) k (omega (arith, c .if1 .taken)))
+          (at-loop .inv .1),
+    )
 
-mul-t : tie.Need-mul-t Inv-loop μ-loop
-mul-t c = search needs
+mul-if2 : tie.Need-mul-if2 Inv-loop μ-loop
+mul-if2 c = search needs
 
-element-copy-out-t : tie.Need-element-copy-out-t Inv-loop μ-loop
-element-copy-out-t c = search needs
-
-holds-requires : tie.Need-holds-requires Inv-loop μ-loop
-holds-requires c κs = tt
+element-copy-out-if2 : tie.Need-element-copy-out-if2 Inv-loop μ-loop
+element-copy-out-if2 c = search needs
 
 returns-2 : tie.Need-returns-2 Inv-loop μ-loop
 unfolding hasMet
 returns-2 c =
-    let turn = c .before .before .before .before in
+    let below = c .before .before in
+    let turn = below .before in
     let at-loop = turn .before .loop in
-    rw (lowest-hit _ (at-loop .i) (turn .before .before .args .t1 .len) (turn .loop-test .taken) (at-loop .inv .1)
-    (sym (c .before .holds .ensures) ∙ c .if2 .taken))
+    let number = turn .before .before .before .number-of in
+    let m = now (turn .before .before .before .before .args .met) in
+    rw (
+      ← number .ensures,
+      lowest-hit _ (at-loop .i) (tilesOf m) (turn .loop-test .taken) (at-loop .inv .1) (rw (lt-ltb _ _ (below .if1 .left), eq-eqb _ _ (c .if2 .taken))),
+    )
 
 add-i : tie.Need-add-i Inv-loop μ-loop
 add-i c = search needs
@@ -65,15 +73,17 @@ loop-less c = search needs
 
 loop-again : tie.Need-loop-again Inv-loop μ-loop
 loop-again c =
-    let at-loop = c .before .before .before .before .before .loop in
-    (omega arith, lowest-miss _ (at-loop .i) (at-loop .inv .1) (sym (c .before .holds .ensures) ∙ c .if2 .left))
+    let below = c .before .before in
+    let at-loop = below .before .before .loop in
+    (omega arith, lowest-miss _ (at-loop .i) (at-loop .inv .1) (rw (lt-ltb _ _ (below .if1 .left), ne-eqb _ _ (c .if2 .left))))
 
 returns-3 : tie.Need-returns-3 Inv-loop μ-loop
 unfolding hasMet
 returns-3 c =
     let at-loop = c .before .loop in
-    let end : at-loop .i ≡ c .before .before .args .t1 .len = omega arith in
-    rw (rw end at (at-loop .inv .1))
+    let m = now (c .before .before .before .before .args .met) in
+    let end : at-loop .i ≡ tilesOf m = omega arith in
+    rw (← c .before .before .before .number-of .ensures, rw end at (at-loop .inv .1))
 
 pub has-met-spec : {M : Type 1} → statement M
 has-met-spec =
@@ -81,11 +91,12 @@ has-met-spec =
     (tie.spec
     Inv-loop
     μ-loop
+    number-of-requires
+    element-copy-out-n
     loop-holds
     returns
-    mul-t
-    element-copy-out-t
-    holds-requires
+    mul-if2
+    element-copy-out-if2
     returns-2
     add-i
     loop-less

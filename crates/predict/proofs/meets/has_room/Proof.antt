@@ -5,7 +5,10 @@ use mathlib.Core.Path.{_≡_, refl}
 use mathlib.Core.Bool.{Bool, true, false}
 use native.Mathlib.Omega.{arith}
 use lib.Dec.{leb}
+use denote.Ref.{now}
+use borrow.Author.Needs.{needs}
 use borrow.Author.Tests.{le-ltb, lt-ltb, lt-leb, le-leb, leb-true, leb-false}
+use Rattle.predict.specs.Meets.{pagesOf}
 use Rattle.predict.proofs.meets.has_room.Statement.{statement}
 use Rattle.predict.proofs.meets.has_room.Tie as tie
 
@@ -14,24 +17,31 @@ moved : (taken more budget : ℕ) → taken ≤ budget → (t : Bool) → leb mo
 moved taken more budget h true e = le-leb (taken + more) budget (omega (arith, leb-true more (budget - taken) e))
 moved taken more budget h false e = lt-leb (taken + more) budget (omega (arith, leb-false more (budget - taken) e))
 
+element-copy-out-if1 : tie.Need-element-copy-out-if1
+element-copy-out-if1 c = search needs
+
 returns : tie.Need-returns
 returns c = rw (le-ltb _ _ (c .if1 .taken))
 
+element-copy-out-taken : tie.Need-element-copy-out-taken
+element-copy-out-taken c = search needs
+
 returns-2 : tie.Need-returns-2
 returns-2 c =
-    let start = c .before .before .before .before in
+    let args = c .before .before .before .before .args in
     rw (
       lt-ltb _ _ (c .before .before .if1 .left),
-      lt-leb (start .args .m .pages + start .args .pages) (start .args .budget) (omega (arith, c .if2 .taken)),
+      lt-leb (pagesOf (now (args .met)) + args .pages) (args .budget) (omega (arith, c .if2 .taken)),
     )
 
 returns-3 : tie.Need-returns-3
 returns-3 c =
-    let start = c .before .before .before .before .before in
+    let args = c .before .before .before .before .args in
     rw (
-      lt-ltb _ _ (c .before .before .before .if1 .left),
-      moved (start .args .m .pages) (start .args .pages) (start .args .budget) (c .before .if2 .left) _ refl,
+      lt-ltb _ _ (c .before .before .if1 .left),
+      moved (pagesOf (now (args .met))) (args .pages) (args .budget) (c .if2 .left) _ refl,
     )
 
 pub has-room-spec : {M : Type 1} → statement M
-has-room-spec = tie.close (tie.spec returns returns-2 returns-3)
+has-room-spec =
+    tie.close (tie.spec element-copy-out-if1 returns element-copy-out-taken returns-2 returns-3)

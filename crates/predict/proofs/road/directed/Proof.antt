@@ -1,7 +1,10 @@
 -- `predict::road::directed` meets its contract: each return by whether the direction is known.
+use mathlib.Core.Path.{sym, _∙_}
+use lib.ListN.{length-map}
 use denote.Ref.{now}
 use borrow.Author.Needs.{needs}
 use Rattle.cache.specs.Direct.{looked}
+use Rattle.cache.specs.Reader.{Sized}
 use Rattle.predict.specs.Predict.{forecastOver, predictedIn}
 use Rattle.predict.proofs.InCache.{code-predicts}
 use Rattle.predict.proofs.road.directed.Statement.{statement}
@@ -35,8 +38,14 @@ returns-2 : tie.Need-returns-2
 returns-2 c =
     let road = c .before .before in
     let told = road .before .before .before .before in
-    let args = told .before .before .before .args in
-    rw (code-predicts (args .c) (now (args .arena)) (args .header) (args .start) (args .horizon-m) _ _ _ (told .forward .given .1))
+    let start = told .before .before .before in
+    let args = start .args in
+    let sized : Sized (args .c) =
+    record {
+      slots = sym (length-map (args .c .pages .slots) _) ∙ start .good .0 .1 .1 .0 .1 .1 .0 .1 .0 .1;
+      used = sym (length-map (args .c .pages .used) _) ∙ start .good .0 .1 .1 .0 .1 .1 .1 .0 .1 .0 .1;
+    } in
+    rw (code-predicts (args .c) sized (now (args .arena)) (args .header) (args .start) (args .horizon-m) _ _ _ (told .forward .given .1))
     at (road .from-start .ensures)
 
 pub directed-spec : {M : Type 1} → statement M

@@ -1,75 +1,53 @@
--- `predict::road::from_start` meets its contract: each return by the lookup's answer. The idea: a lookup that found nothing carries on what it
--- was given. The start's height is read back from its bits.
-use mir.Syntax.{w32}
+-- `predict::road::from_start` meets its contract: what the start's lookup gives, with the numbers after it, is what the reader gives
+-- (`started-is`), since a lookup that found no tile leaves the numbers as they were.
+use Prim.Native.Nat.{ℕ}
+use mathlib.Core.Path.{_≡_, refl, ap}
+use mathlib.Core.Bool.{Bool}
+use mathlib.Core.List.{List}
+use lib.IntN.{ℤ}
+use lib.Ieee.{Float}
 use denote.Ref.{now}
 use borrow.Author.Needs.{needs}
-use Rattle.pack.proofs.Signed.{got}
-use Rattle.cache.specs.Ages.{carriedOf}
-use Rattle.predict.proofs.Looks.{look-carried}
-use Rattle.predict.specs.Predict.{fromTile, fromStart}
+use Rattle.pack.specs.declared.Header.{Header}
+use Rattle.cache.specs.declared.Lookup.{Lookup}
+use Rattle.cache.specs.declared.Lookup.the-variants as Lookup
+use Rattle.cache.specs.Ages.{lookupsOf, lookUp}
+use Rattle.cache.specs.Reader.{inBytes, inLooks}
+use Rattle.matcher.specs.declared.Matched.{Matched}
+use Rattle.predict.proofs.Looks.{isReady, missed}
+use Rattle.predict.specs.Predict.{startLook, startOver, fromTile, startedLook, startedBy, fromStart}
 use Rattle.predict.proofs.road.from_start.Statement.{statement}
 use Rattle.predict.proofs.road.from_start.Tie as tie
 
-carried-of-requires : tie.Need-carried-of-requires
-carried-of-requires c κs = tt
+module _ (looks arena : List ℕ) (n : ℕ) (h : Header) (m : Matched) (forward : Bool) (horizon : Float) (samples behind : List ℤ) where
+  abbrev left : List ℕ
+  left = lookUp looks arena (h .tile) (m .tile .key) .looks
+
+  started-by : (l : Lookup) → lookUp looks arena (h .tile) (m .tile .key) .answer ≡ l
+      → startedLook (inBytes l arena) left arena n h m forward horizon samples behind
+      ≡ startLook (inLooks arena (h .tile)) n (inBytes l arena) h m forward horizon looks samples behind
+  unfolding fromTile
+  started-by (Lookup.Ready first len) e = refl
+  started-by Lookup.Missing e = rw (missed looks arena (h .tile) (m .tile .key) (ap isReady e))
+  started-by Lookup.Absent e = rw (missed looks arena (h .tile) (m .tile .key) (ap isReady e))
+  started-by (Lookup.Refused number) e = rw (missed looks arena (h .tile) (m .tile .key) (ap isReady e))
+
+  started-is : startedBy left arena n h (lookUp looks arena (h .tile) (m .tile .key) .answer) m forward horizon samples behind
+      ≡ startOver (inLooks arena (h .tile)) n h m forward horizon looks samples behind
+  unfolding startedBy
+  started-is = started-by (lookUp looks arena (h .tile) (m .tile .key) .answer) refl
+
+lookups-of-requires : tie.Need-lookups-of-requires
+lookups-of-requires c κs = tt
 
 look-up-requires : tie.Need-look-up-requires
 look-up-requires c κs = tt
 
-enum-told : tie.Need-enum-told
-enum-told c = search needs
+started-by-requires : tie.Need-started-by-requires
+started-by-requires c κs = tt
 
 closed-requires : tie.Need-closed-requires
 closed-requires c κs = tt
-
-enum-told-2 : tie.Need-enum-told-2
-enum-told-2 c = search needs
-
-closed-requires-2 : tie.Need-closed-requires-2
-closed-requires-2 c κs = tt
-
-enum-told-3 : tie.Need-enum-told-3
-enum-told-3 c = search needs
-
-refused-requires : tie.Need-refused-requires
-refused-requires c κs = tt
-
-enum-known-answer : tie.Need-enum-known-answer
-enum-known-answer c = search needs
-
-run-bytes-requires : tie.Need-run-bytes-requires
-run-bytes-requires c κs = tt
-
-from-tile-requires : tie.Need-from-tile-requires
-from-tile-requires c κs = tt
-
-returns : tie.Need-returns
-unfolding fromStart
-returns c =
-    let look = c .before .before .before .before in
-    let args = look .before .before .before .before .before .args in
-    let hit = rw (look .before .carried-of .ensures) at (look .look-up .ensures) in
-    let told = rw hit at (c .before .enum-told .given .1) in
-    let kept = rw told at (look-carried (args .c) (now (args .arena)) (args .header .tile) (carriedOf (args .c)) (args .start .tile .key)) in
-    (rw (told, c .closed .ensures, hit, ← kept), (rw told, rw told))
-
-returns-2 : tie.Need-returns-2
-unfolding fromStart
-returns-2 c =
-    let look = c .before .before .before .before in
-    let args = look .before .before .before .before .before .args in
-    let hit = rw (look .before .carried-of .ensures) at (look .look-up .ensures) in
-    let told = rw hit at (c .before .enum-told2 .given .1) in
-    let kept = rw told at (look-carried (args .c) (now (args .arena)) (args .header .tile) (carriedOf (args .c)) (args .start .tile .key)) in
-    (rw (told, c .closed2 .ensures, hit, ← kept), (rw told, rw told))
-
-returns-3 : tie.Need-returns-3
-unfolding fromStart
-returns-3 c =
-    let look = c .before .before .before .before in
-    let hit = rw (look .before .carried-of .ensures) at (look .look-up .ensures) in
-    let told = rw hit at (c .before .enum-told3 .given .1) in
-    (rw (told, c .refused .ensures), (rw told, rw told))
 
 same-length : tie.Need-same-length
 same-length c = search needs
@@ -77,38 +55,24 @@ same-length c = search needs
 same-length-2 : tie.Need-same-length-2
 same-length-2 c = search needs
 
-returns-4 : tie.Need-returns-4
-unfolding fromStart fromTile
-returns-4 c =
-    let road = c .before .before in
-    let bytes = road .before .before .before in
-    let answer = bytes .before .before .before in
-    let look = answer .before .before .before in
-    let hit = rw (look .before .carried-of .ensures) at (look .look-up .ensures) in
-    let told = rw hit at (answer .answer .given .1) in
-    let args = look .before .before .before .before .before .args in
-    let height = got w32 {z = args .start .«z_dm»} (bytes .before .struct-told .given .1 .1 .1 .1 .1 .1 .0 .1) in
-    let written = rw (bytes .run-bytes .ensures, hit, height) at (road .from-tile .ensures) in
-    rw told written
+returns : tie.Need-returns
+unfolding fromStart
+returns c =
+    let args = c .before .before .before .before .before .before .before .before .before .before .before .before .before .args in
+    let found = rw (c .before .before .before .before .before .before .before .before .before .before .lookups-of .ensures) at (c .before .before .before .before .before .before .before .before .look-up .ensures) in
+    let whole = started-is (lookupsOf (args .c)) (now (args .arena)) (args .c .pages .count) (args .header) (args .start) (args .forward) (args .horizon-m)
+    (now (args .samples)) (now (args .behind)) in
+    let road = rw (found .0, found .1, whole) at (c .before .before .before .before .started-by .ensures) in
+    (rw (c .closed .ensures, road .0, road .1 .0), (road .1 .1 .0, road .1 .1 .1))
 
 pub from-start-spec : {M : Type 1} → statement M
 from-start-spec =
     tie.close
     (tie.spec
-    carried-of-requires
+    lookups-of-requires
     look-up-requires
-    enum-told
+    started-by-requires
     closed-requires
-    enum-told-2
-    closed-requires-2
-    enum-told-3
-    refused-requires
-    enum-known-answer
-    run-bytes-requires
-    from-tile-requires
-    returns
-    returns-2
-    returns-3
     same-length
     same-length-2
-    returns-4)
+    returns)

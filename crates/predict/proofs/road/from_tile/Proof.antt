@@ -12,32 +12,26 @@ id-requires c κs = tt
 same-id-requires : tie.Need-same-id-requires
 same-id-requires c κs = tt
 
-closed-requires : tie.Need-closed-requires
-closed-requires c κs = tt
-
 returns : tie.Need-returns
 unfolding fromTile
 returns c =
-    let told = c .before .before in
+    let told = c .before in
     let tested = rw (told .before .id .ensures) at (told .same-id .ensures) in
-    let other = sym tested ∙ not-true _ (c .before .if1 .taken) in
-    (rw (other, c .closed .ensures), (rw other, rw other))
+    let other = sym tested ∙ not-true _ (c .if1 .taken) in
+    (rw other, (rw other, (rw other, rw other)))
 
 start-ok-requires : tie.Need-start-ok-requires
 start-ok-requires c κs = tt
 
-closed-requires-2 : tie.Need-closed-requires-2
-closed-requires-2 c κs = tt
-
 returns-2 : tie.Need-returns-2
 unfolding fromTile
 returns-2 c =
-    let ok = c .before .before in
+    let ok = c .before in
     let told = ok .before .before in
     let tested = rw (told .before .id .ensures) at (told .same-id .ensures) in
     let same = sym tested ∙ not-false _ (ok .before .if1 .left) in
-    let outside = sym (ok .start-ok .ensures) ∙ not-true _ (c .before .if2 .taken) in
-    (rw (same, outside, c .closed2 .ensures), (rw (same, outside), rw (same, outside)))
+    let outside = sym (ok .start-ok .ensures) ∙ not-true _ (c .if2 .taken) in
+    (rw (same, outside), (rw (same, outside), (rw (same, outside), rw (same, outside))))
 
 road-of-requires : tie.Need-road-of-requires
 road-of-requires c κs = tt
@@ -51,14 +45,10 @@ same-length-2 c = search needs
 returns-3 : tie.Need-returns-3
 unfolding fromTile roadOf
 returns-3 c =
-    let road = c .before .before in
-    let left = road .before .before .before in
-    let ok = left .before in
-    let told = ok .before .before in
-    let tested = rw (told .before .id .ensures) at (told .same-id .ensures) in
-    let same = sym tested ∙ not-false _ (ok .before .if1 .left) in
-    let inside = sym (ok .start-ok .ensures) ∙ not-false _ (left .if2 .left) in
-    rw (same, inside) (road .road-of .ensures)
+    let tested = rw (c .before .before .before .before .before .before .before .before .before .before .id .ensures) at (c .before .before .before .before .before .before .before .before .before .same-id .ensures) in
+    let same = sym tested ∙ not-false _ (c .before .before .before .before .before .before .before .before .if1 .left) in
+    let inside = sym (c .before .before .before .before .before .before .before .start-ok .ensures) ∙ not-false _ (c .before .before .before .before .before .before .if2 .left) in
+    rw (same, inside) (c .before .before .road-of .ensures)
 
 pub from-tile-spec : {M : Type 1} → statement M
 from-tile-spec =
@@ -66,10 +56,8 @@ from-tile-spec =
     (tie.spec
     id-requires
     same-id-requires
-    closed-requires
     returns
     start-ok-requires
-    closed-requires-2
     returns-2
     road-of-requires
     same-length

@@ -5,15 +5,6 @@ use Rattle.predict.proofs.Literals.{literal-100}
 use Rattle.predict.proofs.road.walk_from.Statement.{statement}
 use Rattle.predict.proofs.road.walk_from.Tie as tie
 
-first-requires : tie.Need-first-requires
-first-requires c κs = tt
-
-nothing-visited-requires : tie.Need-nothing-visited-requires
-nothing-visited-requires c κs = tt
-
-nothing-met-requires : tie.Need-nothing-met-requires
-nothing-met-requires c κs = tt
-
 first-of-requires : tie.Need-first-of-requires
 first-of-requires c κs = tt
 
@@ -22,25 +13,7 @@ f32-of-u8-requires c κs = tt
 
 returns : tie.Need-returns
 unfolding walkFrom
-returns c =
-    let met = c .before .before in
-    rw (
-      c .f32-of-u8 .ensures,
-      c .before .first-of .ensures,
-      met .nothing-met .ensures,
-      met .before .nothing-visited .ensures,
-      met .before .before .first .ensures,
-      literal-0,
-      literal-100,
-    )
+returns c = rw (c .f32-of-u8 .ensures, c .before .first-of .ensures, literal-0, literal-100)
 
 pub walk-from-spec : {M : Type 1} → statement M
-walk-from-spec =
-    tie.close
-    (tie.spec
-    first-requires
-    nothing-visited-requires
-    nothing-met-requires
-    first-of-requires
-    f32-of-u8-requires
-    returns)
+walk-from-spec = tie.close (tie.spec first-of-requires f32-of-u8-requires returns)

@@ -1,6 +1,6 @@
 -- `predict::turn::crossed` meets its contract: by the answers of the callees, one after the other.
 use Prim.Native.Nat.{ℕ, _%_}
-use mathlib.Core.Path.{_≡_, _∙_}
+use mathlib.Core.Path.{_≡_, ap, _∙_}
 use mathlib.Core.List.{List}
 use lib.Ieee.{Float}
 use denote.Ref.{now}
@@ -9,8 +9,6 @@ use Rattle.pack.specs.declared.Header.{Header}
 use Rattle.tile.specs.Layout as Layout
 use Rattle.tile.specs.declared.Head.{Head}
 use Rattle.tile.specs.declared.Node.{Node}
-use Rattle.cache.specs.declared.Cache.{Cache}
-use Rattle.cache.specs.declared.Carried.{Carried}
 use Rattle.predict.specs.declared.Choices.{Choices}
 use Rattle.predict.specs.declared.cost.Bound.{Bound}
 use Rattle.predict.specs.declared.outgoing.Leg.{Leg}
@@ -19,28 +17,30 @@ use Rattle.predict.specs.Choose.{noChoices}
 use Rattle.predict.specs.Twins.{boundaryTwins}
 use Rattle.predict.specs.declared.Crossing.{Crossing}
 use Rattle.predict.specs.Consider.{consider}
-use Rattle.predict.specs.Cross.{cross}
+use Rattle.predict.specs.Cross.{crossing, cross}
 use Rattle.predict.specs.declared.Walk.{Walk}
-use Rattle.predict.specs.Walk.{turned, boundOf, incomingOf, nodeOf, crossedOver, onward, crossed}
+use Rattle.predict.specs.declared.Track.{Track}
+use Rattle.predict.specs.Walk.{Stride, turned, boundOf, incomingOf, nodeOf, crossedOver, onward, crossed}
 use Rattle.predict.proofs.turn.crossed.Statement.{statement}
 use Rattle.predict.proofs.turn.crossed.Tie as tie
 
-module _ (c : Cache) (arena : List ℕ) (h : Header) (w : Walk) (s : Carried) (bs : List ℕ) (leg : Leg) where
-  crossed-is : {head : Head} {incoming : Float} {t : Walk} {bound : Bound} {node : ℕ} {none choices : Choices} {at : Node} {twins : TwinList} {x : Crossing}
+module _ (looks v arena : List ℕ) (h : Header) (w : Walk) (t : Track) (bs : List ℕ) (leg : Leg) where
+  crossed-is : {head : Head} {incoming : Float} {d : Walk} {bound : Bound} {node : ℕ} {none choices : Choices} {at : Node} {twins : TwinList} {x : Crossing} {s : List ℕ}
       → head ≡ Layout.headOf bs
-      → incoming ≡ incomingOf w (head .«lon_um»)
-      → t ≡ turned w (leg .edge) incoming
-      → bound ≡ boundOf (t .entry) incoming
+      → incoming ≡ incomingOf t (w .approach) (head .«lon_um»)
+      → d ≡ turned w (leg .edge) incoming
+      → bound ≡ boundOf (d .entry) incoming
       → node ≡ nodeOf leg
       → none ≡ noChoices
-      → choices ≡ consider none (record { header = h; way = t .way; bound = bound; road = t .road }) (t .visited) bs (t .way .tile) node
+      → choices ≡ consider none (record { header = h; way = d .way; bound = bound; road = d .road }) v bs (d .way .tile) node
       → at ≡ Layout.nodeOf bs node
       → twins ≡ boundaryTwins (at .x) (at .y) (h .tile % 65536)
-      → x ≡ cross c arena (record { header = h; way = t .way; bound = bound; road = t .road }) (t .visited) s choices twins
-      → onward c arena (h .tile) t x ≡ crossed c arena h w s bs leg
+      → x ≡ crossing (cross arena (record { header = h; way = d .way; bound = bound; road = d .road }) v looks choices twins)
+      → s ≡ cross arena (record { header = h; way = d .way; bound = bound; road = d .road }) v looks choices twins .carried
+      → onward s arena (h .tile) d x ≡ crossed looks v arena h w t bs leg
   unfolding onward crossedOver crossed cross
-  crossed-is heads comes turns binds nodes nones chosen stands twinned crosses =
-      rw (crosses, twinned, stands, chosen, nones, nodes, binds, turns, comes, heads)
+  crossed-is heads comes turns binds nodes nones chosen stands twinned crosses carries =
+      rw (crosses, carries, twinned, stands, chosen, nones, nodes, binds, turns, comes, heads)
 
 head-requires : tie.Need-head-requires
 head-requires c κs = tt
@@ -80,24 +80,27 @@ onward-requires c κs = tt
 
 returns : tie.Need-returns
 returns c =
-    let crossing = c .before in
-    let noded = crossing .before .before .before in
-    let chosen = noded .before .before in
+    let junction = c .before .before in
+    let twinned = junction .before .before in
+    let noded = twinned .before .before in
+    let chosen = noded .before in
     let bound = chosen .before .before .before in
     let turn = bound .before .before .before in
     let args = turn .before .before .before .before .before .args in
-    c .onward .ensures
-    ∙ crossed-is (args .c) (now (args .arena)) (args .header) (args .w) (args .carried) (now (args .bytes)) (args .leg)
+    let whole =
+    crossed-is (now (args .looks)) (now (args .visited)) (now (args .arena)) (args .header) (args .w) (args .t) (now (args .bytes)) (args .leg)
     (turn .before .before .head .ensures)
     (turn .before .incoming-of .ensures)
     (turn .turned .ensures)
     (bound .bound-of .ensures)
-    (chosen .before .node-of .ensures)
-    (chosen .no-choices .ensures)
-    (noded .before .consider .ensures)
+    (chosen .before .before .node-of .ensures)
+    (chosen .before .no-choices .ensures)
+    (chosen .consider .ensures)
     (noded .node .ensures)
-    (crossing .before .boundary-twins .ensures)
-    (crossing .cross .ensures)
+    (twinned .boundary-twins .ensures)
+    (junction .cross .ensures .0)
+    (junction .cross .ensures .1) in
+    (c .onward .ensures .0 ∙ ap (λ (x : Stride (List ℕ)). x .walk) whole, c .onward .ensures .1 ∙ ap (λ (x : Stride (List ℕ)). x .carried) whole)
 
 pub crossed-spec : {M : Type 1} → statement M
 crossed-spec =

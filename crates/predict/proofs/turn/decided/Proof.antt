@@ -1,7 +1,8 @@
 -- `predict::turn::decided` meets its contract: each return by whether there is a way on; what its lookup gives is what the reader gives.
+use mathlib.Core.Path.{sym}
 use denote.Ref.{now}
 use borrow.Author.Needs.{needs}
-use Rattle.cache.specs.Reader.{inCache}
+use Rattle.cache.specs.Reader.{inLooks}
 use Rattle.predict.specs.Walk.{taken, decided}
 use Rattle.predict.proofs.Arms.{ended}
 use Rattle.predict.proofs.Looks.{look-carried, taken-ended}
@@ -23,16 +24,20 @@ next-by-requires c κs = tt
 returns : tie.Need-returns
 unfolding decided taken
 returns c =
-    let decide = c .before .before .before .before .before .before in
-    let args = decide .before .before .args in
-    rw (c .next-by .ensures, c .before .look-up .ensures, decide .taken .ensures, c .before .before .before .before .enum-told .given .1)
-    (rw (look-carried (args .c) (now (args .arena)) (args .size) (args .carried) (args .d .way .tile)))
+    let found = c .before .look-up in
+    let told = c .before .before .before .before .before .enum-told .given .1 in
+    let decide = c .before .before .before .before .before .before .before in
+    let args = decide .before .before .args in (
+      rw (c .next-by .ensures, found .ensures .0, decide .taken .ensures, told),
+      rw (found .ensures .1, decide .taken .ensures, told) (sym (look-carried (now (args .looks)) (now (args .arena)) (args .size) (args .d .way .tile))),
+    )
 
 returns-2 : tie.Need-returns-2
 unfolding decided
 returns-2 c =
     let args = c .before .before .before .args in
-    rw (c .before .taken .ensures, taken-ended (inCache (args .c) (now (args .arena)) (args .size)) (args .d .ending) (ended (args .d .ending) (c .match .keys2)) _ _)
+    let stays = taken-ended (inLooks (now (args .arena)) (args .size)) (args .d .ending) (ended (args .d .ending) (c .match .keys2)) in
+    (rw (c .before .taken .ensures, stays), rw stays)
 
 pub decided-spec : {M : Type 1} → statement M
 decided-spec =

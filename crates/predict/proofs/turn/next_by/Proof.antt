@@ -38,11 +38,11 @@ returns-2 c = rw (c .with-ending .ensures, c .before .enum-told .given .1)
 
 returns-3 : tie.Need-returns-3
 returns-3 c =
-    let hit = c .before .before .before .before .before .before .args .hit in
+    let answer = c .before .before .before .before .before .args .answer in
     ⊎-elim
-    (λ (e : hit .answer ≡ Lookup.Missing). rw (c .with-ending2 .ensures, e))
-    (λ (e : hit .answer ≡ Lookup.Absent). rw (c .with-ending2 .ensures, e))
-    (asked (hit .answer) (c .before .match .keys3))
+    (λ (e : answer ≡ Lookup.Missing). rw (c .with-ending2 .ensures, e))
+    (λ (e : answer ≡ Lookup.Absent). rw (c .with-ending2 .ensures, e))
+    (asked answer (c .before .match .keys3))
 
 pub next-by-spec : {M : Type 1} → statement M
 next-by-spec =
