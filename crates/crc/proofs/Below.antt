@@ -1,22 +1,13 @@
 -- The check sequence has 32 bits, so its number is below 2 ^ 32.
-use Prim.Native.Nat.{ℕ, zero, suc, _+_, _-_, _*_, _^_, _≤_, _<_}
-use mathlib.Core.Path.{_≡_, refl, ap, _∙_}
+use Prim.Native.Nat.{ℕ, _+_, _-_, _^_, _≤_, _<_}
+use mathlib.Core.Path.{_≡_, _∙_}
 use mathlib.Core.Bool.{Bool, true, false, not}
-use mathlib.Core.List.{List, [], _∷_, _++_, map}
+use mathlib.Core.List.{List, [], _∷_, _++_}
 use native.Mathlib.Nat.{pow-suc}
 use native.Mathlib.Omega.{arith}
 use lib.ListN.{length, length-append, length-map, length-replicate, replicate}
-use Rattle.crc.specs.Fcs.{add, lower, divide, remainder, zeros, number, message, fcs, crc32}
-use Rattle.crc.proofs.Laws.{add-length, lower-length, zeros-length}
-
-divide-length : (k : ℕ) (p : List Bool) → k + 32 ≤ length p → length (divide k p) + k ≡ length p
-unfolding divide add
-divide-length zero p h = omega arith
-divide-length (suc k) [] h = absurd (omega arith)
-divide-length (suc k) (false ∷ p) h = omega (arith, divide-length k p (omega arith))
-divide-length (suc k) (true ∷ p) h =
-    let same : length (add lower p) ≡ length p = add-length lower p (omega (arith, lower-length)) in
-    omega (arith, same, divide-length k (add lower p) (omega (arith, same)))
+use Rattle.crc.specs.Fcs.{add, remainder, zeros, number, message, fcs, crc32}
+use Rattle.crc.proofs.Laws.{add-length, divide-length, zeros-length}
 
 remainder-length : (p : List Bool) → 32 ≤ length p → length (remainder p) ≡ 32
 unfolding remainder

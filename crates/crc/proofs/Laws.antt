@@ -1,19 +1,18 @@
--- Laws of the division: sums, its linearity, bits of numbers, and one octet at a time.
+-- Laws of the division: sums, its linearity, bits of numbers, and some bits of the message at once.
 use Prim.Native.Nat.{ℕ, zero, suc, _+_, _-_, _*_, _/_, _%_, _^_, _≤_, _<_, min}
 use mathlib.Core.Path.{_≡_, refl, sym, ap, ap₂, _∙_}
 use mathlib.Core.Bool.{Bool, true, false, not, cond}
 use mathlib.Core.List.{List, [], _∷_, _++_, map, append-assoc, append-nil}
 use native.Mathlib.Nat.{add-zero, add-suc, pow-suc, div-eq-of-lt, min-eq-left, min-eq-right, le-of-lt}
-use native.Mathlib.Numerals.{add-one}
 use native.Mathlib.Omega.{arith}
-use lib.ListN.{length, take, drop, getD, length-append, length-take, length-drop, drop-of-length-le, replicate, length-replicate, replicate-append-replicate}
+use lib.ListN.{length, take, drop, length-append, length-take, length-drop, drop-of-length-le, replicate, length-replicate}
 use lib.Dec.{eqb, leb}
 use borrow.Author.Tests.{leb-true, leb-false}
-use lib.Pow.{shr-shr, mod-mod-pow, field}
-use lib.Bits.{bitXor, xor-shr, xor-mod}
-use lib.Seq.{drop-cons, drop-drop, take-all}
+use lib.Pow.{shr-shr, mod-mod-pow, field, low, high}
+use lib.Bits.{bitXor, xor-shr, xor-mod, xor-zero-r}
+use lib.Seq.{drop-drop, take-all}
 use Rattle.crc.specs.Fcs.{plus, add, lower, divide, remainder, zeros, bits, number, message, fcs, crc32, zeroed}
-use Rattle.crc.specs.Register.{left, entryOf, Takes}
+use Rattle.crc.specs.Register.{left, half, Takes, TakesWord}
 
 -- ---- sums
 
@@ -73,7 +72,7 @@ add-zeros zero p h = refl
 add-zeros (suc n) [] h = absurd (omega arith)
 add-zeros (suc n) (a ∷ p) h = ap (λ (x : List Bool). a ∷ x) (add-zeros n p (omega arith))
 
-add-tail : (p q : List Bool) (n : ℕ) → length q + n ≤ length p → add (q ++ zeros n) p ≡ add q p
+pub add-tail : (p q : List Bool) (n : ℕ) → length q + n ≤ length p → add (q ++ zeros n) p ≡ add q p
 unfolding add
 add-tail p [] n h = add-zeros n p (omega arith)
 add-tail [] (b ∷ q) n h = absurd (omega arith)
@@ -115,7 +114,7 @@ unfolding divide
 divide-nil zero = refl
 divide-nil (suc k) = refl
 
-divide-more : (k j : ℕ) (p : List Bool) → divide (k + j) p ≡ divide k (divide j p)
+pub divide-more : (k j : ℕ) (p : List Bool) → divide (k + j) p ≡ divide k (divide j p)
 unfolding divide add
 divide-more k zero p = rw (add-zero k)
 divide-more k (suc j) [] = rw (add-suc k j) (sym (divide-nil k))
@@ -126,6 +125,30 @@ pub divide-zeros : (j : ℕ) (p : List Bool) → divide j (zeros j ++ p) ≡ p
 unfolding divide zeros
 divide-zeros zero p = refl
 divide-zeros (suc j) p = divide-zeros j p
+
+pub add-more : (g p q : List Bool) → length g ≤ length p → add g (p ++ q) ≡ add g p ++ q
+unfolding add
+add-more [] p q h = refl
+add-more (a ∷ g) [] q h = absurd (omega arith)
+add-more (a ∷ g) (b ∷ p) q h = ap (λ (l : List Bool). plus a b ∷ l) (add-more g p q (omega arith))
+
+-- what is left of the division is not reached by it
+pub divide-append : (k : ℕ) (p q : List Bool) → k + 32 ≤ length p → divide k (p ++ q) ≡ divide k p ++ q
+unfolding divide add
+divide-append zero p q h = refl
+divide-append (suc k) [] q h = absurd (omega arith)
+divide-append (suc k) (false ∷ p) q h = divide-append k p q (omega arith)
+divide-append (suc k) (true ∷ p) q h =
+    rw (add-more lower p q (omega (arith, lower-length))) (divide-append k (add lower p) q (omega (arith, add-length lower p (omega (arith, lower-length)))))
+
+pub divide-length : (k : ℕ) (p : List Bool) → k + 32 ≤ length p → length (divide k p) + k ≡ length p
+unfolding divide add
+divide-length zero p h = omega arith
+divide-length (suc k) [] h = absurd (omega arith)
+divide-length (suc k) (false ∷ p) h = omega (arith, divide-length k p (omega arith))
+divide-length (suc k) (true ∷ p) h =
+    let same : length (add lower p) ≡ length p = add-length lower p (omega (arith, lower-length)) in
+    omega (arith, same, divide-length k (add lower p) (omega (arith, same)))
 
 apart : (n : ℕ) (x y : List Bool) → n ≤ length y → add (zeros (length x) ++ y) (x ++ zeros n) ≡ x ++ y
 unfolding add zeros
@@ -202,10 +225,10 @@ number-not (suc n) x h =
 
 -- ---- the register: 32 bits that stand under the first terms of what is left of the dividend
 
--- a table is asked at the low octet
-pub entry-low : (k x : ℕ) → entryOf k (x % 256) ≡ entryOf k x
-unfolding entryOf
-entry-low k x = ap (λ (l : List Bool). remainder (l ++ zeros (8 * k + 32))) (bits-low 8 x)
+-- the table is asked at the low half octet
+pub half-low : (k x : ℕ) → half k (x % 16) ≡ half k x
+unfolding half
+half-low k x = ap (λ (l : List Bool). remainder (l ++ zeros (4 * k + 32))) (bits-low 4 x)
 
 -- the register, shifted by n
 shifted : (j n c t : ℕ) → j + n ≡ 32 → c < 2 ^ 32 → bits 32 (bitXor t (c / 2 ^ n)) ≡ add (bits 32 t) (bits j (c / 2 ^ n))
@@ -271,113 +294,79 @@ start os =
     ∙ sym (linear (length m) (ones ++ zeros (length m)) (m ++ zeros 32) (omega arith) (omega arith))
     ∙ ap (divide (length m)) (add-tail (m ++ zeros 32) ones (length m) (omega (arith, bits-length 32 4294967295))))
 
--- one octet more, t being the table's entry for the register's low octet plus this one
-pub turn : (c t i : ℕ) (os : List ℕ) (m : List Bool) → c < 2 ^ 32 → i < length os → bits 32 t ≡ entryOf 0 (bitXor c (getD os i 0))
-    → left (bitXor t (c / 256)) (message (drop (i + 1) os) ++ m) ≡ left c (message (drop i os) ++ m)
-unfolding message entryOf
-turn c t i os m h l e =
-    rw (add-one i, drop-cons os i 0 l, append-assoc (bits 8 (getD os i 0)) (message (drop (suc i) os)) m)
-    (sym (taken 24 8 c (getD os i 0) t (message (drop (suc i) os) ++ m) refl h e))
+-- ---- 32 bits at once: the remainder for them plus the register is the sum of an entry for each half octet
 
--- ---- many octets at once, four or more: the remainder for them plus the register is the sum of an entry for each
+-- the first bits' remainder with zeros for the others behind them, and the others' own
+parted : (a b : List Bool) → remainder ((a ++ b) ++ zeros 32) ≡ add (remainder (a ++ zeros (length b + 32))) (remainder (b ++ zeros 32))
+unfolding remainder
+parted a b =
+    let k : ℕ = length b in
+    let p : List Bool = a ++ zeros (k + 32) in
+    let q : List Bool = b ++ zeros 32 in
+    let lp : length p ≡ length a + (k + 32) = length-append a (zeros (k + 32)) ∙ ap (λ (i : ℕ). length a + i) (zeros-length (k + 32)) in
+    let lq : length q ≡ k + 32 = length-append b (zeros 32) ∙ ap (λ (i : ℕ). k + i) (zeros-length 32) in
+    let np : k + length a ≡ length p - 32 = omega arith in
+    let nq : k ≡ length q - 32 = omega arith in
+    let n : length (a ++ q) - 32 ≡ k + length a = omega (arith, length-append a q) in
+    ap (λ (l : List Bool). divide (length l - 32) l) (append-assoc a b (zeros 32))
+    ∙ ap₂ divide n (sym (apart (k + 32) a q (omega arith)) ∙ add-comm (zeros (length a) ++ q) p)
+    ∙ linear (k + length a) p (zeros (length a) ++ q) (omega arith) (omega (arith, length-append (zeros (length a)) q, zeros-length (length a)))
+    ∙ ap₂ add (ap (λ (i : ℕ). divide i p) np)
+    (divide-more k (length a) (zeros (length a) ++ q) ∙ ap (divide k) (divide-zeros (length a) q) ∙ ap (λ (i : ℕ). divide i q) nq)
+
+-- the entries of the n + 1 low half octets, each for as many half octets of zero as there are behind it
+unfoldable pub halves : ℕ → ℕ → List Bool
+halves zero v = half 0 v
+halves (suc n) v = add (half (suc n) v) (halves n (v / 16))
+
+pub halves-are : (n v : ℕ) → remainder (bits (4 * suc n) v ++ zeros 32) ≡ halves n v
+unfolding halves half
+halves-are zero v = refl
+halves-are (suc n) v =
+    let w : 4 * suc (suc n) ≡ 4 * suc n + 4 = omega arith in
+    let b : List Bool = bits (4 * suc n) (v / 16) in
+    ap (λ (l : List Bool). remainder (l ++ zeros 32)) (ap (λ (k : ℕ). bits k v) w ∙ bits-split (4 * suc n) 4 v)
+    ∙ parted (bits 4 v) b
+    ∙ ap₂ add (ap (λ (k : ℕ). remainder (bits 4 v ++ zeros (k + 32))) (bits-length (4 * suc n) (v / 16))) (halves-are n (v / 16))
+
+-- ---- steps of the register
+
+pub takes-octet : (c o t : ℕ) → c < 2 ^ 32 → bits 32 t ≡ halves 1 (bitXor c o) → Takes c (o ∷ []) (bitXor t (c / 256))
+unfolding Takes message
+takes-octet c o t h e m =
+    sym (ap (λ (l : List Bool). left c (l ++ m)) (append-nil (bits 8 o)) ∙ taken 24 8 c o t m refl h (e ∙ sym (halves-are 1 (bitXor c o))))
+
+taken-whole : (c w t : ℕ) (m : List Bool) → c < 2 ^ 32 → bits 32 t ≡ remainder (bits 32 (bitXor c w) ++ zeros 32) → left c (bits 32 w ++ m) ≡ left t m
+taken-whole c w t m h e =
+    taken 0 32 c w t m refl h e ∙ ap (λ (k : ℕ). left k m) (ap (bitXor t) (div-eq-of-lt h) ∙ xor-zero-r t)
+
+pub takes-four : (c w t : ℕ) (os : List ℕ) → c < 2 ^ 32 → bits 32 w ≡ message os → bits 32 t ≡ remainder (bits 32 (bitXor c w) ++ zeros 32) → Takes c os t
+unfolding Takes
+takes-four c w t os h o e m = sym (ap (λ (l : List Bool). left c (l ++ m)) (sym o) ∙ taken-whole c w t m h e)
+
+pub takes-word : (c w t r : ℕ) → c < 2 ^ 32 → t < 2 ^ 32 → bits 32 t ≡ remainder (bits 32 (bitXor c (w % 2 ^ 32)) ++ zeros 32)
+    → bits 32 r ≡ remainder (bits 32 (bitXor t (w / 2 ^ 32)) ++ zeros 32) → TakesWord c w r
+unfolding TakesWord
+takes-word c w t r h l e f m =
+    let rest : List Bool = bits 32 (w / 2 ^ 32) ++ m in
+    sym
+    (ap (left c)
+    (ap (λ (l : List Bool). l ++ m) (bits-split 32 32 w) ∙ append-assoc (bits 32 w) (bits 32 (w / 2 ^ 32)) m ∙ ap (λ (l : List Bool). l ++ rest) (sym (bits-low 32 w)))
+    ∙ taken-whole c (w % 2 ^ 32) t rest h e
+    ∙ taken-whole t (w / 2 ^ 32) r m l f)
+
+-- two numbers, one behind the other
+pub bits-join : (n m a b : ℕ) → a < 2 ^ m → bits (n + m) (a + b * 2 ^ m) ≡ bits m a ++ bits n b
+bits-join n m a b h =
+    let w : a + b * 2 ^ m ≡ b * 2 ^ m + a = omega arith in
+    ap (bits (n + m)) w
+    ∙ bits-split n m (b * 2 ^ m + a)
+    ∙ ap₂ _++_ (sym (bits-low m (b * 2 ^ m + a)) ∙ ap (bits m) (low b m h)) (ap (bits n) (high b m h))
 
 pub message-length : (os : List ℕ) → length (message os) ≡ 8 * length os
 unfolding message
 message-length [] = refl
 message-length (o ∷ os) = omega (arith, length-append (bits 8 o) (message os), bits-length 8 o, message-length os)
-
--- the octets with the n octets of the register c added to the first of them
-unfoldable pub mixed : ℕ → ℕ → List ℕ → List ℕ
-mixed zero c os = os
-mixed (suc n) c [] = []
-mixed (suc n) c (o ∷ os) = bitXor c o ∷ mixed n (c / 256) os
-
-mixed-length : (n c : ℕ) (os : List ℕ) → length (mixed n c os) ≡ length os
-unfolding mixed
-mixed-length zero c os = refl
-mixed-length (suc n) c [] = refl
-mixed-length (suc n) c (o ∷ os) = ap suc (mixed-length n (c / 256) os)
-
-mixed-message : (n c : ℕ) (os : List ℕ) (q : List Bool) → n ≤ length os → add (bits (8 * n) c) (message os ++ q) ≡ message (mixed n c os) ++ q
-unfolding mixed message
-mixed-message zero c os q h = unfold add bits in refl
-mixed-message (suc n) c [] q h = absurd (omega arith)
-mixed-message (suc n) c (o ∷ os) q h =
-    let w : 8 * suc n ≡ 8 * n + 8 = omega arith in
-    ap₂ add (ap (λ (k : ℕ). bits k c) w ∙ bits-split (8 * n) 8 c) (append-assoc (bits 8 o) (message os) q)
-    ∙ add-append (bits 8 c) (bits 8 o) (bits (8 * n) (c / 256)) (message os ++ q) (bits-length 8 c ∙ sym (bits-length 8 o))
-    ∙ ap₂ _++_ (sym (bits-xor 8 c o)) (mixed-message n (c / 256) os q (omega arith))
-    ∙ sym (append-assoc (bits 8 (bitXor c o)) (message (mixed n (c / 256) os)) q)
-
--- the first octet's entry, and the remainder for the rest
-summed : (x : ℕ) (xs : List ℕ) → remainder (message (x ∷ xs) ++ zeros 32) ≡ add (entryOf (length xs) x) (remainder (message xs ++ zeros 32))
-unfolding message entryOf remainder
-summed x xs =
-    let k : ℕ = 8 * length xs in
-    let p : List Bool = bits 8 x ++ zeros (k + 32) in
-    let q : List Bool = message xs ++ zeros 32 in
-    let b : length (bits 8 x) ≡ 8 = bits-length 8 x in
-    let lp : length p ≡ 8 + (k + 32) = length-append (bits 8 x) (zeros (k + 32)) ∙ ap₂ _+_ b (zeros-length (k + 32)) in
-    let lq : length q ≡ k + 32 = length-append (message xs) (zeros 32) ∙ ap₂ _+_ (message-length xs) (zeros-length 32) in
-    let np : k + 8 ≡ length p - 32 = omega arith in
-    let nq : k ≡ length q - 32 = omega arith in
-    let n : length (bits 8 x ++ q) - 32 ≡ k + 8 = omega (arith, length-append (bits 8 x) q) in
-    ap (λ (l : List Bool). divide (length l - 32) l) (append-assoc (bits 8 x) (message xs) (zeros 32))
-    ∙ ap₂ divide n (sym (apart (k + 32) (bits 8 x) q (omega arith)) ∙ ap (λ (i : ℕ). add (zeros i ++ q) p) b ∙ add-comm (zeros 8 ++ q) p)
-    ∙ linear (k + 8) p (zeros 8 ++ q) (omega arith) (omega (arith, length-append (zeros 8) q, zeros-length 8))
-    ∙ ap₂ add (ap (λ (i : ℕ). divide i p) np)
-    (divide-more k 8 (zeros 8 ++ q) ∙ ap (divide k) (divide-zeros 8 q) ∙ ap (λ (i : ℕ). divide i q) nq)
-
--- the entries of the octets, each for as many octets of zero as there are octets behind it
-unfoldable pub sums : List ℕ → List Bool
-sums [] = zeros 32
-sums (x ∷ []) = entryOf 0 x
-sums (x ∷ (y ∷ xs)) = add (entryOf (suc (length xs)) x) (sums (y ∷ xs))
-
-sums-are : (xs : List ℕ) → remainder (message xs ++ zeros 32) ≡ sums xs
-unfolding sums
-sums-are [] = unfold message remainder divide zeros in refl
-sums-are (x ∷ []) = unfold message entryOf in (ap (λ (l : List Bool). remainder (l ++ zeros 32)) (append-nil (bits 8 x)))
-sums-are (x ∷ (y ∷ xs)) = summed x (y ∷ xs) ∙ ap (add (entryOf (suc (length xs)) x)) (sums-are (y ∷ xs))
-
-pub takes-sum : (c t : ℕ) (os : List ℕ) → 4 ≤ length os → bits 32 t ≡ sums (mixed 4 c os) → Takes c os t
-unfolding Takes left add
-takes-sum c t os h e m =
-    let x : List Bool = message (mixed 4 c os) in
-    let l : length x ≡ length (message os) = omega (arith, message-length (mixed 4 c os), message-length os, mixed-length 4 c os) in
-    sym
-    (taken-bits x [] (message os) m c t l (omega arith)
-    (ap (add (bits 32 c)) (append-assoc (message os) m (zeros 32)) ∙ mixed-message 4 c os (m ++ zeros 32) h) (e ∙ sym (sums-are (mixed 4 c os)))
-    ∙ ap (λ (r : List Bool). divide (length m) (add r (m ++ zeros 32))) (add-comm (bits 32 t) []))
-
--- ---- an octet of zero more behind an octet
-
-add-more : (g p q : List Bool) → length g ≤ length p → add g (p ++ q) ≡ add g p ++ q
-unfolding add
-add-more [] p q h = refl
-add-more (a ∷ g) [] q h = absurd (omega arith)
-add-more (a ∷ g) (b ∷ p) q h = ap (λ (l : List Bool). plus a b ∷ l) (add-more g p q (omega arith))
-
-divide-append : (k : ℕ) (p q : List Bool) → k + 32 ≤ length p → divide k (p ++ q) ≡ divide k p ++ q
-unfolding divide add
-divide-append zero p q h = refl
-divide-append (suc k) [] q h = absurd (omega arith)
-divide-append (suc k) (false ∷ p) q h = divide-append k p q (omega arith)
-divide-append (suc k) (true ∷ p) q h =
-    rw (add-more lower p q (omega (arith, lower-length))) (divide-append k (add lower p) q (omega (arith, add-length lower p (omega (arith, lower-length)))))
-
-pub entry-more : (k x : ℕ) → divide 8 (entryOf k x ++ zeros 8) ≡ entryOf (suc k) x
-unfolding entryOf remainder zeros
-entry-more k x =
-    let p : List Bool = bits 8 x ++ zeros (8 * k + 32) in
-    let l : length p ≡ 8 + (8 * k + 32) = length-append (bits 8 x) (zeros (8 * k + 32)) ∙ ap₂ _+_ (bits-length 8 x) (zeros-length (8 * k + 32)) in
-    let w : (8 * k + 32) + 8 ≡ 8 * suc k + 32 = omega arith in
-    let n : 8 + (length p - 32) ≡ length (p ++ zeros 8) - 32 = omega (arith, length-append p (zeros 8), zeros-length 8) in
-    ap (divide 8) (sym (divide-append (length p - 32) p (zeros 8) (omega arith)))
-    ∙ sym (divide-more 8 (length p - 32) (p ++ zeros 8))
-    ∙ ap (λ (i : ℕ). divide i (p ++ zeros 8)) n
-    ∙ ap (λ (l : List Bool). divide (length l - 32) l)
-    (append-assoc (bits 8 x) (zeros (8 * k + 32)) (zeros 8) ∙ ap (λ (l : List Bool). bits 8 x ++ l) (replicate-append-replicate (8 * k + 32) 8 false ∙ ap zeros w))
 
 -- ---- what `Takes` gives
 

@@ -1,6 +1,7 @@
 -- Laws of the division and of the register, that the remainder is the only one, and the table's rule.
 pub mod Table
 pub mod Laws
+pub mod Words
 pub mod Euclid
 pub mod Rule
 pub mod Below

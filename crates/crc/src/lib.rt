@@ -1,16 +1,31 @@
-// CRC-32 as ITU-T V.42 has it, an octet or eight at a time by tables: `crc32`, `crc_update` and `crc32_skipping` of the Rust's tile.rs.
+// CRC-32 as ITU-T V.42 has it: `crc32`, `crc_update` and `crc32_skipping` of the Rust's tile.rs. Few octets go by a table of half octets, four a turn. Many go by
+// words of 64 bits with no table, and only the last five words by the table. The table is small because a const is written out on the stack where it is used.
 ghost use mathlib.Core.Path.{_≡_};
-ghost use Prim.Native.Nat.{_-_, _<_, min};
-ghost use lib.Bits.{bitXor};
-ghost use lib.ListN.{length};
+ghost use mathlib.Core.List.{[], _∷_, _++_};
+ghost use Prim.Native.Nat.{_+_, _-_, _%_, _<_, _≤_, min};
+ghost use lib.ListN.{length, take, drop};
 ghost use Rattle.crc.specs.Fcs as Fcs;
-ghost use Rattle.crc.specs.Fcs.{bits};
-ghost use Rattle.crc.specs.Register.{entryOf, Rule, SlicesRule, Takes};
+ghost use Rattle.crc.specs.Fcs.{bits, message, remainder, zeros};
+ghost use Rattle.crc.specs.Register.{half, Rule, Takes, TakesWord, Turns, Spreads, Ends};
 
-mod slices;
-
-// What eight turns of the register make of each octet.
-const TABLE: [u32; 256] = [
+// What the register makes of each half octet with 0 to 7 half octets of zero behind it: eight tables of 16, one behind the other.
+const TABLE: [u32; 128] = [
+    0,
+    498536548,
+    997073096,
+    651767980,
+    1994146192,
+    1802195444,
+    1303535960,
+    1342533948,
+    3988292384,
+    4027552580,
+    3604390888,
+    3412177804,
+    2607071920,
+    2262029012,
+    2685067896,
+    3183342108,
     0,
     1996959894,
     3993919788,
@@ -27,324 +42,276 @@ const TABLE: [u32; 256] = [
     2125561021,
     3887607047,
     2428444049,
-    498536548,
-    1789927666,
-    4089016648,
-    2227061214,
-    450548861,
-    1843258603,
-    4107580753,
-    2211677639,
-    325883990,
-    1684777152,
-    4251122042,
-    2321926636,
-    335633487,
-    1661365465,
-    4195302755,
-    2366115317,
-    997073096,
-    1281953886,
-    3579855332,
-    2724688242,
-    1006888145,
-    1258607687,
-    3524101629,
-    2768942443,
-    901097722,
-    1119000684,
-    3686517206,
-    2898065728,
-    853044451,
-    1172266101,
-    3705015759,
-    2882616665,
-    651767980,
-    1373503546,
-    3369554304,
-    3218104598,
-    565507253,
-    1454621731,
-    3485111705,
-    3099436303,
-    671266974,
-    1594198024,
-    3322730930,
-    2970347812,
-    795835527,
-    1483230225,
-    3244367275,
-    3060149565,
-    1994146192,
-    31158534,
-    2563907772,
-    4023717930,
-    1907459465,
-    112637215,
-    2680153253,
-    3904427059,
-    2013776290,
-    251722036,
-    2517215374,
-    3775830040,
-    2137656763,
-    141376813,
-    2439277719,
-    3865271297,
-    1802195444,
-    476864866,
-    2238001368,
-    4066508878,
-    1812370925,
-    453092731,
-    2181625025,
-    4111451223,
-    1706088902,
-    314042704,
-    2344532202,
-    4240017532,
-    1658658271,
-    366619977,
-    2362670323,
-    4224994405,
-    1303535960,
-    984961486,
-    2747007092,
-    3569037538,
-    1256170817,
-    1037604311,
-    2765210733,
-    3554079995,
-    1131014506,
-    879679996,
-    2909243462,
-    3663771856,
-    1141124467,
-    855842277,
-    2852801631,
-    3708648649,
-    1342533948,
-    654459306,
-    3188396048,
-    3373015174,
-    1466479909,
-    544179635,
-    3110523913,
-    3462522015,
-    1591671054,
-    702138776,
-    2966460450,
-    3352799412,
-    1504918807,
-    783551873,
-    3082640443,
-    3233442989,
-    3988292384,
-    2596254646,
-    62317068,
-    1957810842,
-    3939845945,
-    2647816111,
-    81470997,
-    1943803523,
-    3814918930,
-    2489596804,
-    225274430,
-    2053790376,
-    3826175755,
-    2466906013,
-    167816743,
-    2097651377,
-    4027552580,
-    2265490386,
-    503444072,
-    1762050814,
-    4150417245,
-    2154129355,
-    426522225,
-    1852507879,
-    4275313526,
-    2312317920,
-    282753626,
-    1742555852,
-    4189708143,
-    2394877945,
-    397917763,
-    1622183637,
-    3604390888,
-    2714866558,
-    953729732,
-    1340076626,
-    3518719985,
-    2797360999,
-    1068828381,
-    1219638859,
-    3624741850,
-    2936675148,
-    906185462,
-    1090812512,
-    3747672003,
-    2825379669,
-    829329135,
-    1181335161,
-    3412177804,
-    3160834842,
-    628085408,
-    1382605366,
-    3423369109,
-    3138078467,
-    570562233,
-    1426400815,
-    3317316542,
-    2998733608,
-    733239954,
-    1555261956,
-    3268935591,
-    3050360625,
-    752459403,
-    1541320221,
-    2607071920,
-    3965973030,
-    1969922972,
-    40735498,
-    2617837225,
-    3943577151,
-    1913087877,
-    83908371,
-    2512341634,
-    3803740692,
-    2075208622,
-    213261112,
-    2463272603,
-    3855990285,
-    2094854071,
-    198958881,
-    2262029012,
-    4057260610,
-    1759359992,
-    534414190,
-    2176718541,
-    4139329115,
-    1873836001,
-    414664567,
-    2282248934,
-    4279200368,
-    1711684554,
-    285281116,
-    2405801727,
-    4167216745,
-    1634467795,
-    376229701,
-    2685067896,
-    3608007406,
-    1308918612,
-    956543938,
-    2808555105,
-    3495958263,
-    1231636301,
-    1047427035,
-    2932959818,
-    3654703836,
-    1088359270,
-    936918000,
-    2847714899,
-    3736837829,
-    1202900863,
-    817233897,
-    3183342108,
-    3401237130,
-    1404277552,
-    615818150,
-    3134207493,
-    3453421203,
-    1423857449,
-    601450431,
-    3009837614,
-    3294710456,
-    1567103746,
-    711928724,
-    3020668471,
-    3272380065,
-    1510334235,
-    755167117,
+    0,
+    1254232657,
+    2508465314,
+    3745920755,
+    4034481925,
+    3132841300,
+    1711106983,
+    792689142,
+    998479947,
+    1900120602,
+    2919742697,
+    3838160568,
+    3422213966,
+    2167981343,
+    1585378284,
+    347922877,
+    0,
+    421212481,
+    842424962,
+    724390851,
+    1684849924,
+    2105013317,
+    1448781702,
+    1329698503,
+    3369699848,
+    3519200073,
+    4210026634,
+    3824474571,
+    2897563404,
+    3048111693,
+    2659397006,
+    2274893007,
+    0,
+    472294256,
+    944588512,
+    611050896,
+    1889177024,
+    1824272048,
+    1222101792,
+    1425107024,
+    3778354048,
+    4245928176,
+    3648544096,
+    3311336976,
+    2444203584,
+    2374579504,
+    2850214048,
+    3049550800,
+    0,
+    29518391,
+    59036782,
+    38190681,
+    118073564,
+    114017003,
+    76381362,
+    89069189,
+    236147128,
+    265370511,
+    228034006,
+    206958561,
+    152762724,
+    148411219,
+    178138378,
+    190596925,
+    0,
+    1343838111,
+    2687676222,
+    4029413537,
+    2601801789,
+    3406630818,
+    992409347,
+    1799331996,
+    3982079547,
+    3175145892,
+    1298864389,
+    494030490,
+    1984818694,
+    643086745,
+    3598663992,
+    2254837415,
+    0,
+    3099354981,
+    2852767883,
+    313896942,
+    2405603159,
+    937357362,
+    627793884,
+    2648127673,
+    3316918511,
+    2097696650,
+    1874714724,
+    3607201537,
+    1255587768,
+    4067088605,
+    3772741427,
+    1482887254,
 ];
 
-// What the table has for the octet `o` plus the low octet of `c`.
-fn entry(table: &[u32; 256], c: u32, o: u8) -> u32
-    requires { ⌜ Rule 0 (now table) ⌝ }
-    ensures { λ r. ⌜ bits 32 r ≡ entryOf 0 (bitXor c o) ⌝ }
+// What the table has for the low half octet of `v`, with `k` half octets of zero behind it.
+fn entry(table: &[u32; 128], k: usize, v: u32) -> u32
+    requires { ⌜ Rule (now table) ⌝ }
+    requires { ⌜ k < 8 ⌝ }
+    ensures { λ r. ⌜ bits 32 r ≡ half k v ⌝ }
 {
-    table[((c ^ (o as u32)) & 0xff) as usize]
+    table[k * 16 + (v & 15) as usize]
 }
 
-// What the slices have for the octet `o` plus the low octet of `c`, with `k` octets of zero behind it.
-fn slice_entry(slices: &[u32; 1792], k: usize, c: u32, o: u8) -> u32
-    requires { ⌜ SlicesRule (now slices) ⌝ }
-    requires { ⌜ 0 < k ⌝ }
-    requires { ⌜ k < 8 ⌝ }
-    ensures { λ r. ⌜ bits 32 r ≡ entryOf k (bitXor c o) ⌝ }
+// The remainder for 32 bits: the sum of an entry for each half octet, by how many are behind it.
+fn crc_four(table: &[u32; 128], v: u32) -> u32
+    requires { ⌜ Rule (now table) ⌝ }
+    ensures { λ r. ⌜ bits 32 r ≡ remainder (bits 32 v ++ zeros 32) ⌝ }
 {
-    slices[(k - 1) * 256 + ((c ^ (o as u32)) & 0xff) as usize]
+    let mut t = entry(table, 0, v >> 28);
+    t = entry(table, 1, v >> 24) ^ t;
+    t = entry(table, 2, v >> 20) ^ t;
+    t = entry(table, 3, v >> 16) ^ t;
+    t = entry(table, 4, v >> 12) ^ t;
+    t = entry(table, 5, v >> 8) ^ t;
+    t = entry(table, 6, v >> 4) ^ t;
+    entry(table, 7, v) ^ t
+}
+
+// The register after one octet.
+fn crc_octet(table: &[u32; 128], c: u32, o: u8) -> u32
+    requires { ⌜ Rule (now table) ⌝ }
+    ensures { λ r. ⌜ Takes c (o ∷ []) r ⌝ }
+{
+    let v = c ^ (o as u32);
+    let low = entry(table, 1, v);
+    let high = entry(table, 0, v >> 4);
+    (low ^ high) ^ (c >> 8)
 }
 
 // The register after the octets, one a turn.
-fn crc_octets(table: &[u32; 256], value: u32, bytes: &[u8]) -> u32
-    requires { ⌜ Rule 0 (now table) ⌝ }
+fn crc_octets(table: &[u32; 128], value: u32, bytes: &[u8]) -> u32
+    requires { ⌜ Rule (now table) ⌝ }
     ensures { λ r. ⌜ Takes value (now (bytes .entry)) r ⌝ }
 {
     let mut c = value;
     let mut i = 0;
     while i < bytes.len() {
-        c = entry(table, c, bytes[i]) ^ (c >> 8);
+        c = crc_octet(table, c, bytes[i]);
         i += 1;
     }
     c
 }
 
-// The register after eight octets: the sum of an entry for each, by how many octets are behind it. The register's four are added to the first four. The last four
-// go first, for they need not wait for the register.
-fn crc_eight(table: &[u32; 256], slices: &[u32; 1792], c: u32, o: &[u8]) -> u32
-    requires { ⌜ Rule 0 (now table) ⌝ }
-    requires { ⌜ SlicesRule (now slices) ⌝ }
-    requires { ⌜ length (now o) ≡ 8 ⌝ }
-    ensures { λ r. ⌜ Takes c (now (o .entry)) r ⌝ }
+// An octet as a number of 32 bits, with its bound.
+fn wide(o: u8) -> u32
+    ensures { λ r. ⌜ r ≡ o ⌝ }
+    ensures { λ r. ⌜ r < 256 ⌝ }
 {
-    let mut t = entry(table, 0, o[7]);
-    t = slice_entry(slices, 1, 0, o[6]) ^ t;
-    t = slice_entry(slices, 2, 0, o[5]) ^ t;
-    t = slice_entry(slices, 3, 0, o[4]) ^ t;
-    t = slice_entry(slices, 4, c >> 24, o[3]) ^ t;
-    t = slice_entry(slices, 5, c >> 16, o[2]) ^ t;
-    t = slice_entry(slices, 6, c >> 8, o[1]) ^ t;
-    slice_entry(slices, 7, c, o[0]) ^ t
+    o as u32
 }
 
-// The register after the octets, eight a turn, and the rest one a turn.
-fn crc_slices(table: &[u32; 256], slices: &[u32; 1792], value: u32, bytes: &[u8]) -> u32
-    requires { ⌜ Rule 0 (now table) ⌝ }
-    requires { ⌜ SlicesRule (now slices) ⌝ }
+// The four octets at `i` as a number, the first one lowest: in that order their bits are the message's.
+fn four_at(bytes: &[u8], i: usize) -> u32
+    requires { ⌜ i + 4 ≤ length (now bytes) ⌝ }
+    ensures { λ r. ⌜ bits 32 r ≡ message (take 4 (drop i (now (bytes .entry)))) ⌝ }
+{
+    let a = wide(bytes[i]);
+    let b = wide(bytes[i + 1]);
+    let c = wide(bytes[i + 2]);
+    let d = wide(bytes[i + 3]);
+    a + (b + (c + d * 256) * 256) * 256
+}
+
+// The eight octets at `i` as a number.
+fn word_at(bytes: &[u8], i: usize) -> u64
+    requires { ⌜ i + 8 ≤ length (now bytes) ⌝ }
+    ensures { λ r. ⌜ bits 64 r ≡ message (take 8 (drop i (now (bytes .entry)))) ⌝ }
+{
+    let low = four_at(bytes, i);
+    let high = four_at(bytes, i + 4);
+    (low as u64) + (high as u64) * 4294967296
+}
+
+// The register after the octets, four a turn, and the rest one a turn.
+fn crc_few(table: &[u32; 128], value: u32, bytes: &[u8]) -> u32
+    requires { ⌜ Rule (now table) ⌝ }
     ensures { λ r. ⌜ Takes value (now (bytes .entry)) r ⌝ }
 {
     let mut c = value;
     let mut i = 0;
-    while 8 <= bytes.len() - i {
-        c = crc_eight(table, slices, c, &bytes[i..i + 8]);
-        i += 8;
+    while 4 <= bytes.len() - i {
+        c = crc_four(table, c ^ four_at(bytes, i));
+        i += 4;
     }
     crc_octets(table, c, &bytes[i..])
 }
 
-// The register after the octets. A table is put into a local once and lent: a const that is indexed where it is named is written out anew each time. To write the
-// slices out takes as long as some fifty octets by the table alone, so a few go by the table.
-fn crc_update(table: &[u32; 256], value: u32, bytes: &[u8]) -> u32
-    requires { ⌜ Rule 0 (now table) ⌝ }
+// The register after 64 bits.
+fn crc_word(table: &[u32; 128], c: u32, w: u64) -> u32
+    requires { ⌜ Rule (now table) ⌝ }
+    ensures { λ r. ⌜ TakesWord c w r ⌝ }
+{
+    let low = (w & 0xffffffff) as u32;
+    let t = crc_four(table, c ^ low);
+    crc_four(table, t ^ ((w >> 32) as u32))
+}
+
+// Five words to be added to the next five of the message: what stands for all that was before them.
+struct Pending {
+    first: u64,
+    second: u64,
+    third: u64,
+    fourth: u64,
+    fifth: u64,
+}
+
+// A word more of the message. The generator divides x^300 + x^155 + x^117 + x^89 + 1, so a term is as good as those 145, 183, 211 and 300 places behind it: the
+// word is taken away and added at these places, which is 81, 119, 147 and 236 places into the words that follow.
+fn turned(p: Pending, x: u64) -> Pending
+    ensures { λ r. ⌜ Turns p x r ⌝ }
+{
+    let w = p.first ^ x;
+    Pending {
+        first: p.second,
+        second: (w << 17) ^ ((w << 55) ^ p.third),
+        third: (w >> 47) ^ ((w >> 9) ^ ((w << 19) ^ p.fourth)),
+        fourth: (w >> 45) ^ ((w << 44) ^ p.fifth),
+        fifth: w >> 20,
+    }
+}
+
+// What is pending after whole words.
+fn spread(value: u32, bytes: &[u8]) -> Pending
+    requires { ⌜ length (now bytes) % 8 ≡ 0 ⌝ }
+    ensures { λ r. ⌜ Spreads value (now (bytes .entry)) r ⌝ }
+{
+    let mut p = Pending {
+        first: value as u64,
+        second: 0,
+        third: 0,
+        fourth: 0,
+        fifth: 0,
+    };
+    let mut i = 0;
+    while i < bytes.len() {
+        p = turned(p, word_at(bytes, i));
+        i += 8;
+    }
+    p
+}
+
+// The register after what is pending is added to the last octets, 40 or more.
+fn ended(table: &[u32; 128], p: Pending, o: &[u8]) -> u32
+    requires { ⌜ Rule (now table) ⌝ }
+    requires { ⌜ 40 ≤ length (now o) ⌝ }
+    ensures { λ r. ⌜ Ends p (now (o .entry)) r ⌝ }
+{
+    let mut c = crc_word(table, 0, p.first ^ word_at(o, 0));
+    c = crc_word(table, c, p.second ^ word_at(o, 8));
+    c = crc_word(table, c, p.third ^ word_at(o, 16));
+    c = crc_word(table, c, p.fourth ^ word_at(o, 24));
+    c = crc_word(table, c, p.fifth ^ word_at(o, 32));
+    crc_few(table, c, &o[40..])
+}
+
+// The register after the octets. The five last words by the table take as long as some 40 octets, so a few go by the table alone.
+fn crc_update(table: &[u32; 128], value: u32, bytes: &[u8]) -> u32
+    requires { ⌜ Rule (now table) ⌝ }
     ensures { λ r. ⌜ Takes value (now (bytes .entry)) r ⌝ }
 {
-    if bytes.len() < 64 {
-        return crc_octets(table, value, bytes);
+    if bytes.len() < 48 {
+        return crc_few(table, value, bytes);
     }
-    let slices = slices::SLICES;
-    crc_slices(table, &slices, value, bytes)
+    let n = (bytes.len() - 40) / 8 * 8;
+    let p = spread(value, &bytes[..n]);
+    ended(table, p, &bytes[n..])
 }
 
 // CRC-32 of the bytes.

@@ -1,33 +1,32 @@
--- `crc::crc_octets` meets its contract: with the octets that are left before it, whatever follows leaves the same from the register as from the one at the start.
-use Prim.Native.Nat.{ℕ, _≤_, _<_, _-_, _/_, _^_}
-use mathlib.Core.Path.{_≡_, refl, sym, ap, _∙_}
-use mathlib.Core.Bool.{Bool}
-use mathlib.Core.List.{List, [], _++_}
+-- `crc::crc_octets` meets its contract: at each turn the register has taken the octets before `i`.
+use Prim.Native.Nat.{ℕ, _-_, _≤_}
+use mathlib.Core.Path.{_≡_, refl, ap}
+use mathlib.Core.List.{List, [], _∷_}
 use native.Mathlib.Omega.{arith}
-use lib.ListN.{length, drop, drop-of-length-le}
-use lib.Bits.{xor-lt}
+use lib.ListN.{length, take, drop, getD}
+use lib.Seq.{drop-cons, take-add, take-all}
 use borrow.Author.Needs.{needs}
 use Rattle.crc.specs.Fcs.{message}
-use Rattle.crc.specs.Register.{left, Takes}
-use Rattle.crc.proofs.Laws.{turn}
+use Rattle.crc.specs.Register.{Takes}
+use Rattle.crc.proofs.Laws.{takes-append}
 use Rattle.crc.proofs.crc_octets.Statement.{statement}
 use Rattle.crc.proofs.crc_octets.Tie as tie
 
 abbrev Inv-loop : tie.InvT-loop
-Inv-loop table value bytes c₀ i₀ c i =
-    (i ≤ length bytes) × ((c < 2 ^ 32) × ((m : List Bool) → left c (message (drop i bytes) ++ m) ≡ left value (message bytes ++ m)))
+Inv-loop table value bytes c₀ i₀ c i = (i ≤ length bytes) × Takes value (take i bytes) c
 
 abbrev μ-loop : tie.MeasureT-loop
 μ-loop table value bytes c₀ i₀ c i = length bytes - i
 
 loop-holds : tie.Need-loop-holds Inv-loop μ-loop
-loop-holds c = (omega arith, (omega (arith, c .before .fits .value), λ m. refl))
+unfolding Takes message
+loop-holds c = (omega arith, λ m. refl)
 
-shared-slice-read-entry : tie.Need-shared-slice-read-entry Inv-loop μ-loop
-shared-slice-read-entry c = search needs
+shared-slice-read-crc-octet : tie.Need-shared-slice-read-crc-octet Inv-loop μ-loop
+shared-slice-read-crc-octet c = search needs
 
-entry-requires : tie.Need-entry-requires Inv-loop μ-loop
-entry-requires c κs = search needs
+crc-octet-requires : tie.Need-crc-octet-requires Inv-loop μ-loop
+crc-octet-requires c κs = search needs
 
 add-i : tie.Need-add-i Inv-loop μ-loop
 add-i c = search needs
@@ -38,24 +37,21 @@ loop-less c = search needs
 loop-again : tie.Need-loop-again Inv-loop μ-loop
 loop-again c =
     let at-loop = c .before .before .before in
+    let i : ℕ = at-loop .loop .i in
     let start = at-loop .before .before in
-    let r : ℕ = c .entry .result in (
+    let bytes : List ℕ = start .args .bytes .now in
+    let one : take 1 (drop i bytes) ≡ getD bytes i 0 ∷ [] = ap (take 1) (drop-cons bytes i 0 (c .before .before .loop-test .taken)) in (
       omega arith,
-      (
-        xor-lt 32 r (at-loop .loop .c / 256) (omega (arith, c .entry .ok)) (omega arith),
-        λ m.
-            turn (at-loop .loop .c) r (at-loop .loop .i) (start .args .bytes .now) m (at-loop .loop .inv .1 .0) (c .before .before .loop-test .taken) (c .entry .ensures)
-            ∙ at-loop .loop .inv .1 .1 m,
-      ),
+      rw (take-add i 1 bytes, one)
+          (takes-append (start .args .value) (at-loop .loop .c) (c .crc-octet .result) (take i bytes) (getD bytes i 0 ∷ []) (at-loop .loop .inv .1)
+          (c .crc-octet .ensures)),
     )
 
 returns : tie.Need-returns Inv-loop μ-loop
-unfolding Takes message
-returns c = λ m.
+returns c =
     let bytes : List ℕ = c .before .before .before .args .bytes .now in
-    let e : drop (c .before .loop .i) bytes ≡ [] = drop-of-length-le bytes {i = c .before .loop .i} (omega arith) in
-    ap (λ (os : List ℕ). left (c .before .loop .c) (message os ++ m)) (sym e) ∙ c .before .loop .inv .1 .1 m
+    rw (take-all (c .before .loop .i) bytes (omega arith)) at (c .before .loop .inv .1)
 
 pub crc-octets-spec : {M : Type 1} → statement M
 crc-octets-spec =
-    tie.close (tie.spec Inv-loop μ-loop loop-holds shared-slice-read-entry entry-requires add-i loop-less loop-again returns)
+    tie.close (tie.spec Inv-loop μ-loop loop-holds shared-slice-read-crc-octet crc-octet-requires add-i loop-less loop-again returns)
