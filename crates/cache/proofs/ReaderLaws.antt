@@ -1,5 +1,6 @@
 -- The numbers that the code carries stand for the cache and the keys found: before the first lookup (`stands-start`) and after each tile found
--- (`stands-found`). While they do, a lookup answers as the look at the cache given (`stands-at`).
+-- (`stands-found`). While they do, a lookup answers as the look at the cache given (`stands-at`). A run that was
+-- answered, by whatever numbers, lies in the arena (`found-length`).
 -- The idea: row + 1 and column tell a key, so that a lookup by the numbers lands where one by the cache does; and a slot is one key's, so that a
 -- mark spares only a check that would pass.
 use Prim.Native.Nat.{ℕ, _+_, _*_, _<_, _≤_, min}
@@ -8,10 +9,10 @@ use mathlib.Core.Bool.{Bool, true, false, _&&_, cond, true≢false}
 use mathlib.Core.List.{List, [], _∷_, _++_}
 use mathlib.Core.Logic.{⊎-elim}
 use native.Mathlib.Omega.{arith}
-use borrow.Author.Tests.{le-leb, lt-leb, lt-ltb, eqb-true}
-use lib.Dec.{eqb, ltb}
-use lib.ListN.{length, getD, set, replicate, length-set, length-replicate, getD-replicate, List·getD-eq-default}
-use lib.Seq.{getD-set-same, getD-set-other}
+use borrow.Author.Tests.{le-leb, lt-leb, lt-ltb, leb-true, eqb-true}
+use lib.Dec.{eqb, leb, ltb}
+use lib.ListN.{length, drop, getD, set, replicate, length-set, length-drop, length-replicate, getD-replicate, List·getD-eq-default}
+use lib.Seq.{getD-set-same, getD-set-other, length-take-le}
 use Rattle.pack.specs.declared.TileKey.{TileKey}
 use Rattle.pack.proofs.Laws.{and-left, and-right}
 use Rattle.cache.specs.declared.Slot.{Slot}
@@ -52,7 +53,8 @@ use Rattle.cache.specs.Ages.{
   lookUp,
   bytesOf,
 }
-use Rattle.cache.specs.Reader.{inBytes, inLooks, Sized, Read, Sound, Stands}
+use Rattle.cache.specs.Reader.{inBytes, inLooks}
+use Rattle.cache.specs.Stands.{Sized, Taken, Sound, Stands}
 use Rattle.cache.proofs.LooksLaws.{
   key-tells,
   ready-tells,
@@ -151,9 +153,9 @@ module _ (c : Cache) (none : List ℕ) (size : length none ≡ 610) (zeros : (i 
   taken-page : (j : ℕ) → j < 480 → getD taken j 0 ≡ getD paged j 0
   taken-page j h = taken-low j (omega (arith, h)) ∙ ring-below paged (c .missing) 64 j h
 
-  read-taken : Read c taken
+  read-taken : Taken c taken
   read-taken = record {
-    size = length-set timed 609 (most (c .pages .count)) ∙ size-timed;
+    long = length-set timed 609 (most (c .pages .count)) ∙ size-timed;
     rows = λ (i : ℕ) (h : i < 96). taken-page (192 + i) (omega (arith, h)) ∙ pages-row none (c .pages) size 96 i (omega arith) h;
     cols = λ (i : ℕ) (h : i < 96). taken-page (288 + i) (omega (arith, h)) ∙ pages-col none (c .pages) size 96 i (omega arith) h;
     lens = λ (i : ℕ) (h : i < 96). taken-page (384 + i) (omega (arith, h)) ∙ pages-len none (c .pages) size 96 i (omega arith) h;
@@ -182,7 +184,7 @@ module _ (c : Cache) (none : List ℕ) (size : length none ≡ 610) (zeros : (i 
   unfolding aged looked
   stands-taken arena cell sized = record {
     sized = sized;
-    read = read-taken;
+    taken = read-taken;
     sound = λ (i : ℕ) (key : TileKey) (h : i < 96) (e : getD taken (96 + i) 0 ≡ 1) (l : landsOn c key ≡ Landing.At i).
         absurd (omega (arith, e, taken-mark i h));
     same = rw (taken-ages (sized .used), taken-clock);
@@ -195,7 +197,7 @@ stands-start c arena size sized =
 
 -- ---- by the numbers a lookup lands where it does by the cache
 
-module _ (c : Cache) (sized : Sized c) (looks : List ℕ) (read : Read c looks) (key : TileKey) where
+module _ (c : Cache) (sized : Sized c) (looks : List ℕ) (read : Taken c looks) (key : TileKey) where
   same-ring : inRing looks key ≡ Keys.inRing (c .missing) key
   unfolding inRing Keys.inRing
   same-ring =
@@ -238,7 +240,7 @@ hitAt Landing.Missing looks arena size key = record { answer = Lookup.Missing; l
 hitAt Landing.Nothing looks arena size key = record { answer = Lookup.Absent; looks = looks }
 hitAt (Landing.At i) looks arena size key = hitRun (known looks arena i (getD looks (384 + i) 0) key size) looks i
 
-module _ (c : Cache) (sized : Sized c) (looks : List ℕ) (read : Read c looks) (arena : List ℕ) (size : ℕ) (key : TileKey) where
+module _ (c : Cache) (sized : Sized c) (looks : List ℕ) (read : Taken c looks) (arena : List ℕ) (size : ℕ) (key : TileKey) where
   hit-lands : lookUp looks arena size key ≡ hitAt (landsOn c key) looks arena size key
   unfolding lookUp landsOn
   hit-lands =
@@ -265,9 +267,9 @@ aged-touched : (c : Cache) (looks : List ℕ) (i : ℕ) → i < 96 → length lo
 unfolding touched aged
 aged-touched c looks i h size = rw (marked-ages looks i h size, marked-clock looks i h size)
 
-read-marked : (c : Cache) (looks : List ℕ) (i : ℕ) → i < 96 → Read c looks → Read c (marked looks i)
+read-marked : (c : Cache) (looks : List ℕ) (i : ℕ) → i < 96 → Taken c looks → Taken c (marked looks i)
 read-marked c looks i h read = record {
-  size = marked-length looks i ∙ read .size;
+  long = marked-length looks i ∙ read .long;
   rows = λ (j : ℕ) (k : j < 96). kept (192 + j) (omega arith) (omega (arith, k)) ∙ read .rows j k;
   cols = λ (j : ℕ) (k : j < 96). kept (288 + j) (omega arith) (omega (arith, k)) ∙ read .cols j k;
   lens = λ (j : ℕ) (k : j < 96). kept (384 + j) (omega arith) (omega (arith, k)) ∙ read .lens j k;
@@ -286,7 +288,7 @@ module _ (c : Cache) (arena : List ℕ) (size : ℕ) (looks : List ℕ) (keys : 
   -- a mark that tells the truth changes nothing
   known-passes : (key : TileKey) (i : ℕ) → landsOn c key ≡ Landing.At i
       → known looks arena i (getD looks (384 + i) 0) key size ≡ passes arena i (lenAt c i) key size
-  known-passes key i l = rw (stands .read .lens i low) (by (eqb (getD looks (96 + i) 0) 1) refl)
+  known-passes key i l = rw (stands .taken .lens i low) (by (eqb (getD looks (96 + i) 0) 1) refl)
     where
       low : i < 96
       low = lands-below c (stands .sized) key i l
@@ -307,11 +309,11 @@ module _ (c : Cache) (arena : List ℕ) (size : ℕ) (looks : List ℕ) (keys : 
 
   pub stands-at : (key : TileKey) → inLooks arena size .at looks key ≡ look c arena size key
   unfolding look
-  stands-at key = rw (hit-lands c (stands .sized) looks (stands .read) arena size key) (by (landsOn c key) refl)
+  stands-at key = rw (hit-lands c (stands .sized) looks (stands .taken) arena size key) (by (landsOn c key) refl)
     where
       run : (i : ℕ) → i < 96 → (ok : Bool) → passes arena i (lenAt c i) key size ≡ ok
           → inBytes (hitRun ok looks i .answer) arena ≡ cond ok (ready (runBytes arena i (lenAt c i))) stale
-      run i h true p = rw (stands .read .lens i h) (ap ready (bytes-are key i p))
+      run i h true p = rw (stands .taken .lens i h) (ap ready (bytes-are key i p))
       run i h false p = refl
 
       by : (l : Landing) → landsOn c key ≡ l → inBytes (hitAt l looks arena size key .answer) arena ≡ lookAt l (c .pages .slots) arena size key
@@ -347,12 +349,12 @@ module _ (c : Cache) (arena : List ℕ) (size : ℕ) (looks : List ℕ) (keys : 
     same-marked =
         let got-aged : got (aged c looks) arena size key .cache ≡ touched (aged c looks) i
         = got-touched arena size (aged c looks) key i (aged-lands c looks key ∙ l) (rw (aged-len c looks i) p) in
-        rw (looked-more arena size keys c key, ← stands .same, got-aged, aged-touched c looks i low (stands .read .size))
+        rw (looked-more arena size keys c key, ← stands .same, got-aged, aged-touched c looks i low (stands .taken .long))
 
     stands-marked : Stands c arena size (marked looks i) (keys ++ (key ∷ []))
     stands-marked = record {
       sized = stands .sized;
-      read = read-marked c looks i low (stands .read);
+      taken = read-marked c looks i low (stands .taken);
       sound = sound-marked;
       same = same-marked;
     }
@@ -360,7 +362,7 @@ module _ (c : Cache) (arena : List ℕ) (size : ℕ) (looks : List ℕ) (keys : 
   pub stands-found : (key : TileKey) (bs : List ℕ) → look c arena size key ≡ ready bs
       → Stands c arena size (inLooks arena size .found looks key) (keys ++ (key ∷ []))
   unfolding look
-  stands-found key bs e = rw (hit-lands c (stands .sized) looks (stands .read) arena size key) (by (landsOn c key) refl e)
+  stands-found key bs e = rw (hit-lands c (stands .sized) looks (stands .taken) arena size key) (by (landsOn c key) refl e)
     where
       run : (i : ℕ) → landsOn c key ≡ Landing.At i → (ok : Bool) → passes arena i (lenAt c i) key size ≡ ok
           → cond ok (ready (runBytes arena i (lenAt c i))) stale ≡ ready bs → Stands c arena size (hitRun ok looks i .looks) (keys ++ (key ∷ []))
@@ -372,3 +374,43 @@ module _ (c : Cache) (arena : List ℕ) (size : ℕ) (looks : List ℕ) (keys : 
       by Landing.Missing l e = let z : _≡_ {A = ℕ} 0 1 = cc in absurd (omega arith)
       by Landing.Nothing l e = let z : _≡_ {A = ℕ} 0 1 = cc in absurd (omega arith)
       by (Landing.At i) l e = rw (known-passes key i l) (run i l (passes arena i (lenAt c i) key size) refl e)
+
+-- ---- a run that was answered is all there
+
+module _ (looks arena : List ℕ) (size : ℕ) (key : TileKey) where
+  known-inside : (i n : ℕ) → known looks arena i n key size ≡ true → i * 8192 + n ≤ length arena
+  known-inside i n e = by (eqb (getD looks (96 + i) 0) 1) e
+    where
+      by : (t : Bool) → cond t (inside arena i n) (passes arena i n key size) ≡ true → i * 8192 + n ≤ length arena
+      by true e = leb-true (i * 8192 + n) (length arena) e
+      by false e = passes-inside arena i n key size e
+
+  run-length : (i n : ℕ) → i * 8192 + n ≤ length arena → length (bytesOf arena i n) ≡ n
+  unfolding bytesOf
+  run-length i n h = rw (le-leb (i * 8192 + n) (length arena) h) (length-take-le n (drop (i * 8192) arena) (rw length-drop (omega (arith, h))))
+
+  module _ (first len : ℕ) where
+    run-found : (i : ℕ) (ok : Bool) → known looks arena i (getD looks (384 + i) 0) key size ≡ ok → hitRun ok looks i .answer ≡ Lookup.Ready first len
+        → length (bytesOf arena first len) ≡ len
+    run-found i true p e =
+        let f : i ≡ first = cc in
+        let n : getD looks (384 + i) 0 ≡ len = cc in
+        rw (← n, ← f) (run-length i (getD looks (384 + i) 0) (known-inside i (getD looks (384 + i) 0) p))
+    run-found i false p e = let z : _≡_ {A = ℕ} 0 1 = cc in absurd (omega arith)
+
+    page-found : (i : ℕ) (past : Bool)
+        → cond past (record { answer = Lookup.Absent; looks = looks }) (hitRun (known looks arena i (getD looks (384 + i) 0) key size) looks i) .answer
+        ≡ Lookup.Ready first len
+        → length (bytesOf arena first len) ≡ len
+    page-found i true e = let z : _≡_ {A = ℕ} 0 1 = cc in absurd (omega arith)
+    page-found i false e = run-found i (known looks arena i (getD looks (384 + i) 0) key size) refl e
+
+    ring-found : (held : Bool) → cond held (record { answer = Lookup.Missing; looks = looks }) (hitPage looks arena size key (pageOf looks key)) .answer
+        ≡ Lookup.Ready first len
+        → length (bytesOf arena first len) ≡ len
+    ring-found true e = let z : _≡_ {A = ℕ} 0 1 = cc in absurd (omega arith)
+    ring-found false e = page-found (pageOf looks key) (leb 96 (pageOf looks key)) e
+
+    pub found-length : lookUp looks arena size key .answer ≡ Lookup.Ready first len → length (bytesOf arena first len) ≡ len
+    unfolding lookUp
+    found-length e = ring-found (inRing looks key) e

@@ -1,8 +1,11 @@
--- The lookups of one call that makes many: "A call checks each run it lands on once" (document 01, "Refused"). What they read and change is
--- taken out of the cache once, as numbers: at page i its age, at 96 + i 1 where its run was checked; at 192 + i, 288 + i and 384 + i row + 1,
--- column and length of the ready tile there, 0 in place of the row where there is none; from 480 and 544 on row + 1 and column of the ring's
--- keys; at 608 the clock, at 609 how many pages there are. Each lookup is `Lookups.got`'s, but that a marked run is not read again (`Reader`
--- says when the numbers stand for the cache).
+-- The lookups of one call that makes many: "A call checks each run it lands on once" (document 01, "Refused"). Each is `Lookups.got`'s, but that a
+-- marked run is not read again. This restates private code: what a road means by its lookups is `Reader.plain` of the cache's look, and that
+-- these give the same is `stands-at`, `stands-found` (`Stands`). What they read and change is taken out of the cache once, as 610 numbers:
+--   i, 96 + i             the age of page i; 1 where its run was checked
+--   192 + i, 288 + i      row + 1 and column of the ready tile on page i; row 0 where there is none
+--   384 + i               the length of the run that begins there
+--   480 + i, 544 + i      row + 1 and column of the ring's key i; row 0 where there is none
+--   608, 609              the clock; how many pages there are, at most 96
 use Prim.Native.Nat.{ℕ, zero, suc, _+_, _*_, min}
 use mathlib.Core.Bool.{Bool, _&&_, cond}
 use mathlib.Core.List.{List, []}

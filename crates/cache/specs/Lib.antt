@@ -16,6 +16,8 @@ pub mod Loads
 -- The lookups of one call that makes many, and a lookup as a definition reads it.
 pub mod Ages
 pub mod Reader
+-- When what those lookups go by stands for the cache.
+pub mod Stands
 -- What the lookups of one match change, beside the cache.
 pub mod Uses
 -- The number of each answer.

@@ -12,9 +12,7 @@ ghost use mathlib.Core.Path.{_≡_};
 ghost use Prim.Native.Nat.{_<_};
 ghost use Rattle.cache.specs.Ages as Ages;
 
-// The numbers: at page i its age, at 96 + i 1 where its run was checked; at 192 + i, 288 + i and 384 + i row + 1, column and length of the
-// ready tile there, 0 in place of the row where there is none; from 480 and 544 on row + 1 and column of the ring's keys; at 608 the clock, at
-// 609 how many pages there are.
+// How many numbers they are; specs/Ages has what stands where.
 pub const LOOKUPS: usize = 610;
 
 // A number of those, as a place or a length.

@@ -60,8 +60,8 @@ use Rattle.predict.specs.declared.ridden.Behind.{Behind}
 use Rattle.predict.specs.Consider.{choiceOf, isWayOn, considerStep, considerTo, consider}
 use Rattle.predict.specs.Cross.{Ways, considerBy, twinLook, twinKey, goingOver, stepOver, crossTo, crossOver}
 use Rattle.predict.specs.Decide.{lowered, decide}
-use Rattle.predict.specs.Visits.{nothingVisited, visit}
-use Rattle.predict.specs.Meets.{nothingMet, meet, budget}
+use Rattle.predict.specs.Visits.{visit}
+use Rattle.predict.specs.Meets.{meet, budget}
 use Rattle.predict.specs.declared.Arrival.{Arrival}
 use Rattle.predict.specs.declared.Decision.{Decision}
 use Rattle.predict.specs.declared.End.the-variants as End
@@ -69,7 +69,7 @@ use Rattle.predict.specs.declared.Ending.{Ending}
 use Rattle.predict.specs.declared.Ending.the-variants as Ending
 use Rattle.predict.specs.Walk.{withEnding, reached, taken, onRoad, withEntry, Onto, entered, isRound, turned, incomingOf, nodeOf}
 use Rattle.predict.specs.Walk.{arrivalOf, nextLook, Run, takenBy, decidedOver, onwardBy, onwardOver, waysOver, crossedOver, goesOn, legOf, along}
-use Rattle.predict.specs.Walk.{stopped, runOf, driven, edgeLook, edgeStep, walkTo}
+use Rattle.predict.specs.Walk.{stopped, runOf, begun, driven, edgeLook, edgeStep, walkTo}
 use Rattle.predict.specs.declared.Walk.{Walk}
 use Rattle.predict.specs.Predict.{trackFrom, walkFrom, prediction, outcomeBy, outcome, Forecast, tripOf, roadOver, startLook, directedOver, forecastOver}
 use Rattle.predict.specs.Predict.{predictOver}
@@ -414,7 +414,7 @@ module _ (In : TileKey → Type 0) (Never : Type 0) (origin-in : (key : TileKey)
     walk-of r good = record { grid = good .grid; need = good .need }
 
     ended-in : (r : Run S) (ending : Ending) → RunIn r → NeedIn ending
-        → RunIn (runOf rd trip budget (stopped (r .visited) (r .met) (r .walk) ending) (r .track) (r .carried) (r .heights))
+        → RunIn (runOf (stopped (r .visited) (r .met) (r .walk) ending) (r .track) (r .carried) (r .heights))
     ended-in r ending good need =
         let w = end-in (r .walk) ending (walk-of r good) need in record { grid = w .grid; need = w .need; filled = good .filled }
 
@@ -526,16 +526,10 @@ road-not-stale at never n h m horizon samples behind e =
 
 -- ---- the tile of each edge
 
--- a road before its first edge, as `roadOver` begins it
+-- a road before its first edge
 abbrev pub begunOf : {S : Type 0} → Matched → Leg → Point → S → List ℤ → Run S
-begunOf m leg here s samples = record {
-  walk = walkFrom m leg;
-  track = trackFrom here (pushed noMark samples (whole 0) (pos 0) .mark);
-  visited = nothingVisited;
-  met = nothingMet;
-  carried = s;
-  heights = pushed noMark samples (whole 0) (pos 0) .heights;
-}
+begunOf m leg here s samples =
+    let p = pushed noMark samples (whole 0) (pos 0) in begun (walkFrom m leg) (trackFrom here (p .mark)) s (p .heights)
 
 -- of a road from a start in the grid, after each of its edges
 pub road-grid : {S : Type 0} (rd : Reader S) (trip : Trip) (room : ℕ) (m : Matched) (leg : Leg) (here : Point) (s : S) (samples : List ℤ)

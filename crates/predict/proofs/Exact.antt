@@ -404,7 +404,7 @@ module _ {S : Type 0} (rd : Reader S) (octets : Octets rd) (trip : Trip) (budget
           (record { track = k; heights = hs }) near
 
       by : (t : Bool)
-          → RunNear (cond t (reachedRun rd trip budget o (a .track) s (a .heights)) (crossedRun rd trip budget o (a .track) s bs (a .heights)))
+          → RunNear (cond t (reachedRun o (a .track) s (a .heights)) (crossedRun rd trip budget o (a .track) s bs (a .heights)))
       by true = after
       by false = after
 
@@ -421,7 +421,7 @@ module _ {S : Type 0} (rd : Reader S) (octets : Octets rd) (trip : Trip) (budget
       s : S
       s = rd .found (r .carried) (r .walk .way .tile)
 
-      by : (t : Bool) → RunNear (cond t (driven rd trip budget o (r .track) s bs (r .heights)) (runOf rd trip budget o (r .track) s (r .heights)))
+      by : (t : Bool) → RunNear (cond t (driven rd trip budget o (r .track) s bs (r .heights)) (runOf o (r .track) s (r .heights)))
       by true =
           driven-near o (r .track) s bs (r .heights) (octets (r .carried) (r .walk .way .tile) bs e)
           (subst (λ (x : Way). inGrid (trip .header) (x .tile) ≡ true)

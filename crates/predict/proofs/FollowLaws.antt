@@ -56,8 +56,8 @@ module _ (trip : Trip) (leg : Leg) (bs : List ℕ) (lonUm from : ℕ) (a : Along
 
 module _ {S : Type 0} (rd : Reader S) (trip : Trip) (budget : ℕ) (o : Onto) (k : Track) (s : S) (hs : List ℤ) where
   look-ended : (l : Look) → goesOn (enterLook l (o .visited) (o .met) (o .walk) budget .walk .ending) ≡ false
-      → edgeLook rd trip budget l (runOf rd trip budget o k s hs)
-      ≡ runOf rd trip budget (enterLook l (o .visited) (o .met) (o .walk) budget) k (carriedBy l rd s (o .walk .way .tile)) hs
+      → edgeLook rd trip budget l (runOf o k s hs)
+      ≡ runOf (enterLook l (o .visited) (o .met) (o .walk) budget) k (carriedBy l rd s (o .walk .way .tile)) hs
   look-ended (ready bs) e = rw e
   look-ended missing e = refl
   look-ended absent e = refl
@@ -65,7 +65,7 @@ module _ {S : Type 0} (rd : Reader S) (trip : Trip) (budget : ℕ) (o : Onto) (k
 
   -- on an edge whose tile was answered in pages
   look-going : (arena : List ℕ) (l : Lookup) → goesOn (enterLook (inBytes l arena) (o .visited) (o .met) (o .walk) budget .walk .ending) ≡ true
-      → edgeLook rd trip budget (inBytes l arena) (runOf rd trip budget o k s hs)
+      → edgeLook rd trip budget (inBytes l arena) (runOf o k s hs)
       ≡ driven rd trip budget (enterLook (inBytes l arena) (o .visited) (o .met) (o .walk) budget) k (rd .found s (o .walk .way .tile))
       (bytesOf arena (firstOf l) (lenOf l)) hs
   unfolding withEnding
@@ -84,9 +84,6 @@ module _ (arena : List ℕ) (trip : Trip) (budget : ℕ) where
   abbrev rd : Reader (List ℕ)
   rd = inLooks arena (trip .header .tile)
 
-  abbrev pub run : Onto → Track → List ℕ → List ℤ → Run (List ℕ)
-  run o k looks hs = runOf rd trip budget o k looks hs
-
   module _ (o : Onto) (k : Track) (looks : List ℕ) (hs : List ℤ) where
     abbrev hit : Hit
     hit = lookUp looks arena (trip .header .tile) (o .walk .way .tile)
@@ -98,12 +95,12 @@ module _ (arena : List ℕ) (trip : Trip) (budget : ℕ) where
         (record { entered = record { walk = o .walk; first = 0; len = 0 }; looks = looks; visited = o .visited; met = o .met })
 
     abbrev stepBy : Bool → Run (List ℕ)
-    stepBy b = cond b (edgeLook rd trip budget (rd .at looks (o .walk .way .tile)) (run o k looks hs)) (run o k looks hs)
+    stepBy b = cond b (edgeLook rd trip budget (rd .at looks (o .walk .way .tile)) (runOf o k looks hs)) (runOf o k looks hs)
 
-    by-ended : (b : Bool) → goesOn (enterBy b .entered .walk .ending) ≡ false → stepBy b ≡ run (ontoOf (enterBy b)) k (enterBy b .looks) hs
+    by-ended : (b : Bool) → goesOn (enterBy b .entered .walk .ending) ≡ false → stepBy b ≡ runOf (ontoOf (enterBy b)) k (enterBy b .looks) hs
     by-ended true e =
         look-ended rd trip budget o k looks hs (rd .at looks (o .walk .way .tile)) e
-        ∙ ap (λ (x : List ℕ). run (ontoOf (enterBy true)) k x hs) (look-carried looks arena (trip .header .tile) (o .walk .way .tile))
+        ∙ ap (λ (x : List ℕ). runOf (ontoOf (enterBy true)) k x hs) (look-carried looks arena (trip .header .tile) (o .walk .way .tile))
     by-ended false e = refl
 
     by-going : (b : Bool) → goesOn (o .walk .ending) ≡ b → goesOn (enterBy b .entered .walk .ending) ≡ true
@@ -112,12 +109,12 @@ module _ (arena : List ℕ) (trip : Trip) (budget : ℕ) where
     by-going false f e = absurd (true≢false (sym e ∙ f))
 
     module _ (e : Entering) (came : e ≡ enter looks (o .visited) (o .met) (o .walk) arena (trip .header .tile) budget) where
-      pub step-ended : goesOn (e .entered .walk .ending) ≡ false → edgeStep rd trip budget (run o k looks hs) ≡ run (ontoOf e) k (e .looks) hs
+      pub step-ended : goesOn (e .entered .walk .ending) ≡ false → edgeStep rd trip budget (runOf o k looks hs) ≡ runOf (ontoOf e) k (e .looks) hs
       unfolding enter
       step-ended ends = rw came (by-ended (goesOn (o .walk .ending)) (rw came at ends))
 
       step-going : goesOn (e .entered .walk .ending) ≡ true
-          → edgeStep rd trip budget (run o k looks hs)
+          → edgeStep rd trip budget (runOf o k looks hs)
           ≡ driven rd trip budget (ontoOf e) k (e .looks) (bytesOf arena (e .entered .first) (e .entered .len)) hs
       unfolding enter
       step-going goes = rw came (by-going (goesOn (o .walk .ending)) refl (rw came at goes))
@@ -132,25 +129,25 @@ module _ (arena : List ℕ) (trip : Trip) (budget : ℕ) where
 
           drive-by : (t : Bool) → b .track .over ≡ t
               → drivenTo rd trip budget (ontoOf e) (e .looks) bs b
-              ≡ cond t (reachedRun rd trip budget (ontoOf e) (b .track) (e .looks) (b .heights))
+              ≡ cond t (reachedRun (ontoOf e) (b .track) (e .looks) (b .heights))
               (crossedRun rd trip budget (ontoOf e) (b .track) (e .looks) bs (b .heights))
           drive-by t over =
-              ap (λ (x : Bool). cond x (reachedRun rd trip budget (ontoOf e) (b .track) (e .looks) (b .heights))
+              ap (λ (x : Bool). cond x (reachedRun (ontoOf e) (b .track) (e .looks) (b .heights))
               (crossedRun rd trip budget (ontoOf e) (b .track) (e .looks) bs (b .heights))) over
 
-          step-driven : edgeStep rd trip budget (run o k looks hs) ≡ drivenTo rd trip budget (ontoOf e) (e .looks) bs b
+          step-driven : edgeStep rd trip budget (runOf o k looks hs) ≡ drivenTo rd trip budget (ontoOf e) (e .looks) bs b
           step-driven = step-going goes ∙ rw (← read, along-is)
 
           pub step-over : (m : Walk) → m ≡ reached (e .entered .walk) → b .track .over ≡ true
-              → edgeStep rd trip budget (run o k looks hs)
-              ≡ run (record { walk = m; visited = e .visited; met = e .met }) (b .track) (e .looks) (b .heights)
+              → edgeStep rd trip budget (runOf o k looks hs)
+              ≡ runOf (record { walk = m; visited = e .visited; met = e .met }) (b .track) (e .looks) (b .heights)
           step-over m ends over = step-driven ∙ drive-by true over ∙ rw ends
 
           pub step-on : (x : Stride (List ℕ))
               → x ≡ crossed (e .looks) (e .visited) arena (trip .header) (e .entered .walk) (b .track) bs leg
               → b .track .over ≡ false
-              → edgeStep rd trip budget (run o k looks hs)
-              ≡ run (record { walk = x .walk; visited = e .visited; met = e .met }) (b .track) (x .carried) (b .heights)
+              → edgeStep rd trip budget (runOf o k looks hs)
+              ≡ runOf (record { walk = x .walk; visited = e .visited; met = e .met }) (b .track) (x .carried) (b .heights)
           unfolding crossed
           step-on x crosses on = step-driven ∙ drive-by false on ∙ rw (crosses, legs)
 
@@ -165,7 +162,7 @@ module _ (arena : List ℕ) (trip : Trip) (budget : ℕ) where
         walk-on ∙ sym (walk-stays rd trip budget start (n + 1) 2000 (ap (λ (r : Run (List ℕ)). goesOn (r .walk .ending)) (sym walk-on) ∙ ends) (omega arith))
 
   -- what the code gives back
-  pub follow-is : (o : Onto) (k : Track) (looks : List ℕ) (hs : List ℤ) (y : Run (List ℕ)) → y ≡ walkTo rd trip budget (run o k looks hs) 2000
+  pub follow-is : (o : Onto) (k : Track) (looks : List ℕ) (hs : List ℤ) (y : Run (List ℕ)) → y ≡ walkTo rd trip budget (runOf o k looks hs) 2000
       → (_≡_ {A = Followed} (record { walk = y .walk; track = y .track }) (followed (follow looks (o .visited) (o .met) arena trip budget (o .walk) k hs)))
       × ((y .carried ≡ follow looks (o .visited) (o .met) arena trip budget (o .walk) k hs .carried)
       × ((y .visited ≡ follow looks (o .visited) (o .met) arena trip budget (o .walk) k hs .visited)

@@ -11,7 +11,8 @@ use Rattle.pack.specs.declared.TileKey.{TileKey}
 use Rattle.cache.specs.declared.Cache.{Cache}
 use Rattle.cache.specs.Direct.{ready, look, looked}
 use Rattle.cache.specs.Ages.{lookupsOf}
-use Rattle.cache.specs.Reader.{plain, inLooks, Sized, Stands}
+use Rattle.cache.specs.Reader.{plain, inLooks}
+use Rattle.cache.specs.Stands.{Sized, Stands}
 use Rattle.cache.proofs.ReaderLaws.{stands-start, stands-at, stands-found}
 use Rattle.matcher.specs.declared.Forward.the-variants as Forward
 use Rattle.matcher.specs.declared.Matched.{Matched}

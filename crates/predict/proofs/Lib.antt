@@ -22,14 +22,12 @@ pub mod BackLaws
 pub mod CrossLaws
 pub mod ForkLaws
 -- Laws of a walk, for its proofs and for callers to cite. Arms: what an arm of several variants knows. FollowLaws: the turns of `follow`.
--- NumberLaws: two edges or tiles of one number are the same. Looks: the lookups of the cache. WalkLaws: its edges one by one, by two readers,
--- and by two looks that agree.
+-- Looks: the lookups by the numbers. WalkLaws: its edges one by one, by two readers, and by two looks that agree.
 pub mod Arms
-pub mod NumberLaws
 pub mod FollowLaws
 pub mod Looks
 pub mod WalkLaws
--- Laws of the road ahead, for its proofs and for callers to cite. RoadLaws: by two readers, in the cache, and by two looks that agree.
+-- Laws of the road ahead, for its proofs and for callers to cite. RoadLaws: by two readers, and by two looks that agree.
 -- InCache: what the code answers. Literals: the figure that the code writes. Exact: what is held to 32 bits is never reached.
 pub mod RoadLaws
 pub mod InCache

@@ -123,7 +123,7 @@ module _ {S T : Type 0} (rd : Reader S) (rd' : Reader T) (R : S → T → Type 0
 
       -- what is carried alone differs
       run-simulates : (o : Onto) (k : Track) (s : S) (t : T) → R s t → (hs : List ℤ)
-          → AlikeRun R (runOf rd trip budget o k s hs) (runOf rd' trip budget o k t hs)
+          → AlikeRun R (runOf o k s hs) (runOf o k t hs)
       run-simulates o k s t h hs = record { walk = refl; track = refl; visited = refl; met = refl; heights = refl; carried = h }
 
       driven-simulates : (o : Onto) (s : S) (t : T) → R s t → (bs : List ℕ) (a : Along)
@@ -132,14 +132,14 @@ module _ {S T : Type 0} (rd : Reader S) (rd' : Reader T) (R : S → T → Type 0
         where
           by : (over : Bool)
               → AlikeRun R
-              (cond over (reachedRun rd trip budget o (a .track) s (a .heights)) (crossedRun rd trip budget o (a .track) s bs (a .heights)))
-              (cond over (reachedRun rd' trip budget o (a .track) t (a .heights)) (crossedRun rd' trip budget o (a .track) t bs (a .heights)))
+              (cond over (reachedRun o (a .track) s (a .heights)) (crossedRun rd trip budget o (a .track) s bs (a .heights)))
+              (cond over (reachedRun o (a .track) t (a .heights)) (crossedRun rd' trip budget o (a .track) t bs (a .heights)))
           by true = record { walk = refl; track = refl; visited = refl; met = refl; heights = refl; carried = h }
           by false = crossing-simulates o (a .track) s t h bs (a .heights)
 
       -- from the same walk, with the same behind it
       edge-simulates : (o : Onto) (k : Track) (hs : List ℤ) (s : S) (t : T) → R s t → (l : Look) → rd .at s (o .walk .way .tile) ≡ l
-          → AlikeRun R (edgeLook rd trip budget l (runOf rd trip budget o k s hs)) (edgeLook rd' trip budget l (runOf rd' trip budget o k t hs))
+          → AlikeRun R (edgeLook rd trip budget l (runOf o k s hs)) (edgeLook rd' trip budget l (runOf o k t hs))
       edge-simulates o k hs s t h (ready bs) e =
           by (enterLook (ready bs) (o .visited) (o .met) (o .walk) budget)
           (goesOn (enterLook (ready bs) (o .visited) (o .met) (o .walk) budget .walk .ending)) (found s t (o .walk .way .tile) bs h e)
@@ -147,9 +147,9 @@ module _ {S T : Type 0} (rd : Reader S) (rd' : Reader T) (R : S → T → Type 0
           by : (x : Onto) (goes : Bool) → R (rd .found s (o .walk .way .tile)) (rd' .found t (o .walk .way .tile))
               → AlikeRun R
               (cond goes (driven rd trip budget x k (rd .found s (o .walk .way .tile)) bs hs)
-              (runOf rd trip budget x k (rd .found s (o .walk .way .tile)) hs))
+              (runOf x k (rd .found s (o .walk .way .tile)) hs))
               (cond goes (driven rd' trip budget x k (rd' .found t (o .walk .way .tile)) bs hs)
-              (runOf rd' trip budget x k (rd' .found t (o .walk .way .tile)) hs))
+              (runOf x k (rd' .found t (o .walk .way .tile)) hs))
           by x true h =
               driven-simulates x (rd .found s (o .walk .way .tile)) (rd' .found t (o .walk .way .tile)) h bs (along trip (x .walk) k bs hs)
           by x false h = run-simulates x k (rd .found s (o .walk .way .tile)) (rd' .found t (o .walk .way .tile)) h hs
@@ -161,13 +161,13 @@ module _ {S T : Type 0} (rd : Reader S) (rd' : Reader T) (R : S → T → Type 0
           run-simulates (enterLook stale (o .visited) (o .met) (o .walk) budget) k s t h hs
 
       same-simulates : (o : Onto) (k : Track) (hs : List ℤ) (s : S) (t : T) → R s t
-          → AlikeRun R (edgeStep rd trip budget (runOf rd trip budget o k s hs)) (edgeStep rd' trip budget (runOf rd' trip budget o k t hs))
+          → AlikeRun R (edgeStep rd trip budget (runOf o k s hs)) (edgeStep rd' trip budget (runOf o k t hs))
       same-simulates o k hs s t h = rw (at s t (o .walk .way .tile) h) (by (goesOn (o .walk .ending)))
         where
           by : (goes : Bool)
               → AlikeRun R
-              (cond goes (edgeLook rd trip budget (rd .at s (o .walk .way .tile)) (runOf rd trip budget o k s hs)) (runOf rd trip budget o k s hs))
-              (cond goes (edgeLook rd' trip budget (rd .at s (o .walk .way .tile)) (runOf rd' trip budget o k t hs)) (runOf rd' trip budget o k t hs))
+              (cond goes (edgeLook rd trip budget (rd .at s (o .walk .way .tile)) (runOf o k s hs)) (runOf o k s hs))
+              (cond goes (edgeLook rd' trip budget (rd .at s (o .walk .way .tile)) (runOf o k t hs)) (runOf o k t hs))
           by true = edge-simulates o k hs s t h (rd .at s (o .walk .way .tile)) refl
           by false = run-simulates o k s t h hs
 
@@ -249,7 +249,7 @@ module _ (one two : TileKey → Look) (agree : Agree one two) where
     driven-agrees o s bs a e = by (a .track .over) e
       where
         over : Run (List TileKey)
-        over = reachedRun (plain one) trip budget o (a .track) s (a .heights)
+        over = reachedRun o (a .track) s (a .heights)
 
         by : (t : Bool)
             → isSettled (cond t over (crossedRun (plain one) trip budget o (a .track) s bs (a .heights)) .walk .ending) ≡ true
@@ -273,9 +273,9 @@ module _ (one two : TileKey → Look) (agree : Agree one two) where
 
         by : (o : Onto) (goes : Bool)
             → isSettled (cond goes (driven (plain one) trip budget o (r .track) s bs (r .heights))
-            (runOf (plain one) trip budget o (r .track) s (r .heights)) .walk .ending) ≡ true
-            → cond goes (driven (plain two) trip budget o (r .track) s bs (r .heights)) (runOf (plain two) trip budget o (r .track) s (r .heights))
-            ≡ cond goes (driven (plain one) trip budget o (r .track) s bs (r .heights)) (runOf (plain one) trip budget o (r .track) s (r .heights))
+            (runOf o (r .track) s (r .heights)) .walk .ending) ≡ true
+            → cond goes (driven (plain two) trip budget o (r .track) s bs (r .heights)) (runOf o (r .track) s (r .heights))
+            ≡ cond goes (driven (plain one) trip budget o (r .track) s bs (r .heights)) (runOf o (r .track) s (r .heights))
         by o true e = driven-agrees o s bs (along trip (o .walk) (r .track) bs (r .heights)) e
         by o false e = refl
     edge-agrees missing q same r e = absurd (true≢false (sym e))

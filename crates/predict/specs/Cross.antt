@@ -3,13 +3,12 @@
 -- any reader.
 use Prim.Native.Nat.{ℕ}
 use mathlib.Core.Bool.{Bool, true, false, cond}
-use mathlib.Core.List.{List, []}
+use mathlib.Core.List.{List}
 use lib.Dec.{ltb}
 use lib.IntN.{ℤ, pos, _+ℤ_}
 use lib.ListN.{getD}
 use Rattle.num.specs.Fold.{upTo}
 use Rattle.pack.specs.Grid.{checkedOf}
-use Rattle.pack.specs.declared.Header.{Header}
 use Rattle.pack.specs.declared.TileKey.{TileKey}
 use Rattle.pack.specs.declared.Keyed.{Keyed}
 use Rattle.pack.specs.declared.Keyed.the-variants as Keyed
@@ -96,13 +95,18 @@ crossing x = record { choices = x .choices; blocked = x .blocked; ending = x .en
 abbrev pub waysOf : Crossing → List ℕ → Ways (List ℕ)
 waysOf x s = record { choices = x .choices; blocked = x .blocked; ending = x .ending; carried = s }
 
-abbrev pub endedSo : Crossing → Ending → Crossing
-endedSo x ending = record { choices = x .choices; blocked = x .blocked; ending = ending }
+abbrev pub endedBy : Crossing → Ending → Crossing
+endedBy x ending = record { choices = x .choices; blocked = x .blocked; ending = ending }
 
--- by the answer of a lookup: what `twinLook` gives at the bytes of that answer, but for what is carried
+-- by the answer of a lookup: what `twinLook` gives, but for what is carried
+abbrev pub foundBy : Look → Crossing → Arrival → List ℕ → TileKey → Twin → Crossing
+foundBy (ready bs) x a v key twin = record { choices = considerAt (x .choices) a v bs key twin; blocked = x .blocked; ending = x .ending }
+foundBy missing x a v key twin = record { choices = x .choices; blocked = true; ending = x .ending }
+foundBy absent x a v key twin = endedBy x (Ending.Need key)
+foundBy stale x a v key twin = endedBy x Ending.Stale
+
 abbrev pub twinFound : Crossing → Lookup → List ℕ → Arrival → List ℕ → TileKey → Twin → Crossing
-twinFound x answer arena a v key twin =
-    crossing (twinLook (inLooks arena (a .header .tile)) a v (inBytes answer arena) (waysOf x []) key twin)
+twinFound x answer arena a v key twin = foundBy (inBytes answer arena) x a v key twin
 
 module _ (x : Crossing) (arena : List ℕ) (a : Arrival) (v : List ℕ) (s : List ℕ) (twin : Twin) where
   unfoldable pub twinStep : Ways (List ℕ)

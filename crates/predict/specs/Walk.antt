@@ -2,9 +2,9 @@
 -- once, over any reader: `walkTo` knows no cache, and the direct engine shares it. `follow` is it at the code's lookups. A tile that is not
 -- loaded ends the walk with its key, one that no longer passes with 12; a missing tile of an edge that is taken ends it with its key too, as in
 -- the Rust.
-use Prim.Native.Nat.{ℕ, _+_, _-_, _%_}
+use Prim.Native.Nat.{ℕ, _%_}
 use mathlib.Core.Bool.{Bool, true, false, cond}
-use mathlib.Core.List.{List, []}
+use mathlib.Core.List.{List}
 use lib.IntN.{ℤ}
 use lib.Ieee.{Float}
 use lib.ListN.{length}
@@ -234,17 +234,21 @@ unfoldable pub along : Trip → Walk → Track → List ℕ → List ℤ → Alo
 along trip w t bs hs =
     toEnd trip (legOf (trip .header) (w .way) bs) bs (Layout.headOf bs .«lon_um») (w .from) (record { track = t; heights = hs })
 
-module _ {S : Type 0} (rd : Reader S) (trip : Trip) (budget : ℕ) where
-  abbrev pub runOf : Onto → Track → S → List ℤ → Run S
-  runOf o t s hs = record { walk = o .walk; track = t; visited = o .visited; met = o .met; carried = s; heights = hs }
+abbrev pub runOf : {S : Type 0} → Onto → Track → S → List ℤ → Run S
+runOf o t s hs = record { walk = o .walk; track = t; visited = o .visited; met = o .met; carried = s; heights = hs }
 
+abbrev pub reachedRun : {S : Type 0} → Onto → Track → S → List ℤ → Run S
+reachedRun o t s hs = record { walk = reached (o .walk); track = t; visited = o .visited; met = o .met; carried = s; heights = hs }
+
+-- before the first edge no edge was followed and no tile met
+abbrev pub begun : {S : Type 0} → Walk → Track → S → List ℤ → Run S
+begun w t s hs = record { walk = w; track = t; visited = nothingVisited; met = nothingMet; carried = s; heights = hs }
+
+module _ {S : Type 0} (rd : Reader S) (trip : Trip) (budget : ℕ) where
   abbrev pub crossedRun : Onto → Track → S → List ℕ → List ℤ → Run S
   crossedRun o t s bs hs =
       let x = crossedOver rd (trip .header) (o .visited) (o .walk) t s bs (legOf (trip .header) (o .walk .way) bs) in
       record { walk = x .walk; track = t; visited = o .visited; met = o .met; carried = x .carried; heights = hs }
-
-  abbrev pub reachedRun : Onto → Track → S → List ℤ → Run S
-  reachedRun o t s hs = record { walk = reached (o .walk); track = t; visited = o .visited; met = o .met; carried = s; heights = hs }
 
   -- over at the horizon, else on from the junction
   abbrev pub drivenTo : Onto → S → List ℕ → Along → Run S
@@ -271,9 +275,8 @@ module _ {S : Type 0} (rd : Reader S) (trip : Trip) (budget : ℕ) where
   unfoldable pub walkTo : Run S → ℕ → Run S
   walkTo r n = upTo (λ (x : Run S) (i : ℕ). edgeStep x) r n
 
-  -- from no edge and no tile
   abbrev pub walkOver : Walk → Track → S → List ℤ → Run S
-  walkOver w t s hs = walkTo (record { walk = w; track = t; visited = nothingVisited; met = nothingMet; carried = s; heights = hs }) 2000
+  walkOver w t s hs = walkTo (begun w t s hs) 2000
 
 -- ---- the code's
 
@@ -297,22 +300,20 @@ pub record Entering : Type 0 where
   pub visited : List ℕ
   pub met : List ℕ
 
-abbrev pub enteringOf : Onto → Lookup → List ℕ → Entering
-enteringOf o answer looks = record {
-  entered = record { walk = o .walk; first = firstOf answer; len = lenOf answer };
-  looks = looks;
-  visited = o .visited;
-  met = o .met;
-}
+-- by the answer of a lookup
+abbrev pub enteredAt : Onto → Lookup → Entered
+enteredAt o answer = record { walk = o .walk; first = firstOf answer; len = lenOf answer }
 
--- by the answer of a lookup, but for the numbers of lookups
-abbrev pub enteredBy : List ℕ → List ℕ → Walk → Lookup → List ℕ → ℕ → Entering
-enteredBy v m w answer arena budget = enteringOf (enterLook (inBytes answer arena) v m w budget) answer []
+abbrev pub enteredBy : List ℕ → List ℕ → Walk → Lookup → List ℕ → ℕ → Onto
+enteredBy v m w answer arena budget = enterLook (inBytes answer arena) v m w budget
+
+abbrev pub enteringOf : Onto → Lookup → List ℕ → Entering
+enteringOf o answer looks = record { entered = enteredAt o answer; looks = looks; visited = o .visited; met = o .met }
 
 unfoldable pub enter : List ℕ → List ℕ → List ℕ → Walk → List ℕ → ℕ → ℕ → Entering
 enter looks v m w arena size budget =
     let hit = lookUp looks arena size (w .way .tile) in
-    cond (goesOn (w .ending)) (enteringOf (enterLook (inBytes (hit .answer) arena) v m w budget) (hit .answer) (hit .looks))
+    cond (goesOn (w .ending)) (enteringOf (enteredBy v m w (hit .answer) arena budget) (hit .answer) (hit .looks))
     (record { entered = record { walk = w; first = 0; len = 0 }; looks = looks; visited = v; met = m })
 
 abbrev pub nextBy : Walk → Lookup → List ℕ → Walk

@@ -40,7 +40,7 @@ fn choice_of(a: Arrival, bytes: &[u8], key: TileKey, entry: Incident) -> Choice
 // Whether an edge at the node is a way on: not the one the walk came by, no oneway against its direction, none followed before.
 fn is_way_on(
     a: Arrival,
-    visited: &[u64; crate::VISITED + 1],
+    visited: &[u32; crate::VISITED],
     bytes: &[u8],
     key: TileKey,
     entry: Incident,
@@ -67,7 +67,7 @@ fn is_way_on(
 fn consider_step(
     c: Choices,
     a: Arrival,
-    visited: &[u64; crate::VISITED + 1],
+    visited: &[u32; crate::VISITED],
     bytes: &[u8],
     key: TileKey,
     entry: Incident,
@@ -85,7 +85,7 @@ fn consider_step(
 pub(crate) fn consider(
     c: Choices,
     a: Arrival,
-    visited: &[u64; crate::VISITED + 1],
+    visited: &[u32; crate::VISITED],
     bytes: &[u8],
     key: TileKey,
     node: u16,

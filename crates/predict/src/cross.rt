@@ -20,7 +20,7 @@ ghost use Rattle.predict.specs.Cross as Cross;
 fn consider_at(
     c: Choices,
     a: Arrival,
-    visited: &[u64; crate::VISITED + 1],
+    visited: &[u32; crate::VISITED],
     bytes: &[u8],
     key: TileKey,
     twin: Twin,
@@ -35,7 +35,7 @@ fn consider_at(
 
 // The lookups end here.
 fn ended(x: Crossing, ending: Ending) -> Crossing
-    ensures { λ r. ⌜ r ≡ Cross.endedSo x ending ⌝ }
+    ensures { λ r. ⌜ r ≡ Cross.endedBy x ending ⌝ }
 {
     let choices = x.choices;
     Crossing {
@@ -51,7 +51,7 @@ fn twin_found(
     answer: Lookup,
     arena: &[u8],
     a: Arrival,
-    visited: &[u64; crate::VISITED + 1],
+    visited: &[u32; crate::VISITED],
     key: TileKey,
     twin: Twin,
 ) -> Crossing
@@ -108,7 +108,7 @@ fn twin_step(
     x: Crossing,
     arena: &[u8],
     a: Arrival,
-    visited: &[u64; crate::VISITED + 1],
+    visited: &[u32; crate::VISITED],
     looks: &mut [u32; cache::ages::LOOKUPS],
     twin: Twin,
 ) -> Crossing
@@ -135,7 +135,7 @@ fn cross_step(
     x: Crossing,
     arena: &[u8],
     a: Arrival,
-    visited: &[u64; crate::VISITED + 1],
+    visited: &[u32; crate::VISITED],
     looks: &mut [u32; cache::ages::LOOKUPS],
     twin: Twin,
     i: usize,
@@ -160,7 +160,7 @@ fn cross_step(
 pub(crate) fn cross(
     arena: &[u8],
     a: Arrival,
-    visited: &[u64; crate::VISITED + 1],
+    visited: &[u32; crate::VISITED],
     looks: &mut [u32; cache::ages::LOOKUPS],
     choices: Choices,
     twins: TwinList,
@@ -175,7 +175,7 @@ pub(crate) fn cross(
     };
     let mut i = 0;
     while i < 8 {
-        // No tile is left, and the state is not copied for the rest.
+        // No tile is left.
         if twins.len <= i {
             return x;
         }

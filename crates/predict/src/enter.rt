@@ -36,8 +36,8 @@ fn on_edge(
     w: Walk,
     budget: usize,
     pages: usize,
-    visited: &mut [u64; crate::VISITED + 1],
-    met: &mut [u64; crate::MAX_TILES + 2],
+    visited: &mut [u32; crate::VISITED],
+    met: &mut [u64; crate::MET],
 ) -> Walk
     ensures { λ r. ⌜ r ≡ Walks.entered (now (visited .entry)) (now (met .entry)) w budget pages .walk ⌝ }
     ensures { λ r. ⌜ now (visited .exit) ≡ Walks.entered (now (visited .entry)) (now (met .entry)) w budget pages .visited ⌝ }
@@ -58,10 +58,10 @@ fn entered_by(
     answer: Lookup,
     arena: &[u8],
     budget: usize,
-    visited: &mut [u64; crate::VISITED + 1],
-    met: &mut [u64; crate::MAX_TILES + 2],
+    visited: &mut [u32; crate::VISITED],
+    met: &mut [u64; crate::MET],
 ) -> Entered
-    ensures { λ r. ⌜ r ≡ Walks.enteredBy (now (visited .entry)) (now (met .entry)) w answer (now (arena .entry)) budget .entered ⌝ }
+    ensures { λ r. ⌜ r ≡ Walks.enteredAt (Walks.enteredBy (now (visited .entry)) (now (met .entry)) w answer (now (arena .entry)) budget) answer ⌝ }
     ensures { λ r. ⌜ now (visited .exit) ≡ Walks.enteredBy (now (visited .entry)) (now (met .entry)) w answer (now (arena .entry)) budget .visited ⌝ }
     ensures { λ r. ⌜ now (met .exit) ≡ Walks.enteredBy (now (visited .entry)) (now (met .entry)) w answer (now (arena .entry)) budget .met ⌝ }
 {
@@ -99,8 +99,8 @@ pub(crate) fn enter(
     size: u32,
     budget: usize,
     looks: &mut [u32; cache::ages::LOOKUPS],
-    visited: &mut [u64; crate::VISITED + 1],
-    met: &mut [u64; crate::MAX_TILES + 2],
+    visited: &mut [u32; crate::VISITED],
+    met: &mut [u64; crate::MET],
 ) -> Entered
     ensures { λ r. ⌜ r ≡ Walks.enter (now (looks .entry)) (now (visited .entry)) (now (met .entry)) w (now (arena .entry)) size budget .entered ⌝ }
     ensures { λ r. ⌜ now (looks .exit) ≡ Walks.enter (now (looks .entry)) (now (visited .entry)) (now (met .entry)) w (now (arena .entry)) size budget .looks ⌝ }

@@ -49,8 +49,8 @@ pub(crate) fn follow(
     trip: Trip,
     budget: usize,
     looks: &mut [u32; cache::ages::LOOKUPS],
-    visited: &mut [u64; crate::VISITED + 1],
-    met: &mut [u64; crate::MAX_TILES + 2],
+    visited: &mut [u32; crate::VISITED],
+    met: &mut [u64; crate::MET],
     heights: &mut [i16],
 ) -> Followed
     ensures { λ r. ⌜ r ≡ Walks.followed (Walks.follow (now (looks .entry)) (now (visited .entry)) (now (met .entry)) (now (arena .entry)) trip budget start first (now (heights .entry))) ⌝ }

@@ -113,11 +113,11 @@ pub enum Ending {
     Stale,
 }
 
-// The edges followed last that are kept, each as a number above 0; the place that the next one takes stands behind them.
-pub const VISITED: usize = 128;
+// The numbers that the edges followed last take (`visits`).
+pub(crate) const VISITED: usize = 385;
 
-// The tiles that a road may touch, each as a number above 0; how many they are, and the pages that they take, stand behind them.
-pub const MAX_TILES: usize = 96;
+// The numbers that the tiles met take (`meets`).
+pub(crate) const MET: usize = 194;
 
 // How the walk comes to a junction: the way it came by, the heading that turns are judged by, and the road that it follows.
 pub struct Arrival {

@@ -1,6 +1,7 @@
 // The tiles that the road touches, and the room that they take.
 use pack::TileKey;
 ghost use mathlib.Core.Path.{_≡_};
+ghost use Prim.Native.Nat.{_<_};
 ghost use Rattle.predict.specs.Meets as Meets;
 
 // The pages that a road may take: all but room for two of the largest tiles, and at least one.
@@ -13,24 +14,27 @@ pub(crate) fn budget(count: usize) -> usize
     count - 12
 }
 
-// A tile as one number above 0.
-fn number_of(key: TileKey) -> u64
-    ensures { λ r. ⌜ r ≡ Meets.numberOf key ⌝ }
+// Whether the tile at a place is this one.
+fn is_met(met: &[u64; crate::MET], i: usize, key: TileKey) -> bool
+    requires { ⌜ i < 96 ⌝ }
+    ensures { λ r. ⌜ r ≡ Meets.isMet (now (met .entry)) i key ⌝ }
 {
-    (key.row as u64) * 65536 + (key.col as u64) + 1
+    if met[i] != (key.row as u64) + 1 {
+        return false;
+    }
+    met[96 + i] == key.col as u64
 }
 
-fn has_met(met: &[u64; crate::MAX_TILES + 2], key: TileKey) -> bool
+fn has_met(met: &[u64; crate::MET], key: TileKey) -> bool
     ensures { λ r. ⌜ r ≡ Meets.hasMet (now (met .entry)) key ⌝ }
 {
-    let number = number_of(key);
-    let n = met[96] as usize;
+    let n = met[192] as usize;
     let mut i = 0;
     while i < n {
-        if crate::MAX_TILES <= i {
+        if 96 <= i {
             return false;
         }
-        if met[i] == number {
+        if is_met(met, i, key) {
             return true;
         }
         i += 1;
@@ -39,13 +43,13 @@ fn has_met(met: &[u64; crate::MAX_TILES + 2], key: TileKey) -> bool
 }
 
 // Whether another tile has room.
-fn has_room(met: &[u64; crate::MAX_TILES + 2], pages: usize, budget: usize) -> bool
+fn has_room(met: &[u64; crate::MET], pages: usize, budget: usize) -> bool
     ensures { λ r. ⌜ r ≡ Meets.hasRoom (now (met .entry)) pages budget ⌝ }
 {
-    if 96 <= met[96] {
+    if 96 <= met[192] {
         return false;
     }
-    let taken = met[97] as usize;
+    let taken = met[193] as usize;
     if budget < taken {
         return false;
     }
@@ -53,12 +57,7 @@ fn has_room(met: &[u64; crate::MAX_TILES + 2], pages: usize, budget: usize) -> b
 }
 
 // A tile of so many pages, once; whether it has room.
-pub(crate) fn meet(
-    met: &mut [u64; crate::MAX_TILES + 2],
-    budget: usize,
-    key: TileKey,
-    pages: usize,
-) -> bool
+pub(crate) fn meet(met: &mut [u64; crate::MET], budget: usize, key: TileKey, pages: usize) -> bool
     ensures { λ r. ⌜ r ≡ Meets.meet (now (met .entry)) budget key pages .fits ⌝ }
     ensures { λ r. ⌜ now (met .exit) ≡ Meets.meet (now (met .entry)) budget key pages .met ⌝ }
 {
@@ -68,9 +67,10 @@ pub(crate) fn meet(
     if !has_room(&*met, pages, budget) {
         return false;
     }
-    let at = met[96] as usize;
-    met[at] = number_of(key);
-    met[96] = (at + 1) as u64;
-    met[97] = met[97] + (pages as u64);
+    let at = met[192] as usize;
+    met[at] = (key.row as u64) + 1;
+    met[96 + at] = key.col as u64;
+    met[192] = (at + 1) as u64;
+    met[193] = met[193] + (pages as u64);
     true
 }

@@ -194,8 +194,8 @@ fn road_of(
     let leg = leg_of(header, start, edge, forward);
     let w = walk_from(start, leg);
     let t = track_from(here, mark);
-    let mut visited = [0u64; crate::VISITED + 1];
-    let mut met = [0u64; crate::MAX_TILES + 2];
+    let mut visited = [0u32; crate::VISITED];
+    let mut met = [0u64; crate::MET];
     let f = crate::follow::follow(
         w,
         t,

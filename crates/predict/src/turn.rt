@@ -185,7 +185,7 @@ pub(crate) fn crossed(
     arena: &[u8],
     header: Header,
     looks: &mut [u32; cache::ages::LOOKUPS],
-    visited: &[u64; crate::VISITED + 1],
+    visited: &[u32; crate::VISITED],
     bytes: &[u8],
     leg: Leg,
 ) -> Walk

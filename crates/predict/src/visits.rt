@@ -1,31 +1,40 @@
 // The edges followed last: none of them is followed again.
 use pack::TileKey;
 ghost use mathlib.Core.Path.{_≡_};
+ghost use Prim.Native.Nat.{_<_};
 ghost use Rattle.predict.specs.Visits as Visits;
 
-// An edge of a tile as one number above 0.
-fn number_of(key: TileKey, edge: u16) -> u64
-    ensures { λ r. ⌜ r ≡ Visits.numberOf key edge ⌝ }
-{
-    ((key.row as u64) * 65536 + (key.col as u64)) * 65536 + (edge as u64) + 1
-}
-
 // One edge more, in the place of the oldest once all are taken.
-pub(crate) fn visit(visited: &mut [u64; crate::VISITED + 1], key: TileKey, edge: u16)
+pub(crate) fn visit(visited: &mut [u32; crate::VISITED], key: TileKey, edge: u16)
     ensures { λ r. ⌜ now (visited .exit) ≡ Visits.visit (now (visited .entry)) key edge ⌝ }
 {
-    let at = (visited[128] % 128) as usize;
-    visited[at] = number_of(key, edge);
-    visited[128] = ((at + 1) % 128) as u64;
+    let at = (visited[384] % 128) as usize;
+    visited[at] = (edge as u32) + 1;
+    visited[128 + at] = key.row as u32;
+    visited[256 + at] = key.col as u32;
+    visited[384] = ((at + 1) % 128) as u32;
 }
 
-pub(crate) fn was_visited(visited: &[u64; crate::VISITED + 1], key: TileKey, edge: u16) -> bool
+// Whether the edge at a place is this one.
+fn is_followed(visited: &[u32; crate::VISITED], i: usize, key: TileKey, edge: u16) -> bool
+    requires { ⌜ i < 128 ⌝ }
+    ensures { λ r. ⌜ r ≡ Visits.isFollowed (now (visited .entry)) i key edge ⌝ }
+{
+    if visited[i] != (edge as u32) + 1 {
+        return false;
+    }
+    if visited[128 + i] != key.row as u32 {
+        return false;
+    }
+    visited[256 + i] == key.col as u32
+}
+
+pub(crate) fn was_visited(visited: &[u32; crate::VISITED], key: TileKey, edge: u16) -> bool
     ensures { λ r. ⌜ r ≡ Visits.wasVisited (now (visited .entry)) key edge ⌝ }
 {
-    let number = number_of(key, edge);
     let mut i = 0;
-    while i < crate::VISITED {
-        if visited[i] == number {
+    while i < 128 {
+        if is_followed(visited, i, key, edge) {
             return true;
         }
         i += 1;

@@ -25,8 +25,7 @@ use Rattle.matcher.specs.Score.{sameId}
 use Rattle.matcher.specs.declared.Forward.{Forward}
 use Rattle.matcher.specs.declared.Forward.the-variants as Forward
 use Rattle.matcher.specs.declared.Matched.{Matched}
-use Rattle.predict.specs.Visits.{nothingVisited}
-use Rattle.predict.specs.Meets.{nothingMet, budget}
+use Rattle.predict.specs.Meets.{budget}
 use Rattle.predict.specs.Outgoing.{lastOf}
 use Rattle.predict.specs.Start.{firstOf, place}
 use Rattle.predict.specs.Predict as Start
@@ -36,7 +35,7 @@ use Rattle.predict.specs.Samples.{Pushed, sampleAt, heightAt, pushFrom, pushed}
 use Rattle.predict.specs.Start.{startOk}
 use Rattle.predict.specs.Vertex as Vertex
 use Rattle.predict.specs.Vertex.{Along, stepOf, passed, advanced, vertexStep, vertices, toEnd}
-use Rattle.predict.specs.Walk.{Onto, entered, Run, goesOn, legOf, along, driven, edgeLook, edgeStep, walkTo, walkOver}
+use Rattle.predict.specs.Walk.{Onto, entered, Run, begun, goesOn, legOf, along, driven, edgeLook, edgeStep, walkTo, walkOver}
 use Rattle.predict.specs.declared.Ending.{Ending}
 use Rattle.predict.specs.declared.Ending.the-variants as Ending
 use Rattle.predict.specs.declared.Mark.{Mark}
@@ -219,7 +218,7 @@ module _ {S : Type 0} (rd : Reader S) (n a b : ℕ) (samples behind : List ℤ) 
       let leg : Leg = Start.legOf (trip .header) m e forward in
       let p : Pushed = pushed noMark samples (whole 0) (pos 0) in
       ends-typed trip horizon (walkOver rd trip (budget n) (walkFrom m leg) (trackFrom here (p .mark)) s (p .heights)) (ridden trip back-leg bs (Layout.headOf bs .«lon_um») m here behind)
-      (walk-typed rd trip horizon (budget n) a (record { walk = walkFrom m leg; track = trackFrom here (p .mark); visited = nothingVisited; met = nothingMet; carried = s; heights = p .heights })
+      (walk-typed rd trip horizon (budget n) a (begun (walkFrom m leg) (trackFrom here (p .mark)) s (p .heights))
       (record { heights = pushed-typed a noMark samples (whole 0) (pos 0) ahead; distance = single-whole 0 }) 2000)
       (ridden-typed b trip back-leg bs (Layout.headOf bs .«lon_um») m here behind gone back)
 

@@ -2,7 +2,7 @@
 -- gives and carries.
 use Prim.Native.Nat.{ℕ}
 use mathlib.Core.Path.{_≡_, refl, sym, _∙_}
-use mathlib.Core.List.{List, []}
+use mathlib.Core.List.{List}
 use lib.IntN.{pos, _+ℤ_}
 use denote.Ref.{now}
 use borrow.Author.Needs.{needs}
@@ -16,15 +16,15 @@ use Rattle.cache.specs.Reader.{Reader, inBytes, inLooks}
 use Rattle.predict.specs.declared.twins.Twin.{Twin}
 use Rattle.predict.specs.declared.Arrival.{Arrival}
 use Rattle.predict.specs.declared.Crossing.{Crossing}
-use Rattle.predict.specs.Cross.{waysOf, crossing, twinLook, twinFound, twinStep}
+use Rattle.predict.specs.Cross.{foundBy, waysOf, crossing, twinLook, twinFound, twinStep}
 use Rattle.predict.specs.Walk.{carriedBy}
 use Rattle.predict.proofs.Looks.{look-carried}
 use Rattle.predict.proofs.cross.twin_step.Statement.{statement}
 use Rattle.predict.proofs.cross.twin_step.Tie as tie
 
--- the ways on are the same whatever is carried, and carried is what any look carries
+-- the ways on are those of the reader, and carried is what any look carries
 module _ (rd : Reader (List ℕ)) (x : Crossing) (a : Arrival) (v s : List ℕ) (key : TileKey) (twin : Twin) where
-  look-same : (look : Look) → crossing (twinLook rd a v look (waysOf x []) key twin) ≡ crossing (twinLook rd a v look (waysOf x s) key twin)
+  look-same : (look : Look) → foundBy look x a v key twin ≡ crossing (twinLook rd a v look (waysOf x s) key twin)
   look-same (ready bs) = refl
   look-same missing = refl
   look-same absent = refl

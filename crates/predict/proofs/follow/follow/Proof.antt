@@ -15,11 +15,10 @@ use Rattle.predict.specs.Vertex.{vertices}
 use Rattle.predict.proofs.VertexLaws.{vertices-start}
 use Rattle.predict.specs.declared.Walk.{Walk}
 use Rattle.predict.specs.declared.enter.Entered.{Entered}
-use Rattle.predict.specs.Walk.{Onto, Stride, Entering, walkTo}
+use Rattle.predict.specs.Walk.{Onto, Stride, Entering, runOf, walkTo}
 use Rattle.predict.proofs.WalkLaws.{walk-start}
 use Rattle.predict.proofs.FollowLaws.{
   alongOf,
-  run,
   points-start,
   points-on,
   points-over,
@@ -65,8 +64,8 @@ abbrev Inv-edges : tie.InvT-edges
 Inv-edges arena trip budget looks₀ visited₀ met₀ heights₀ header w₀ t₀ n₀ looks visited met heights w t n =
     (n ≤ 2000)
     × ((length heights ≡ length heights₀)
-    × (run arena trip budget (onto w visited met) t looks heights
-    ≡ walkTo (inLooks arena (trip .header .tile)) trip budget (run arena trip budget (onto w₀ visited₀ met₀) t₀ looks₀ heights₀) n))
+    × (runOf (onto w visited met) t looks heights
+    ≡ walkTo (inLooks arena (trip .header .tile)) trip budget (runOf (onto w₀ visited₀ met₀) t₀ looks₀ heights₀) n))
 
 abbrev μ-edges : tie.MeasureT-edges
 μ-edges arena trip budget looks₀ visited₀ met₀ heights₀ header w₀ t₀ n₀ looks visited met heights w t n = 2000 - n
@@ -80,7 +79,7 @@ edges-holds c =
         refl,
         sym
             (walk-start (inLooks (now (args .arena)) (args .trip .header .tile)) (args .trip) (args .budget)
-            (run (now (args .arena)) (args .trip) (args .budget) start (args .first) (now (args .looks)) (now (args .heights)))),
+            (runOf start (args .first) (now (args .looks)) (now (args .heights)))),
       ),
     )
 
@@ -200,9 +199,9 @@ edges-again c =
       (
         points .inv .1 .1 .0 ∙ edges .inv .1 .0,
         walk-on (now (args .arena)) (args .trip) (args .budget)
-            (run (now (args .arena)) (args .trip) (args .budget) start (args .first) (now (args .looks)) (now (args .heights)))
-            (run (now (args .arena)) (args .trip) (args .budget) before (edges .t) (edges .looks) (edges .heights))
-            (run (now (args .arena)) (args .trip) (args .budget) (onto (crossed .result) (e .visited) (e .met)) (points .t) (crossed .last .1 .1 .1 .1 .0) (points .heights))
+            (runOf start (args .first) (now (args .looks)) (now (args .heights)))
+            (runOf before (edges .t) (edges .looks) (edges .heights))
+            (runOf (onto (crossed .result) (e .visited) (e .met)) (points .t) (crossed .last .1 .1 .1 .1 .0) (points .heights))
             (edges .n) (edges .inv .1 .1)
             (step-on (now (args .arena)) (args .trip) (args .budget) before (edges .t) (edges .looks) (edges .heights) e came goes
             (now (read .result)) (read .ensures) (head .result) (head .ensures) (leg .result) (leg .ensures)
@@ -222,7 +221,7 @@ returns c =
     let start = onto (args .start) (now (args .visited)) (now (args .met)) in
     let all : edges .n ≡ 2000 = omega (arith, edges .inv .0, c .edges-test .left) in
     follow-is (now (args .arena)) (args .trip) (args .budget) start (args .first) (now (args .looks)) (now (args .heights))
-    (run (now (args .arena)) (args .trip) (args .budget) (onto (edges .w) (edges .visited) (edges .met)) (edges .t) (edges .looks) (edges .heights))
+    (runOf (onto (edges .w) (edges .visited) (edges .met)) (edges .t) (edges .looks) (edges .heights))
     (rw all at (edges .inv .1 .1))
 
 same-length-2 : tie.Need-same-length-2 Inv-points μ-points Inv-edges μ-edges
@@ -239,11 +238,11 @@ returns-2 c =
     let start = onto (args .start) (now (args .visited)) (now (args .met)) in
     let before = onto (edges .w) (edges .visited) (edges .met) in
     let ends = sym (c .before .goes-on .ensures) ∙ not-true _ (c .if1 .taken) in
-    let over = run (now (args .arena)) (args .trip) (args .budget) (onto walk (e .visited) (e .met)) (edges .t) (e .looks) (edges .heights) in
+    let over = runOf (onto walk (e .visited) (e .met)) (edges .t) (e .looks) (edges .heights) in
     follow-is (now (args .arena)) (args .trip) (args .budget) start (args .first) (now (args .looks)) (now (args .heights)) over
     (walk-whole (now (args .arena)) (args .trip) (args .budget)
-    (run (now (args .arena)) (args .trip) (args .budget) start (args .first) (now (args .looks)) (now (args .heights)))
-    (run (now (args .arena)) (args .trip) (args .budget) before (edges .t) (edges .looks) (edges .heights)) over (edges .n) (edges .inv .1 .1)
+    (runOf start (args .first) (now (args .looks)) (now (args .heights)))
+    (runOf before (edges .t) (edges .looks) (edges .heights)) over (edges .n) (edges .inv .1 .1)
     (step-ended (now (args .arena)) (args .trip) (args .budget) before (edges .t) (edges .looks) (edges .heights) e came ends)
     ends (c .before .before .before .before .before .before .before .edges-test .taken))
 
@@ -266,11 +265,11 @@ returns-3 c =
     let goes = sym (c .before .before .before .before .before .before .before .before .goes-on .ensures) ∙ not-false _ (c .before .before .before .before .before .before .before .if1 .left) in
     let first = alongOf (edges .t) (edges .heights) in
     let ended = c .reached in
-    let over = run (now (args .arena)) (args .trip) (args .budget) (onto (ended .result) (e .visited) (e .met)) (edges .t) (e .looks) (edges .heights) in
+    let over = runOf (onto (ended .result) (e .visited) (e .met)) (edges .t) (e .looks) (edges .heights) in
     follow-is (now (args .arena)) (args .trip) (args .budget) start (args .first) (now (args .looks)) (now (args .heights)) over
     (walk-whole (now (args .arena)) (args .trip) (args .budget)
-    (run (now (args .arena)) (args .trip) (args .budget) start (args .first) (now (args .looks)) (now (args .heights)))
-    (run (now (args .arena)) (args .trip) (args .budget) before (edges .t) (edges .looks) (edges .heights)) over (edges .n) (edges .inv .1 .1)
+    (runOf start (args .first) (now (args .looks)) (now (args .heights)))
+    (runOf before (edges .t) (edges .looks) (edges .heights)) over (edges .n) (edges .inv .1 .1)
     (step-over (now (args .arena)) (args .trip) (args .budget) before (edges .t) (edges .looks) (edges .heights) e came goes
     (now (read .result)) (read .ensures) (head .result) (head .ensures) (leg .result) (leg .ensures) first
     (points-over (args .trip) (leg .result) (now (read .result)) (head .result .«lon_um») (walk .from) first first 0
@@ -302,11 +301,11 @@ returns-4 c =
     let heights = advance .last .1 .1 .1 .1 .1 .1 .0 in
     let ended = c .reached2 in
     let reached = rw (points .inv .1 .1 .1 .0) at (ended .ensures) in
-    let over = run (now (args .arena)) (args .trip) (args .budget) (onto (ended .result) (e .visited) (e .met)) (advance .result) (e .looks) heights in
+    let over = runOf (onto (ended .result) (e .visited) (e .met)) (advance .result) (e .looks) heights in
     follow-is (now (args .arena)) (args .trip) (args .budget) start (args .first) (now (args .looks)) (now (args .heights)) over
     (walk-whole (now (args .arena)) (args .trip) (args .budget)
-    (run (now (args .arena)) (args .trip) (args .budget) start (args .first) (now (args .looks)) (now (args .heights)))
-    (run (now (args .arena)) (args .trip) (args .budget) before (edges .t) (edges .looks) (edges .heights)) over (edges .n) (edges .inv .1 .1)
+    (runOf start (args .first) (now (args .looks)) (now (args .heights)))
+    (runOf before (edges .t) (edges .looks) (edges .heights)) over (edges .n) (edges .inv .1 .1)
     (step-over (now (args .arena)) (args .trip) (args .budget) before (edges .t) (edges .looks) (edges .heights) e came goes
     (now (read .result)) (read .ensures) (head .result) (head .ensures) (leg .result) (leg .ensures) (alongOf (advance .result) heights)
     (points-over (args .trip) (leg .result) (now (read .result)) (head .result .«lon_um») (walk .from) first (alongOf (advance .result) heights)

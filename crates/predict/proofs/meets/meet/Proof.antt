@@ -25,10 +25,11 @@ module _ (m : List ℕ) (pages budget : ℕ) (e : hasRoom m pages budget ≡ tru
   within = leb-true (pagesOf m + pages) budget (and-right (ltb (tilesOf m) 96) (leb (pagesOf m + pages) budget) e)
 
   -- behind the tile and how many they are, the pages are as they were
-  kept : (number n : ℕ) → getD (set (set m (tilesOf m) number) 96 n) 97 0 ≡ pagesOf m
-  kept number n =
-      getD-set-other (set m (tilesOf m) number) 96 97 n 0 (λ (q : 97 ≡ 96). absurd (omega (arith, q)))
-      ∙ getD-set-other m (tilesOf m) 97 number 0 (λ (q : 97 ≡ tilesOf m). absurd (omega (arith, q, below)))
+  kept : (row col n : ℕ) → getD (set (set (set m (tilesOf m) row) (96 + tilesOf m) col) 192 n) 193 0 ≡ pagesOf m
+  kept row col n =
+      getD-set-other (set (set m (tilesOf m) row) (96 + tilesOf m) col) 192 193 n 0 (λ (q : 193 ≡ 192). absurd (omega (arith, q)))
+      ∙ getD-set-other (set m (tilesOf m) row) (96 + tilesOf m) 193 col 0 (λ (q : 193 ≡ 96 + tilesOf m). absurd (omega (arith, q, below)))
+      ∙ getD-set-other m (tilesOf m) 193 row 0 (λ (q : 193 ≡ tilesOf m). absurd (omega (arith, q, below)))
 
 has-met-requires : tie.Need-has-met-requires
 has-met-requires c κs = tt
@@ -43,66 +44,76 @@ has-room-requires c κs = tt
 returns-2 : tie.Need-returns-2
 unfolding meet
 returns-2 c =
-    let room = c .before in
-    let new = sym (room .before .before .before .has-met .ensures) ∙ room .before .before .if1 .left in
-    let full = sym (room .has-room .ensures) ∙ not-true _ (c .if2 .taken) in
+    let new = sym (c .before .before .before .before .has-met .ensures) ∙ c .before .before .before .if1 .left in
+    let full = sym (c .before .has-room .ensures) ∙ not-true _ (c .if2 .taken) in
     (rw (new, full), rw (new, full))
 
 element-copy-out-at : tie.Need-element-copy-out-at
 element-copy-out-at c = search needs
 
-number-of-requires : tie.Need-number-of-requires
-number-of-requires c κs = tt
+cast-met : tie.Need-cast-met
+cast-met c = search needs
+
+add-met : tie.Need-add-met
+add-met c = search needs
 
 mul-met : tie.Need-mul-met
 mul-met c =
-    let else2 = c .before .before in
-    let room = else2 .before in
-    let args = room .before .before .before .before .before .args in
-    omega (arith, below (now (args .met)) (args .pages) (args .budget) (sym (room .has-room .ensures) ∙ not-false _ (else2 .if2 .left)))
+    let args = c .before .before .before .before .before .before .before .before .args in
+    omega (arith, below (now (args .met)) (args .pages) (args .budget) (sym (c .before .before .before .has-room .ensures) ∙ not-false _ (c .before .before .if2 .left)))
 
 element-write-met : tie.Need-element-write-met
 element-write-met c =
-    let else2 = c .before .before in
-    let room = else2 .before in
-    let args = room .before .before .before .before .before .args in
-    omega (arith, below (now (args .met)) (args .pages) (args .budget) (sym (room .has-room .ensures) ∙ not-false _ (else2 .if2 .left)))
+    let args = c .before .before .before .before .before .before .before .before .args in
+    omega (arith, below (now (args .met)) (args .pages) (args .budget) (sym (c .before .before .before .has-room .ensures) ∙ not-false _ (c .before .before .if2 .left)))
 
-add-met : tie.Need-add-met
-add-met c =
-    let else2 = c .before .before in
-    let room = else2 .before in
-    let args = room .before .before .before .before .before .args in
-    omega (arith, below (now (args .met)) (args .pages) (args .budget) (sym (room .has-room .ensures) ∙ not-false _ (else2 .if2 .left)))
-
-element-write-met-2 : tie.Need-element-write-met-2
-element-write-met-2 c = search needs
-
-element-copy-out-met : tie.Need-element-copy-out-met
-element-copy-out-met c = search needs
+cast-met-2 : tie.Need-cast-met-2
+cast-met-2 c = search needs
 
 add-met-2 : tie.Need-add-met-2
 add-met-2 c =
-    let else2 = c .before .before .before in
-    let room = else2 .before in
-    let args = room .before .before .before .before .before .args in
-    let ok = sym (room .has-room .ensures) ∙ not-false _ (else2 .if2 .left) in
-    let m = now (args .met) in
-    let pages = kept m (args .pages) (args .budget) ok (c .before .number-of .result) (tilesOf m + 1) in
-    omega (arith, within m (args .pages) (args .budget) ok, pages)
+    let args = c .before .before .before .before .before .before .before .before .before .args in
+    omega (arith, below (now (args .met)) (args .pages) (args .budget) (sym (c .before .before .before .before .has-room .ensures) ∙ not-false _ (c .before .before .before .if2 .left)))
+
+mul-met-2 : tie.Need-mul-met-2
+mul-met-2 c =
+    let args = c .before .before .before .before .before .before .before .before .before .args in
+    omega (arith, below (now (args .met)) (args .pages) (args .budget) (sym (c .before .before .before .before .has-room .ensures) ∙ not-false _ (c .before .before .before .if2 .left)))
+
+element-write-met-2 : tie.Need-element-write-met-2
+element-write-met-2 c =
+    let args = c .before .before .before .before .before .before .before .before .before .args in
+    omega (arith, below (now (args .met)) (args .pages) (args .budget) (sym (c .before .before .before .before .has-room .ensures) ∙ not-false _ (c .before .before .before .if2 .left)))
+
+add-met-3 : tie.Need-add-met-3
+add-met-3 c =
+    let args = c .before .before .before .before .before .before .before .before .before .args in
+    omega (arith, below (now (args .met)) (args .pages) (args .budget) (sym (c .before .before .before .before .has-room .ensures) ∙ not-false _ (c .before .before .before .if2 .left)))
 
 element-write-met-3 : tie.Need-element-write-met-3
 element-write-met-3 c = search needs
 
+element-copy-out-met : tie.Need-element-copy-out-met
+element-copy-out-met c = search needs
+
+add-met-4 : tie.Need-add-met-4
+add-met-4 c =
+    let args = c .before .before .before .before .before .before .before .before .before .before .args in
+    let ok = sym (c .before .before .before .before .before .has-room .ensures) ∙ not-false _ (c .before .before .before .before .if2 .left) in
+    let m = now (args .met) in
+    let pages = kept m (args .pages) (args .budget) ok (args .key .row + 1) (args .key .col) (tilesOf m + 1) in
+    omega (arith, within m (args .pages) (args .budget) ok, pages)
+
+element-write-met-4 : tie.Need-element-write-met-4
+element-write-met-4 c = search needs
+
 returns-3 : tie.Need-returns-3
 unfolding meet
 returns-3 c =
-    let else2 = c .before .before .before in
-    let room = else2 .before in
-    let args = room .before .before .before .before .before .args in
-    let new = sym (room .before .before .before .has-met .ensures) ∙ room .before .before .if1 .left in
-    let ok = sym (room .has-room .ensures) ∙ not-false _ (else2 .if2 .left) in
-    (rw (new, ok), rw (new, ok, kept (now (args .met)) (args .pages) (args .budget) ok, c .before .number-of .ensures))
+    let args = c .before .before .before .before .before .before .before .before .before .before .args in
+    let new = sym (c .before .before .before .before .before .before .before .before .has-met .ensures) ∙ c .before .before .before .before .before .before .before .if1 .left in
+    let ok = sym (c .before .before .before .before .before .has-room .ensures) ∙ not-false _ (c .before .before .before .before .if2 .left) in
+    (rw (new, ok), rw (new, ok, kept (now (args .met)) (args .pages) (args .budget) ok))
 
 pub meet-spec : {M : Type 1} → statement M
 meet-spec =
@@ -113,12 +124,17 @@ meet-spec =
     has-room-requires
     returns-2
     element-copy-out-at
-    number-of-requires
+    cast-met
+    add-met
     mul-met
     element-write-met
-    add-met
-    element-write-met-2
-    element-copy-out-met
+    cast-met-2
     add-met-2
+    mul-met-2
+    element-write-met-2
+    add-met-3
     element-write-met-3
+    element-copy-out-met
+    add-met-4
+    element-write-met-4
     returns-3)

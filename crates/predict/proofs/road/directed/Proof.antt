@@ -4,7 +4,7 @@ use lib.ListN.{length-map}
 use denote.Ref.{now}
 use borrow.Author.Needs.{needs}
 use Rattle.cache.specs.Direct.{looked}
-use Rattle.cache.specs.Reader.{Sized}
+use Rattle.cache.specs.Stands.{Sized}
 use Rattle.predict.specs.Predict.{forecastOver, predictedIn}
 use Rattle.predict.proofs.InCache.{code-predicts}
 use Rattle.predict.proofs.road.directed.Statement.{statement}

@@ -1,42 +1,33 @@
--- `predict::visits::was_visited` meets its contract. The loop's invariant: no place passed holds the edge's number.
+-- `predict::visits::was_visited` meets its contract. The loop's invariant: no place passed holds the edge.
 use Prim.Native.Nat.{ℕ, _≤_, _-_}
-use mathlib.Core.Path.{_≡_}
+use mathlib.Core.Path.{_≡_, sym, _∙_}
 use native.Mathlib.Omega.{arith}
-use lib.Dec.{eqb}
-use lib.ListN.{getD}
 use borrow.Author.Needs.{needs}
-use borrow.Author.Tests.{eq-eqb, ne-eqb}
 use Rattle.cache.specs.declared.victim.Found.the-variants as Found
 use Rattle.cache.specs.Search.{lowest}
 use Rattle.cache.proofs.SearchLaws.{lowest-start, lowest-hit, lowest-miss}
-use Rattle.predict.specs.Visits.{wasVisited}
+use Rattle.predict.specs.Visits.{isFollowed, wasVisited}
 use Rattle.predict.proofs.visits.was_visited.Statement.{statement}
 use Rattle.predict.proofs.visits.was_visited.Tie as tie
 
 abbrev Inv-loop : tie.InvT-loop
-Inv-loop visited edge number i₀ i = (i ≤ 128) × (lowest (λ (j : ℕ). eqb (getD visited j 0) number) i ≡ Found.Nothing)
+Inv-loop visited key edge i₀ i = (i ≤ 128) × (lowest (λ (j : ℕ). isFollowed visited j key edge) i ≡ Found.Nothing)
 
 abbrev μ-loop : tie.MeasureT-loop
-μ-loop visited edge number i₀ i = 128 - i
-
-number-of-requires : tie.Need-number-of-requires Inv-loop μ-loop
-number-of-requires c κs = tt
+μ-loop visited key edge i₀ i = 128 - i
 
 loop-holds : tie.Need-loop-holds Inv-loop μ-loop
 loop-holds c = (search needs, lowest-start _)
 
-mul-if1 : tie.Need-mul-if1 Inv-loop μ-loop
-mul-if1 c = search needs
-
-element-copy-out-if1 : tie.Need-element-copy-out-if1 Inv-loop μ-loop
-element-copy-out-if1 c = search needs
+is-followed-requires : tie.Need-is-followed-requires Inv-loop μ-loop
+is-followed-requires c κs = search needs
 
 returns : tie.Need-returns Inv-loop μ-loop
 unfolding wasVisited
 returns c =
     let turn = c .before .before in
     let at-loop = turn .before .loop in
-    rw (← turn .before .before .number-of .ensures, lowest-hit _ (at-loop .i) 128 (turn .loop-test .taken) (at-loop .inv .1) (eq-eqb _ _ (c .if1 .taken)))
+    rw (lowest-hit _ (at-loop .i) 128 (turn .loop-test .taken) (at-loop .inv .1) (sym (c .before .is-followed .ensures) ∙ c .if1 .taken))
 
 add-i : tie.Need-add-i Inv-loop μ-loop
 add-i c = search needs
@@ -47,14 +38,14 @@ loop-less c = search needs
 loop-again : tie.Need-loop-again Inv-loop μ-loop
 loop-again c =
     let at-loop = c .before .before .before .loop in
-    (omega arith, lowest-miss _ (at-loop .i) (at-loop .inv .1) (ne-eqb _ _ (c .if1 .left)))
+    (omega arith, lowest-miss _ (at-loop .i) (at-loop .inv .1) (sym (c .before .is-followed .ensures) ∙ c .if1 .left))
 
 returns-2 : tie.Need-returns-2 Inv-loop μ-loop
 unfolding wasVisited
 returns-2 c =
     let at-loop = c .before .loop in
     let end : at-loop .i ≡ 128 = omega arith in
-    rw (← c .before .before .number-of .ensures, rw end at (at-loop .inv .1))
+    rw (rw end at (at-loop .inv .1))
 
 pub was-visited-spec : {M : Type 1} → statement M
 was-visited-spec =
@@ -62,10 +53,8 @@ was-visited-spec =
     (tie.spec
     Inv-loop
     μ-loop
-    number-of-requires
     loop-holds
-    mul-if1
-    element-copy-out-if1
+    is-followed-requires
     returns
     add-i
     loop-less
