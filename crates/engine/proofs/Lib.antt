@@ -15,5 +15,5 @@ pub mod StepNeeds
 -- NeedLaws: the tile that is needed, by the cache's public cores. TestedLaws: what number 12's test tells the functions behind it.
 pub mod NeedLaws
 pub mod TestedLaws
--- IdleLaws: a step with nothing to do.
-pub mod IdleLaws
+-- PlanLaws: a step where no fetch is open does what its plan says.
+pub mod PlanLaws

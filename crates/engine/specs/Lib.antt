@@ -11,5 +11,5 @@ pub mod Steps
 pub mod Calls
 -- The number of each answer.
 pub mod Numbers
--- When a step has nothing to do.
-pub mod Idle
+-- What a step is to do, and what it makes of an answer.
+pub mod Plans

@@ -6,7 +6,6 @@ use crate::Phase;
 use crate::Shared;
 use crate::Status;
 use crate::Stepped;
-use cache::Cache;
 use cache::Loaded;
 use cache::MaybeKey;
 use cache::Pending;
@@ -16,7 +15,9 @@ use pack::TileKey;
 ghost use mathlib.Core.Path.{_≡_};
 ghost use Prim.Native.Nat.{_≤_};
 ghost use lib.ListN.{length};
+ghost use Rattle.engine.specs.Calls as Calls;
 ghost use Rattle.engine.specs.Deliver as Deliver;
+ghost use Rattle.engine.specs.Plans as Plans;
 
 // ---- the header
 
@@ -136,62 +137,86 @@ fn needless(d: Due) -> Due
     }
 }
 
-// The tile is settled: ready or known missing.
-pub(crate) fn arrived(e: Engine, c: Cache) -> Stepped
-    ensures { λ r. ⌜ r ≡ Deliver.arrived e c ⌝ }
+// The follower that a step of a load leaves.
+fn load_leaves(f: Follower, answer: Progress) -> Follower
+    ensures { λ r. ⌜ r ≡ Plans.loadLeaves answer f ⌝ }
 {
-    let before = e.follower;
-    let mut f = crate::work::counted(before);
-    let due = f.due;
-    let rest = needless(due);
-    f.due = rest;
-    f.failures = 0;
-    crate::work::ended(e, c, f, Status::Working)
-}
-
-// The read or the entry failed: the eighth fails the pack.
-fn load_failed(e: Engine, c: Cache) -> Stepped
-    ensures { λ r. ⌜ r ≡ Deliver.loadFailed e c ⌝ }
-{
-    let before = e.follower;
-    let mut f = crate::work::counted(before);
-    if f.failures < 7 {
-        f.failures = f.failures + 1;
-        return crate::work::ended(e, c, f, Status::Working);
-    }
-    f.failures = 8;
-    let s = e.shared;
-    let header = s.header;
-    let shared = Shared {
-        phase: Phase::Failed,
-        header,
-        cache: c,
-    };
-    let engine = Engine {
-        shared,
-        follower: f,
-    };
-    Stepped {
-        answer: Status::NoPack,
-        engine,
+    let mut d = crate::work::counted(f);
+    match answer {
+        Progress::Done => {
+            let due = d.due;
+            let rest = needless(due);
+            d.due = rest;
+            d.failures = 0;
+            d
+        }
+        Progress::Failed(_) => {
+            if d.failures < 7 {
+                d.failures = d.failures + 1;
+                return d;
+            }
+            d.failures = 8;
+            d
+        }
+        Progress::More | Progress::Refused(_) => d,
     }
 }
 
-// What a step of the load makes of the engine.
-pub(crate) fn loaded(e: Engine, l: Loaded) -> Stepped
+// Whether a step of a load fails the pack: the eighth failure does.
+fn fails_pack(answer: Progress, failures: u8) -> bool
+    ensures { λ r. ⌜ r ≡ Plans.failsPack answer failures ⌝ }
+{
+    match answer {
+        Progress::Failed(_) => 7 <= failures,
+        Progress::Done | Progress::More | Progress::Refused(_) => false,
+    }
+}
+
+fn load_phase(phase: Phase, is_failed: bool) -> Phase
+    ensures { λ r. ⌜ r ≡ Plans.loadPhase phase «is_failed» ⌝ }
+{
+    if is_failed {
+        return Phase::Failed;
+    }
+    phase
+}
+
+fn load_tells(is_failed: bool) -> Status
+    ensures { λ r. ⌜ r ≡ Plans.loadTells «is_failed» ⌝ }
+{
+    if is_failed {
+        return Status::NoPack;
+    }
+    Status::Working
+}
+
+// What a step of the load makes of the engine, which is written in place.
+pub(crate) fn loaded(mut e: Engine, l: Loaded) -> Stepped
     ensures { λ r. ⌜ r ≡ Deliver.loaded e l ⌝ }
 {
     let answer = l.answer;
-    let c = l.cache;
-    match answer {
-        Progress::Done => arrived(e, c),
-        Progress::Failed(_) => load_failed(e, c),
-        Progress::Refused(number) => crate::state::refused(e, number),
-        Progress::More => {
-            let before = e.follower;
-            let f = crate::work::counted(before);
-            crate::work::ended(e, c, f, Status::Working)
-        }
+    if let Progress::Refused(number) = answer {
+        return crate::state::refused(e, number);
+    }
+    let before = e.follower;
+    let is_failed = fails_pack(answer, before.failures);
+    let after = load_leaves(before, answer);
+    e.follower = after;
+    let s = e.shared;
+    let old = s.phase;
+    let phase = load_phase(old, is_failed);
+    let header = s.header;
+    let cache = l.cache;
+    let shared = Shared {
+        phase,
+        header,
+        cache,
+    };
+    e.shared = shared;
+    let told = load_tells(is_failed);
+    Stepped {
+        answer: told,
+        engine: e,
     }
 }
 
@@ -233,11 +258,14 @@ fn need_came(e: Engine, arena: &mut [u8], failure: u32, bytes: &[u8]) -> Stepped
     }
 }
 
-// A delivery in a state that has been tested: 11 where no fetch is open, or the answer doesn't fit it.
+// A delivery: 12 first; 11 where no fetch is open, or the answer doesn't fit it.
 pub(crate) fn delivered(e: Engine, arena: &mut [u8], failure: u32, bytes: &[u8]) -> Stepped
-    ensures { λ r. ⌜ r ≡ Deliver.told (Deliver.delivered e (now (arena .entry)) failure (now (bytes .entry))) ⌝ }
-    ensures { λ r. ⌜ now (arena .exit) ≡ Deliver.delivered e (now (arena .entry)) failure (now (bytes .entry)) .arena ⌝ }
+    ensures { λ r. ⌜ r ≡ Deliver.told (Calls.deliver e (now (arena .entry)) failure (now (bytes .entry))) ⌝ }
+    ensures { λ r. ⌜ now (arena .exit) ≡ Calls.deliver e (now (arena .entry)) failure (now (bytes .entry)) .arena ⌝ }
 {
+    if !crate::state::engine_ok(e, arena.len()) {
+        return crate::state::refused(e, 12);
+    }
     let s = e.shared;
     let c = s.cache;
     let pending = c.pending;

@@ -1,28 +1,17 @@
-// A step: the fetch that it opens, or the work that needs none. Opening a fetch changes nothing but that it is open. What the last
-// three ask of the state is what number 12's test has shown: `Engine::step` makes it first.
-use crate::Due;
+// A step: the fetch that it opens, or the work that needs none. Opening a fetch changes nothing but that it is open.
 use crate::Engine;
-use crate::Fix;
-use crate::MaybeFix;
-use crate::Phase;
 use crate::Shared;
 use crate::Status;
 use crate::Stepped;
+use crate::plan::Plan;
 use cache::Cache;
 use cache::MaybeKey;
 use cache::MaybeLoading;
 use cache::Pending;
 use cache::Progress;
-use pack::Header;
-use pack::Keyed;
 use pack::TileKey;
 ghost use mathlib.Core.Path.{_≡_};
-ghost use mathlib.Core.Bool.{true};
-ghost use lib.ListN.{length};
-ghost use Rattle.pack.specs.Grid.{keyOf};
-ghost use Rattle.engine.specs.Idle as Idle;
-ghost use Rattle.engine.specs.State.{engineOk};
-ghost use Rattle.engine.specs.declared.Phase.the-variants as PhaseIs;
+ghost use Rattle.engine.specs.Calls as Calls;
 ghost use Rattle.engine.specs.Steps as Steps;
 
 pub(crate) fn with_pending(c: Cache, pending: Pending) -> Cache
@@ -130,88 +119,13 @@ fn need_step(e: Engine, arena: &[u8], key: TileKey) -> Stepped
     crate::deliver::loaded(e, l)
 }
 
-// A step in phase Ready.
-fn ready_step(e: Engine, arena: &[u8]) -> Stepped
-    requires { ⌜ (engineOk e (length (now arena)) ≡ true) × (e .shared .phase ≡ PhaseIs.Ready) ⌝ }
-    ensures { λ r. ⌜ r ≡ Steps.readyStep e (now (arena .entry)) ⌝ }
-{
-    let f = e.follower;
-    let due = f.due;
-    let need = due.need;
-    match need {
-        MaybeKey::Key(key) => need_step(e, arena, key),
-        MaybeKey::Nothing => crate::work::worked(e, arena),
-    }
-}
-
-// A step where no fetch is open.
-fn started(e: Engine, arena: &[u8]) -> Stepped
-    requires { ⌜ engineOk e (length (now arena)) ≡ true ⌝ }
-    ensures { λ r. ⌜ r ≡ Steps.started e (now (arena .entry)) ⌝ }
-{
-    let s = e.shared;
-    let phase = s.phase;
-    match phase {
-        Phase::Failed => Stepped {
-            answer: Status::NoPack,
-            engine: e,
-        },
-        Phase::Unread => opened(e, Pending::Header),
-        Phase::Ready => ready_step(e, arena),
-    }
-}
-
-// Whether a fix lies in the grid.
-fn is_in(header: Header, fix: Fix) -> bool
-    ensures { λ r. ⌜ r ≡ Idle.isIn (keyOf header (fix .lat) (fix .lon)) ⌝ }
-{
-    match pack::grid::key_of(header, fix.lat, fix.lon) {
-        Keyed::In(_) => true,
-        Keyed::Outside | Keyed::Refused(_) => false,
-    }
-}
-
-// Whether a step that needs no tile has nothing to do: no fix, or one in the grid with neither a match nor a road due.
-fn is_idle(header: Header, fix: MaybeFix, due: Due) -> bool
-    ensures { λ r. ⌜ r ≡ Idle.isIdle header fix due ⌝ }
-{
-    match fix {
-        MaybeFix::Nothing => true,
-        MaybeFix::Is(at) => {
-            if due.matching {
-                return false;
-            }
-            if due.road {
-                return false;
-            }
-            is_in(header, at)
-        }
-    }
-}
-
-// Whether a step where no fetch is open has nothing to do.
-fn at_rest(phase: Phase, header: Header, fix: MaybeFix, due: Due) -> bool
-    ensures { λ r. ⌜ r ≡ Idle.atRest phase header fix due ⌝ }
-{
-    match phase {
-        Phase::Unread => false,
-        Phase::Failed => false,
-        Phase::Ready => {
-            let need = due.need;
-            match need {
-                MaybeKey::Key(_) => false,
-                MaybeKey::Nothing => is_idle(header, fix, due),
-            }
-        }
-    }
-}
-
-// A step in a state that has been tested: while a fetch is open it is repeated, and nothing changes. A step with nothing to do is told here, where the
-// state is written in place; every other hands the state on.
+// A step: 12 first; while a fetch is open it is repeated, and nothing changes; else what its plan says. The state is tested and taken apart here, so that it is handed on once.
 pub(crate) fn stepped(mut e: Engine, arena: &[u8]) -> Stepped
-    requires { ⌜ engineOk e (length (now arena)) ≡ true ⌝ }
-    ensures { λ r. ⌜ r ≡ Steps.stepped e (now (arena .entry)) ⌝ }
+    ensures { λ r. ⌜ r ≡ Calls.step e (now (arena .entry)) ⌝ }
 {
+    if !crate::state::engine_ok(e, arena.len()) {
+        return crate::state::refused(e, 12);
+    }
     let s = e.shared;
     let c = s.cache;
     let pending = c.pending;
@@ -220,18 +134,32 @@ pub(crate) fn stepped(mut e: Engine, arena: &[u8]) -> Stepped
         return Stepped { answer, engine: e };
     };
     let phase = s.phase;
+    let header = s.header;
     let f = e.follower;
     let due = f.due;
-    let header = s.header;
     let sight = f.sight;
     let fix = sight.fix;
-    if !at_rest(phase, header, fix, due) {
-        return started(e, arena);
-    }
-    let steps = std::num::wrapping_add_u32(e.follower.steps, 1);
-    e.follower.steps = steps;
-    Stepped {
-        answer: Status::Idle,
-        engine: e,
+    let m = f.matcher;
+    let current = m.current;
+    let plan = crate::plan::of_state(phase, header, fix, due, current);
+    match plan {
+        Plan::NoPack => Stepped {
+            answer: Status::NoPack,
+            engine: e,
+        },
+        Plan::Header => opened(e, Pending::Header),
+        Plan::Need(key) => need_step(e, arena, key),
+        Plan::Match(at) => crate::work::match_step(e, arena, at),
+        Plan::Road(at, found) => crate::work::road_step(e, arena, at, found),
+        Plan::Roadless => crate::work::road_dropped(e),
+        Plan::Off(at) => crate::work::left_map(e, at),
+        Plan::Rest => {
+            let steps = std::num::wrapping_add_u32(e.follower.steps, 1);
+            e.follower.steps = steps;
+            Stepped {
+                answer: Status::Idle,
+                engine: e,
+            }
+        }
     }
 }

@@ -6,11 +6,12 @@
 //
 // `Shared` is what the pack and the card give; `Follower` is what follows one rider: the fixes and the heading that they give, the match, what
 // is due, and the road ahead that is published. `fixes`, `publish` and `follow` have the follower, which reads neither pack nor tile; `state`
-// has number 12; `fetch`, `work` and `deliver` the steps.
+// has number 12; `plan` what a step is to do, and `fetch`, `work` and `deliver` the steps.
 mod deliver;
 mod fetch;
 mod fixes;
 mod follow;
+mod plan;
 mod publish;
 mod state;
 mod work;
@@ -345,9 +346,6 @@ impl Engine {
     pub fn step(self, arena: &[u8]) -> Stepped
         ensures { λ r. ⌜ r ≡ Calls.step self (now (arena .entry)) ⌝ }
     {
-        if !state::engine_ok(self, arena.len()) {
-            return state::refused(self, 12);
-        }
         fetch::stepped(self, arena)
     }
 
@@ -356,9 +354,6 @@ impl Engine {
         ensures { λ r. ⌜ r ≡ Calls.told (Calls.deliver self (now (arena .entry)) failure (now (bytes .entry))) ⌝ }
         ensures { λ r. ⌜ now (arena .exit) ≡ Calls.deliver self (now (arena .entry)) failure (now (bytes .entry)) .arena ⌝ }
     {
-        if !state::engine_ok(self, arena.len()) {
-            return state::refused(self, 12);
-        }
         deliver::delivered(self, arena, failure, bytes)
     }
 

@@ -5,30 +5,23 @@ use crate::Due;
 use crate::Engine;
 use crate::Fix;
 use crate::Follower;
-use crate::MaybeFix;
 use crate::MaybeTime;
 use crate::Status;
 use crate::Stepped;
-use cache::Cache;
 use cache::MaybeKey;
 use geo::Point;
 use matcher::Current;
+use matcher::Made;
 use matcher::Matched;
 use matcher::Matcher;
-use matcher::Updated;
-use pack::Header;
-use pack::Keyed;
 use pack::TileKey;
 use predict::End;
 use predict::Outcome;
 use predict::Prediction;
 ghost use mathlib.Core.Path.{_≡_};
-ghost use mathlib.Core.Bool.{true, _&&_};
-ghost use lib.ListN.{length};
-ghost use Rattle.pack.specs.Grid.{isPoint, inGrid};
-ghost use Rattle.matcher.specs.State.{keyOk, headingOk};
-ghost use Rattle.engine.specs.State.{engineOk};
-ghost use Rattle.engine.specs.declared.Phase.the-variants as PhaseIs;
+ghost use mathlib.Core.Bool.{true};
+ghost use Rattle.pack.specs.Grid.{inGrid};
+ghost use Rattle.engine.specs.Plans as Plans;
 ghost use Rattle.engine.specs.Work as Work;
 
 // One step more was counted, and nothing else.
@@ -38,18 +31,6 @@ pub(crate) fn counted(f: Follower) -> Follower
     let mut d = f;
     d.steps = std::num::wrapping_add_u32(d.steps, 1);
     d
-}
-
-// The engine with this cache and this follower, and the answer.
-pub(crate) fn ended(e: Engine, c: Cache, f: Follower, answer: Status) -> Stepped
-    ensures { λ r. ⌜ r ≡ Work.ended e c f answer ⌝ }
-{
-    let mut s = e.shared;
-    s.cache = c;
-    let mut d = e;
-    d.shared = s;
-    d.follower = f;
-    Stepped { answer, engine: d }
 }
 
 fn is_matched(c: Current) -> bool
@@ -189,13 +170,13 @@ fn match_asks(f: Follower, pages: usize, key: TileKey) -> Follower
 }
 
 // The newest fix matched.
-fn match_step(e: Engine, arena: &[u8], f: Follower, fix: Fix) -> Stepped
-    requires { ⌜ (isPoint (fix .lat) (fix .lon) && headingOk (f .sight .heading)) ≡ true ⌝ }
-    ensures { λ r. ⌜ r ≡ Work.matchStep e (now (arena .entry)) f fix ⌝ }
+pub(crate) fn match_step(e: Engine, arena: &[u8], fix: Fix) -> Stepped
+    ensures { λ r. ⌜ r ≡ Work.matchStep e (now (arena .entry)) (Work.counted (e .follower)) fix ⌝ }
 {
     let s = e.shared;
     let c = s.cache;
     let header = s.header;
+    let f = e.follower;
     let m = f.matcher;
     let sight = f.sight;
     let heading = sight.heading;
@@ -203,32 +184,68 @@ fn match_step(e: Engine, arena: &[u8], f: Follower, fix: Fix) -> Stepped
         lat: fix.lat,
         lon: fix.lon,
     };
-    let u = matcher::gather::updated(m, c, arena, header, point, heading);
-    match_ended(e, f, fix, u)
+    let u = matcher::gather::made(m, c, arena, header, point, heading);
+    match_ended(e, fix, u)
 }
 
-// What a match that ended makes of the engine.
-fn match_ended(e: Engine, f: Follower, fix: Fix, u: Updated) -> Stepped
-    ensures { λ r. ⌜ r ≡ Work.matchEnded e f fix u ⌝ }
+// The follower that a match leaves.
+fn match_leaves(
+    f: Follower,
+    m: Matcher,
+    fix: Fix,
+    pages: usize,
+    answer: matcher::Outcome,
+) -> Follower
+    ensures { λ r. ⌜ r ≡ Plans.matchLeaves answer f m fix pages ⌝ }
+{
+    match answer {
+        matcher::Outcome::Found(_) | matcher::Outcome::Nothing | matcher::Outcome::Refused(_) =>
+            matched(f, m, fix),
+        matcher::Outcome::Need(key) => match_asks(f, pages, key),
+    }
+}
+
+// How a step that matched ends.
+fn match_tells(due: Due, pages: usize, answer: matcher::Outcome) -> Status
+    ensures { λ r. ⌜ r ≡ Plans.matchTells answer due pages ⌝ }
+{
+    match answer {
+        matcher::Outcome::Found(_) | matcher::Outcome::Nothing | matcher::Outcome::Refused(_) =>
+            Status::Working,
+        matcher::Outcome::Need(_) => {
+            if may_ask(due, pages) {
+                return Status::Working;
+            }
+            Status::Idle
+        }
+    }
+}
+
+// What a match that ended makes of the engine, which is written in place.
+fn match_ended(mut e: Engine, fix: Fix, u: Made) -> Stepped
+    ensures { λ r. ⌜ r ≡ Plans.matchMade e fix u ⌝ }
 {
     let answer = u.answer;
-    let c = u.cache;
-    match answer {
-        matcher::Outcome::Found(_) | matcher::Outcome::Nothing => {
-            let m = u.matcher;
-            let d = matched(f, m, fix);
-            ended(e, c, d, Status::Working)
-        }
-        matcher::Outcome::Need(key) => {
-            let g = c.pages;
-            let due = f.due;
-            let d = match_asks(f, g.count, key);
-            if may_ask(due, g.count) {
-                return ended(e, c, d, Status::Working);
-            }
-            ended(e, c, d, Status::Idle)
-        }
-        matcher::Outcome::Refused(number) => crate::state::refused(e, number),
+    if let matcher::Outcome::Refused(number) = answer {
+        return crate::state::refused(e, number);
+    }
+    let mut s = e.shared;
+    let old = s.cache;
+    let uses = u.uses;
+    let c = cache::uses::with_uses(old, uses);
+    s.cache = c;
+    e.shared = s;
+    let before = e.follower;
+    let f = counted(before);
+    let due = f.due;
+    let pages = c.pages;
+    let m = u.matcher;
+    let after = match_leaves(f, m, fix, pages.count, answer);
+    e.follower = after;
+    let told = match_tells(due, pages.count, answer);
+    Stepped {
+        answer: told,
+        engine: e,
     }
 }
 
@@ -303,116 +320,110 @@ fn rematch(f: Follower) -> Follower
     d
 }
 
-// The road ahead of a match, worked out over heights of 0.
-fn road_step(e: Engine, arena: &[u8], f: Follower, fix: Fix, found: Matched) -> Stepped
-    requires { ⌜ inGrid (e .shared .header) (found .tile .key) ≡ true ⌝ }
-    ensures { λ r. ⌜ r ≡ Work.roadStep e (now (arena .entry)) f fix found ⌝ }
+// The follower that a road leaves; `a` has the heights.
+fn road_leaves(
+    f: Follower,
+    a: Ahead,
+    pages: usize,
+    fix: Fix,
+    found: Matched,
+    answer: Outcome,
+) -> Follower
+    ensures { λ r. ⌜ r ≡ Plans.roadLeaves answer f a pages fix found ⌝ }
 {
-    let s = e.shared;
-    let c = s.cache;
+    match answer {
+        Outcome::Road(r) => published(f, a, fix, found, r),
+        Outcome::Need(key) => road_asks(f, pages, fix, found, key),
+        Outcome::Rematch | Outcome::Refused(_) => rematch(f),
+    }
+}
+
+// Whether a road refuses the step: after 10 the fix is matched again.
+fn road_fails(answer: Outcome) -> bool
+    ensures { λ r. ⌜ r ≡ Plans.roadFails answer ⌝ }
+{
+    match answer {
+        Outcome::Road(_) | Outcome::Need(_) | Outcome::Rematch => false,
+        Outcome::Refused(number) => number != 10,
+    }
+}
+
+// The number that it is refused with.
+fn road_number(answer: Outcome) -> u32
+    ensures { λ r. ⌜ r ≡ Plans.roadNumber answer ⌝ }
+{
+    match answer {
+        Outcome::Road(_) | Outcome::Need(_) | Outcome::Rematch => 0,
+        Outcome::Refused(number) => number,
+    }
+}
+
+// The road ahead of a match, worked out over heights of 0. The engine is written in place.
+pub(crate) fn road_step(mut e: Engine, arena: &[u8], fix: Fix, found: Matched) -> Stepped
+    requires { ⌜ inGrid (e .shared .header) (found .tile .key) ≡ true ⌝ }
+    ensures { λ r. ⌜ r ≡ Work.roadStep e (now (arena .entry)) (Work.counted (e .follower)) fix found ⌝ }
+{
+    let mut s = e.shared;
+    let old = s.cache;
     let header = s.header;
     let mut samples = [0i16; predict::MAX_SAMPLES];
     let mut behind = [0i16; predict::BEHIND_SAMPLES];
     let p = predict::road::predicted(
-        c,
+        old,
         arena,
         header,
         found,
-        f.horizon_m,
+        e.follower.horizon_m,
         &mut samples,
         &mut behind,
     );
+    let answer = p.answer;
+    if road_fails(answer) {
+        return crate::state::refused(e, road_number(answer));
+    }
+    let c = p.cache;
+    s.cache = c;
+    e.shared = s;
+    let before = e.follower;
+    let f = counted(before);
     let mut a = f.ahead;
     a.samples = samples;
     a.behind = behind;
-    let answer = p.answer;
-    let d = p.cache;
-    match answer {
-        Outcome::Road(r) => {
-            let g = published(f, a, fix, found, r);
-            ended(e, d, g, Status::Working)
-        }
-        Outcome::Need(key) => {
-            let pages = d.pages;
-            let g = road_asks(f, pages.count, fix, found, key);
-            ended(e, d, g, Status::Working)
-        }
-        Outcome::Rematch => {
-            let g = rematch(f);
-            ended(e, d, g, Status::Working)
-        }
-        Outcome::Refused(number) => {
-            if number == 10 {
-                let g = rematch(f);
-                return ended(e, d, g, Status::Working);
-            }
-            crate::state::refused(e, number)
-        }
+    let pages = c.pages;
+    let after = road_leaves(f, a, pages.count, fix, found, answer);
+    e.follower = after;
+    Stepped {
+        answer: Status::Working,
+        engine: e,
     }
 }
 
-// A road is due: of the current match, if there is one.
-fn road_due(e: Engine, arena: &[u8], f: Follower, fix: Fix) -> Stepped
-    requires { ⌜ keyOk (f .matcher .current) (e .shared .header) ≡ true ⌝ }
-    ensures { λ r. ⌜ r ≡ Work.roadDue e (now (arena .entry)) f fix ⌝ }
-{
-    let m = f.matcher;
-    let current = m.current;
-    match current {
-        Current::Is(found) => road_step(e, arena, f, fix, found),
-        Current::Nothing => {
-            let mut d = f;
-            let mut due = d.due;
-            due.road = false;
-            d.due = due;
-            let s = e.shared;
-            let c = s.cache;
-            ended(e, c, d, Status::Idle)
-        }
-    }
-}
-
-// What is to be done at a fix.
-fn at_fix(e: Engine, arena: &[u8], f: Follower, fix: Fix) -> Stepped
-    requires { ⌜ ((isPoint (fix .lat) (fix .lon) && headingOk (f .sight .heading)) ≡ true) × (keyOk (f .matcher .current) (e .shared .header) ≡ true) ⌝ }
-    ensures { λ r. ⌜ r ≡ Work.atFix e (now (arena .entry)) f fix ⌝ }
-{
-    let s = e.shared;
-    let c = s.cache;
-    let header = s.header;
-    match pack::grid::key_of(header, fix.lat, fix.lon) {
-        Keyed::Outside | Keyed::Refused(_) => {
-            let d = off_map(f, fix);
-            ended(e, c, d, Status::OffMap)
-        }
-        Keyed::In(_) => {
-            let due = f.due;
-            if due.matching {
-                return match_step(e, arena, f, fix);
-            }
-            if due.road {
-                return road_due(e, arena, f, fix);
-            }
-            ended(e, c, f, Status::Idle)
-        }
-    }
-}
-
-// A step that needs no tile.
-pub(crate) fn worked(e: Engine, arena: &[u8]) -> Stepped
-    requires { ⌜ (engineOk e (length (now arena)) ≡ true) × (e .shared .phase ≡ PhaseIs.Ready) ⌝ }
-    ensures { λ r. ⌜ r ≡ Work.worked e (now (arena .entry)) ⌝ }
+// A road was due without a match: it is due no more.
+pub(crate) fn road_dropped(mut e: Engine) -> Stepped
+    ensures { λ r. ⌜ r ≡ Plans.roadDropped e ⌝ }
 {
     let before = e.follower;
-    let f = counted(before);
-    let sight = f.sight;
-    let fix = sight.fix;
-    match fix {
-        MaybeFix::Is(at) => at_fix(e, arena, f, at),
-        MaybeFix::Nothing => {
-            let s = e.shared;
-            let c = s.cache;
-            ended(e, c, f, Status::Idle)
-        }
+    let mut f = counted(before);
+    let mut due = f.due;
+    due.road = false;
+    f.due = due;
+    e.follower = f;
+    Stepped {
+        answer: Status::Idle,
+        engine: e,
+    }
+}
+
+// The fix lies outside the grid.
+pub(crate) fn left_map(mut e: Engine, fix: Fix) -> Stepped
+    ensures { λ r. ⌜ r ≡ Plans.leftMap e fix ⌝ }
+{
+    let before = e.follower;
+    let counted = counted(before);
+    let f = off_map(counted, fix);
+    e.follower = f;
+    Stepped {
+        answer: Status::OffMap,
+        engine: e,
     }
 }
