@@ -1,7 +1,7 @@
 -- What a step is to do where no fetch is open: this restates private code (`plan.rt`, and what `work.rt` and `deliver.rt` make of an answer). `Steps` has the step itself, and
 -- `PlanLaws` says that both are one.
 use Prim.Native.Nat.{ℕ, _+_}
-use mathlib.Core.Bool.{Bool, true, false, not, cond}
+use mathlib.Core.Bool.{Bool, true, false, not, _&&_, cond}
 use mathlib.Core.List.{List}
 use lib.Dec.{eqb, ltb, leb}
 use Rattle.pack.specs.Grid.{keyOf}
@@ -11,6 +11,7 @@ use Rattle.pack.specs.declared.Keyed.the-variants as Keyed
 use Rattle.cache.specs.declared.MaybeKey.{MaybeKey}
 use Rattle.cache.specs.declared.MaybeKey.the-variants as MaybeKey
 use Rattle.cache.specs.Uses.{withUses}
+use Rattle.cache.specs.declared.Pending.{Pending}
 use Rattle.cache.specs.declared.Pending.the-variants as Pending
 use Rattle.cache.specs.declared.Progress.{Progress}
 use Rattle.cache.specs.declared.Progress.the-variants as Progress
@@ -38,6 +39,7 @@ use Rattle.engine.specs.declared.Status.{Status}
 use Rattle.engine.specs.declared.Status.the-variants as Status
 use Rattle.engine.specs.declared.Stepped.{Stepped}
 use Rattle.engine.specs.Deliver.{failing, needless}
+use Rattle.engine.specs.State.{engineOk}
 use Rattle.engine.specs.Steps.{opened, needStep}
 use Rattle.engine.specs.Work.{counted, ended, offMap, matched, matchAsks, mayAsk, matchEndedBy, matchStep, published, roadAsks, rematch, roadStep, roadOff, withDue}
 
@@ -86,6 +88,26 @@ doneBy (Plan.Off fix) e arena = leftMap e fix
 
 abbrev pub planOf : Engine → Plan
 planOf e = ofState (e .shared .phase) (e .shared .header) (e .follower .sight .fix) (e .follower .due) (e .follower .matcher .current)
+
+-- no fetch is open, and there is nothing to do
+abbrev pub isRest : Plan → Bool
+isRest Plan.Rest = true
+isRest Plan.NoPack = false
+isRest Plan.Header = false
+isRest (Plan.Need key) = false
+isRest (Plan.Match fix) = false
+isRest (Plan.Road fix found) = false
+isRest Plan.Roadless = false
+isRest (Plan.Off fix) = false
+
+abbrev pub isClosed : Pending → Bool
+isClosed Pending.Nothing = true
+isClosed Pending.Header = false
+isClosed (Pending.Entry key) = false
+isClosed Pending.Chunk = false
+
+unfoldable pub rests : Engine → ℕ → Bool
+rests e size = isClosed (e .shared .cache .pending) && (isRest (planOf e) && engineOk e size)
 
 -- ---- what a match that ended makes of the follower, and its answer
 

@@ -12,6 +12,7 @@ use cache::Progress;
 use pack::TileKey;
 ghost use mathlib.Core.Path.{_≡_};
 ghost use Rattle.engine.specs.Calls as Calls;
+ghost use Rattle.engine.specs.Plans as Plans;
 ghost use Rattle.engine.specs.Steps as Steps;
 
 pub(crate) fn with_pending(c: Cache, pending: Pending) -> Cache
@@ -162,4 +163,41 @@ pub(crate) fn stepped(mut e: Engine, arena: &[u8]) -> Stepped
             }
         }
     }
+}
+
+// Whether no fetch is open.
+fn is_closed(pending: Pending) -> bool
+    ensures { λ r. ⌜ r ≡ Plans.isClosed pending ⌝ }
+{
+    match pending {
+        Pending::Nothing => true,
+        Pending::Header => false,
+        Pending::Entry(_) => false,
+        Pending::Chunk => false,
+    }
+}
+
+// Whether a step has nothing to do. What is small is asked first: a step that has something to do makes number 12's test itself.
+pub(crate) fn rests(e: Engine, size: usize) -> bool
+    ensures { λ r. ⌜ r ≡ Plans.rests e size ⌝ }
+{
+    let s = e.shared;
+    let c = s.cache;
+    let pending = c.pending;
+    if !is_closed(pending) {
+        return false;
+    }
+    let phase = s.phase;
+    let header = s.header;
+    let f = e.follower;
+    let due = f.due;
+    let sight = f.sight;
+    let fix = sight.fix;
+    let m = f.matcher;
+    let current = m.current;
+    let plan = crate::plan::of_state(phase, header, fix, due, current);
+    if !crate::plan::is_rest(plan) {
+        return false;
+    }
+    crate::state::engine_ok(e, size)
 }

@@ -33,7 +33,9 @@ pub use predict::MAX_SAMPLES;
 pub use tile::TileId;
 ghost use Rattle.engine.specs.Calls as Calls;
 ghost use Rattle.engine.specs.Fixes as Fixes;
+ghost use Rattle.engine.specs.Plans as Plans;
 ghost use Rattle.engine.specs.Publish as Publish;
+ghost use lib.ListN.{length};
 ghost use mathlib.Core.Path.{_≡_};
 
 // A GPS position in micro-degrees, at a monotonic time.
@@ -340,6 +342,13 @@ impl Engine {
         }
         let f = self.follower;
         Count::Is(f.steps)
+    }
+
+    // Whether a step has nothing to do: it then answers Idle, and changes nothing but that it is counted (`rest-step`). For a host that keeps the state in a form of its own.
+    pub fn rests(self, arena: &[u8]) -> bool
+        ensures { λ r. ⌜ r ≡ Plans.rests self (length (now (arena .entry))) ⌝ }
+    {
+        fetch::rests(self, arena.len())
     }
 
     // One bounded unit of work.
