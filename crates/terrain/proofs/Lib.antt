@@ -5,6 +5,7 @@ pub mod PieceLaws
 pub mod SameLaws
 pub mod HeldLaws
 pub mod WordsLaws
+pub mod CountLaws
 pub mod NumberLaws
 pub mod TripLaws
 pub mod KeptLaws

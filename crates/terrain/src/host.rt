@@ -16,7 +16,9 @@ use engine::Matched;
 use engine::Status;
 use engine::Stepped;
 use engine::Taken;
+ghost use lib.ListN.{length, getD, set};
 ghost use mathlib.Core.Path.{_≡_};
+ghost use Rattle.cache.specs.Lookups.{after};
 ghost use Rattle.engine.specs.Fixes as Fixes;
 ghost use Rattle.engine.specs.Publish as Publish;
 ghost use Rattle.engine.specs.State as State;
@@ -171,6 +173,14 @@ fn stepped(s: Stepped, ws: &mut [u32; words::WORDS]) -> StepTold
     words::write(after, ws);
     let answer = s.answer;
     status(answer)
+}
+
+// A step with nothing to do is counted in its word, and no other word is written.
+fn count_step(ws: &mut [u32; words::WORDS])
+    requires { ⌜ length (now ws) ≡ 1150 ⌝ }
+    ensures { λ r. ⌜ now (ws .exit) ≡ set (now (ws .entry)) 1149 (after (getD (now (ws .entry)) 1149 0)) ⌝ }
+{
+    ws[1149] = std::num::wrapping_add_u32(ws[1149], 1);
 }
 
 fn known(answer: Known) -> CountTold
@@ -465,6 +475,10 @@ pub extern "C" fn terrain_step(engine: &mut [u32; words::WORDS], arena: &[u8]) -
         return told(12, 5);
     }
     let e = r.engine;
+    if e.rests(arena) {
+        count_step(engine);
+        return told(0, 0);
+    }
     let s = e.step(arena);
     stepped(s, engine)
 }
@@ -506,6 +520,10 @@ pub extern "C" fn terrain_step_from(
         return told(12, 5);
     }
     let e = r.engine;
+    if e.rests(&arena[..]) {
+        count_step(engine);
+        return told(0, 0);
+    }
     let s = e.step_from(arena, pack);
     stepped(s, engine)
 }
