@@ -91,7 +91,7 @@ pub(crate) fn touch(c: Cache, i: usize) -> Cache
 }
 
 // A lookup in a cache whose state has been tested, of a key in the grid.
-pub fn got(c: Cache, arena: &[u8], size: u32, key: TileKey) -> Got
+pub(crate) fn got(c: Cache, arena: &[u8], size: u32, key: TileKey) -> Got
     ensures { λ r. ⌜ r ≡ Lookups.got c (now (arena .entry)) size key ⌝ }
 {
     match lands_on(c, key) {

@@ -1,4 +1,4 @@
--- Laws of the division and of the register, that the remainder is the only one, and the table's rule.
+-- Laws of the division and of the register, that a word may be added further on (Words), that the remainder is the only one, and the table's rule.
 pub mod Table
 pub mod Laws
 pub mod Words

@@ -1,5 +1,5 @@
-// CRC-32 as ITU-T V.42 has it: `crc32`, `crc_update` and `crc32_skipping` of the Rust's tile.rs. Few octets go by a table of half octets, four a turn. Many go by
-// words of 64 bits with no table, and only the last five words by the table. The table is small because a const is written out on the stack where it is used.
+// CRC-32 as ITU-T V.42 has it: `crc32`, `crc_update` and `crc32_skipping` of the Rust's tile.rs. Few octets go by a table of half octets, four octets a turn. Many go by
+// words of 64 bits with no table, and only the last 40 to 47 octets by the table. The table is small because a const is written out on the stack where it is used.
 ghost use mathlib.Core.Path.{_≡_};
 ghost use mathlib.Core.List.{[], _∷_, _++_};
 ghost use Prim.Native.Nat.{_+_, _-_, _%_, _<_, _≤_, min};
@@ -301,7 +301,7 @@ fn ended(table: &[u32; 128], p: Pending, o: &[u8]) -> u32
     crc_few(table, c, &o[40..])
 }
 
-// The register after the octets. The five last words by the table take as long as some 40 octets, so a few go by the table alone.
+// The register after the octets. Below 48 octets no word would go without the table.
 fn crc_update(table: &[u32; 128], value: u32, bytes: &[u8]) -> u32
     requires { ⌜ Rule (now table) ⌝ }
     ensures { λ r. ⌜ Takes value (now (bytes .entry)) r ⌝ }

@@ -1,13 +1,12 @@
 -- The public cores do no harm: where no call is refused with 12, each does what its public call does. Of a key outside the grid no run is held, since
 -- each ready run holds what the pack has for its key.
-use Prim.Native.Nat.{ℕ, _*_, _≤_}
-use mathlib.Core.Path.{_≡_, refl, sym, ap, _∙_}
+use Prim.Native.Nat.{ℕ}
+use mathlib.Core.Path.{_≡_, refl, sym, _∙_}
 use mathlib.Core.Bool.{Bool, true, false, cond}
 use mathlib.Core.List.{List, [], _∷_}
 use native.Mathlib.Omega.{arith}
 use lib.Dec.{eqb}
 use lib.Ieee.{Float}
-use lib.ListN.{length}
 use Rattle.pack.specs.Grid.{inGrid}
 use Rattle.pack.specs.declared.Header.{Header}
 use Rattle.pack.specs.declared.TileKey.{TileKey}
@@ -17,7 +16,7 @@ use Rattle.cache.specs.declared.look.Landing.{Landing}
 use Rattle.cache.specs.declared.look.Landing.the-variants as Landing
 use Rattle.cache.specs.Ages as Ages
 use Rattle.cache.specs.Calls as CacheCalls
-use Rattle.cache.specs.Direct.{Aged, Look, ready, missing, directEntry, direct}
+use Rattle.cache.specs.Direct.{ready, missing, direct}
 use Rattle.cache.specs.Lookups.{landsOn, gotAt, got}
 use Rattle.cache.proofs.UnreadLaws.{settled-leaves}
 use Rattle.cache_lists.specs.Claims.{Parsed}
@@ -30,7 +29,7 @@ use Rattle.predict.specs.Predict as Predict
 use Rattle.engine.specs.Follow as Followers
 use Rattle.direct.specs.Lists as Calls
 use Rattle.direct.specs.Lists.{World, Call, exec, start}
-use Rattle.direct.specs.Direct.{headerOf, packAfter}
+use Rattle.direct.specs.Direct.{packAfter}
 use Rattle.direct.specs.Claims.{toldOf, AllFair}
 use Rattle.direct.specs.Cores.{Core, loaded, settled, cleared, updated, predicted, NoRun, Outside, Public, Harmless, Throughout, AllCores}
 use Rattle.direct.specs.Cores as Cores

@@ -16,7 +16,7 @@ use Rattle.cache.specs.declared.Pending.the-variants as Pending
 use Rattle.matcher.specs.State.{keyOk}
 use Rattle.matcher.specs.declared.Current.{Current}
 use Rattle.matcher.specs.declared.Current.the-variants as Current
-use Rattle.engine.specs.Plans.{ofRoad, ofDue, ofFix, ofSight, ofNeed, ofState, doneBy, planOf, isRest, isClosed, rests}
+use Rattle.engine.specs.Plans.{ofRoad, ofFix, ofSight, ofNeed, ofState, doneBy, planOf, isRest, isClosed, rests}
 use Rattle.engine.specs.Calls.{step, stepFrom}
 use Rattle.engine.specs.Deliver.{over}
 use Rattle.engine.specs.State.{engineOk, refused}

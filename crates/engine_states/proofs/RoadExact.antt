@@ -12,7 +12,6 @@ use Rattle.pack.specs.Grid.{inGrid}
 use Rattle.pack.specs.declared.Header.{Header}
 use Rattle.tile.specs.Layout as Layout
 use Rattle.tile.specs.declared.Edge.{Edge}
-use Rattle.geo.specs.declared.Point.{Point}
 use Rattle.cache.specs.Reader.{Reader}
 use Rattle.matcher.specs.declared.Matched.{Matched}
 use Rattle.predict.specs.Start.{startOk, place}

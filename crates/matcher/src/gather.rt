@@ -203,7 +203,7 @@ fn match_around(
 }
 
 // `update` past number 12's test, for a caller that has made it: 8 for the point or the heading.
-pub fn updated(
+pub(crate) fn updated(
     m: Matcher,
     c: Cache,
     arena: &[u8],

@@ -2,11 +2,11 @@
 -- Rust's plain ones. `part-way-exact`: a point part of the way between two places of the grid. `place-exact`: the start's place, which is such a point.
 -- `back-exact`: the point 25 m back, between two points passed, which are places of the grid too (`walk-near`). `less-exact`: a point's height less the
 -- rider's. The idea: places lie within 361 degrees, so two are less than 2 ^ 30 apart, which is a float; a part of it is no more.
-use Prim.Native.Nat.{ℕ, zero, suc, _+_, _-_, _*_, _≤_, _<_}
-use mathlib.Core.Path.{_≡_, refl, subst, sym, _∙_}
+use Prim.Native.Nat.{ℕ, zero, suc, _+_, _-_, _≤_, _<_}
+use mathlib.Core.Path.{_≡_, refl, subst, sym}
 use mathlib.Core.Bool.{Bool, true, false, _&&_, cond}
 use mathlib.Core.List.{List, [], _∷_, _++_}
-use mathlib.Core.Logic.{_⊎_, inl, inr}
+use mathlib.Core.Logic.{inr}
 use native.Mathlib.Omega.{arith}
 use lib.Dec.{ltb, leb, eqb}
 use lib.IntN.{ℤ, pos, negsuc, _+ℤ_, _-ℤ_}

@@ -2,7 +2,7 @@
 -- carried on is what the lookup leaves, found or not (`look-carried`). And a walk that ended, at the decision (`taken-ended`) or at the
 -- junction's lookups (`onward-ended`), stays so.
 use Prim.Native.Nat.{ℕ, _+_}
-use mathlib.Core.Path.{_≡_, refl, sym, ap, _∙_}
+use mathlib.Core.Path.{_≡_, refl, sym, ap}
 use mathlib.Core.Bool.{Bool, true, false, cond, true≢false}
 use mathlib.Core.List.{List}
 use lib.Dec.{leb}
@@ -10,13 +10,13 @@ use lib.ListN.{getD}
 use Rattle.pack.specs.declared.TileKey.{TileKey}
 use Rattle.cache.specs.declared.Lookup.{Lookup}
 use Rattle.cache.specs.declared.Lookup.the-variants as Lookup
-use Rattle.cache.specs.Ages.{Hit, inRing, pageOf, known, hitRun, hitPage, lookUp}
+use Rattle.cache.specs.Ages.{inRing, pageOf, known, hitRun, hitPage, lookUp}
 use Rattle.cache.specs.Reader.{Reader, inBytes, inLooks}
 use Rattle.predict.specs.declared.Ending.{Ending}
 use Rattle.predict.specs.declared.Ending.the-variants as Ending
 use Rattle.predict.specs.Cross.{Ways}
 use Rattle.predict.specs.declared.Walk.{Walk}
-use Rattle.predict.specs.Walk.{withEnding, carriedBy, Stride, takenBy, onwardBy, goesOn}
+use Rattle.predict.specs.Walk.{withEnding, carriedBy, takenBy, onwardBy, goesOn}
 
 abbrev pub isReady : Lookup → Bool
 isReady (Lookup.Ready first len) = true

@@ -1,8 +1,7 @@
 -- Two readers that answer the same, while what they carry stays related, give the same road (`forecast-simulates`). Two looks that
--- agree give the same road where it finishes at the first (`predict-agrees`). The idea: the same of the walk, by cases of the start's one lookup. Assumes
--- nothing.
+-- agree give the same road where it finishes at the first (`predict-agrees`). The idea: the same of the walk, by cases of the start's one lookup.
 use Prim.Native.Nat.{ℕ}
-use mathlib.Core.Path.{_≡_, refl, sym, ap, _∙_}
+use mathlib.Core.Path.{_≡_, refl, sym, ap}
 use mathlib.Core.Bool.{Bool, true, false, cond, true≢false}
 use mathlib.Core.List.{List, []}
 use lib.IntN.{ℤ}
@@ -30,7 +29,7 @@ use Rattle.predict.proofs.WalkLaws.{AlikeRun, walk-simulates, walk-agre
 use Rattle.predict.specs.declared.Outcome.{Outcome}
 use Rattle.predict.specs.declared.Outcome.the-variants as Outcome
 use Rattle.predict.specs.Predict.{outcomeBy, outcome, Forecast, forecastOf, tripOf}
-use Rattle.predict.specs.Predict.{roadOver, nothing, tileOver, startLook, directedOver, forecastOver, predictOver}
+use Rattle.predict.specs.Predict.{roadOver, nothing, tileOver, startLook, directedOver, forecastOver}
 use Rattle.predict.specs.Relied.{isFinished, PredictAgrees}
 
 -- ---- two readers

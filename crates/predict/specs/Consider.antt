@@ -8,7 +8,6 @@ use Rattle.num.specs.Fold.{upTo}
 use Rattle.pack.specs.declared.TileKey.{TileKey}
 use Rattle.tile.specs.Layout as Layout
 use Rattle.tile.specs.declared.Incident.{Incident}
-use Rattle.tile.specs.declared.Edge.{Edge}
 use Rattle.cache.specs.Keys.{sameKey}
 use Rattle.predict.specs.declared.Choice.{Choice}
 use Rattle.predict.specs.declared.Choices.{Choices}

@@ -1,7 +1,7 @@
 -- What the work of a match, a road and a step is refused with: the late 12 leaves all as it was, 5, 6 and 10 all but clock and ages.
 use Prim.Native.Nat.{ℕ, _+_, _-_, _<_, _≤_}
 use mathlib.Core.Path.{_≡_, refl, sym, ap, _∙_, subst}
-use mathlib.Core.Bool.{Bool, true, false, _&&_, not, cond, true≢false}
+use mathlib.Core.Bool.{Bool, true, false, not, cond, true≢false}
 use mathlib.Core.List.{List, [], _∷_}
 use mathlib.Core.Logic.{_⊎_, inl, inr}
 use native.Mathlib.Omega.{arith}
@@ -38,7 +38,7 @@ use Rattle.cache.specs.declared.look.Landing.{Landing}
 use Rattle.cache.specs.declared.look.Landing.the-variants as Landing
 use Rattle.cache.specs.declared.next.Next.{Next}
 use Rattle.cache.specs.declared.next.Next.the-variants as Next
-use Rattle.cache.proofs.Below.{and-left, and-right}
+use Rattle.cache.proofs.Below.{and-right}
 use Rattle.cache.proofs.FromLaws.{bytes-left}
 use Rattle.cache.proofs.LookLaws.{looked-aged}
 use Rattle.matcher.specs.Gather.{cacheAfter, matchingBy, outcome, runOver, updateOver, updated}
@@ -78,7 +78,7 @@ use Rattle.engine.specs.Fixes.{placeOf}
 use Rattle.engine.specs.Calls as Calls
 use Rattle.engine.specs.Deliver.{After, over, arrived}
 use Rattle.engine.specs.Numbers.{numberOfStatus}
-use Rattle.engine.specs.State.{refused, needOk, pendingOk, reloadLimit, engineOk}
+use Rattle.engine.specs.State.{refused, needOk, reloadLimit, engineOk}
 use Rattle.engine.specs.Work.{ended, mayAsk, matchEndedBy, matchStep, roadEndedBy, roadStep, roadDueBy, inGridStep, atFixBy, atFix, workedBy, worked, counted}
 use Rattle.engine.specs.Steps.{chunkRequest, requestOf, repeated, readyBy, startedBy, started, steppedBy, stepped}
 use Rattle.engine.specs.declared.Engine.{Engine}

@@ -5,8 +5,8 @@
 -- tested before its work, and `Works` has the numbers that the work is refused with. `lines` of proofs/Table proves it.
 --
 -- A function that isn't here refuses nothing, or has the definition of one that is: a view's readers that of `tile` and `geo`, geo's `bearing` that of `angle`,
--- the cache's `settled` that of `loaded` with failure 0 and no bytes; or it is a core whose refusals are the work's of one that is: `look::got`, `look::found` and
--- `ages::look_up` the late 12 of `get`, `gather::made` those of `updated`. What the engine makes of 1, 2, 3 and 4 (Working, NoPack) is `Deliver.delivered`, and
+-- the cache's `settled` that of `loaded` with failure 0 and no bytes; or it is a core whose refusals are the work's of one that is: `look::found` and,
+-- by numbers taken out of the cache, `ages::look_up` the late 12 of `get`, `gather::made` those of `updated`. What the engine makes of 1, 2, 3 and 4 (Working, NoPack) is `Deliver.delivered`, and
 -- which key goes with 5 the core's own answer. The functions for C have definitions over these (crate terrain).
 use Prim.Native.Nat.{ℕ, _+_, max}
 use mathlib.Core.Path.{_≡_}

@@ -1,7 +1,7 @@
 -- A road's heights and figures stay within their types, over any reader (`forecast-typed`): every height that is written is held to 16 bits or cut to them, and every distance is 0, the horizon,
 -- the metres ridden or a result of a float operation. The idea: a walk leaves its track alone but along an edge.
 use Prim.Native.Nat.{ℕ, zero, suc, _+_, _-_, _<_}
-use mathlib.Core.Path.{_≡_, refl, sym, subst, _∙_}
+use mathlib.Core.Path.{_≡_, _∙_}
 use mathlib.Core.Bool.{Bool, _&&_, not}
 use mathlib.Core.List.{List}
 use native.Mathlib.Omega.{arith}

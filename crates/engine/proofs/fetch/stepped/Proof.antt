@@ -12,7 +12,7 @@ use borrow.Author.Tests.{not-true, not-false}
 use denote.Ref.{now}
 use Rattle.engine.specs.Calls.{step}
 use Rattle.engine.specs.Steps.{stepped}
-use Rattle.engine.proofs.PlanLaws.{plan-step, plan-in, roadIn}
+use Rattle.engine.proofs.PlanLaws.{plan-step, plan-in}
 use Rattle.engine.proofs.StepNeeds.{fetch-repeated}
 use Rattle.engine.proofs.fetch.stepped.Statement.{statement}
 use Rattle.engine.proofs.fetch.stepped.Tie as tie

@@ -12,7 +12,7 @@ use Rattle.pack.specs.declared.TileKey.{TileKey}
 use Rattle.cache.specs.Direct.{Look, ready, missing, absent, stale}
 use Rattle.cache.specs.declared.Lookup.{Lookup}
 use Rattle.cache.specs.Ages.{lookUp}
-use Rattle.cache.specs.Reader.{Reader, inBytes, inLooks}
+use Rattle.cache.specs.Reader.{Reader, inLooks}
 use Rattle.predict.specs.declared.twins.Twin.{Twin}
 use Rattle.predict.specs.declared.Arrival.{Arrival}
 use Rattle.predict.specs.declared.Crossing.{Crossing}

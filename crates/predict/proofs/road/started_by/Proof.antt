@@ -1,7 +1,6 @@
 -- `predict::road::started_by` meets its contract: each return by the lookup's answer. The start's height is read back from its bits.
 use mir.Syntax.{w32}
 use borrow.Author.Needs.{needs}
-use mathlib.Core.Path.{refl}
 use Rattle.pack.proofs.Signed.{got}
 use Rattle.predict.specs.Predict.{startedBy}
 use Rattle.predict.proofs.road.started_by.Statement.{statement}
