@@ -18,10 +18,11 @@ pub mod SearchLaws
 pub mod LookLaws
 -- Laws of loads, for the proofs of this crate and for callers to cite.
 -- StepLaws: a read of a lent pack, an entry's bytes. FromLaws: a step over a lent pack is `fetch`, then `load`.
--- UnreadLaws: a step without a read.
+-- UnreadLaws: a step without a read. EndingLaws: what the last chunk leaves, part by part.
 pub mod StepLaws
 pub mod FromLaws
 pub mod UnreadLaws
+pub mod EndingLaws
 -- Laws of the lookups of one call, for callers to cite. LooksLaws: what stands at each place of the numbers that are carried. ReaderLaws: they
 -- stand for the cache and the keys found.
 pub mod LooksLaws

@@ -11,8 +11,9 @@ pub mod Lookups
 pub mod State
 pub mod Calls
 pub mod Direct
--- Bringing tiles in: one step of a load, and the public functions.
+-- Bringing tiles in: one step of a load, what its last chunk leaves, and the public functions.
 pub mod Loads
+pub mod Endings
 -- The lookups of one call that makes many, and a lookup as a definition reads it.
 pub mod Ages
 pub mod Reader

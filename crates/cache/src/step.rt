@@ -7,6 +7,7 @@ use crate::Pages;
 use crate::Pending;
 use crate::Progress;
 use crate::Request;
+use crate::Ring;
 use crate::next::Next;
 use crate::victim::Found;
 use pack::Header;
@@ -17,6 +18,7 @@ ghost use mathlib.Core.Path.{_≡_};
 ghost use Prim.Native.Nat.{_≤_, _+_};
 ghost use lib.ListN.{length};
 ghost use lib.Seq.{paste};
+ghost use Rattle.cache.specs.Endings as Endings;
 ghost use Rattle.cache.specs.Loads as Loads;
 
 // Bytes that the next chunk of a load has.
@@ -276,30 +278,80 @@ fn put(arena: &mut [u8], slot: usize, done: u32, bytes: &[u8])
     copy(arena, at, bytes);
 }
 
-// The load's tile ready, and the most recently used.
-fn readied(c: Cache, l: Loading) -> Cache
-    ensures { λ r. ⌜ r ≡ Loads.readied c l ⌝ }
+// The run from page `at` on ready, and the most recently used.
+fn ready_pages(g: Pages, at: usize) -> Pages
+    ensures { λ r. ⌜ r ≡ Endings.readyPages g at ⌝ }
 {
-    let mut g = c.pages;
-    let at = l.slot;
-    if at < crate::MAX_PAGES {
-        g.slots[at].ready = true;
+    let mut d = g;
+    let age = std::num::wrapping_add_u32(d.clock, 1);
+    d.clock = age;
+    if crate::MAX_PAGES <= at {
+        return d;
     }
-    let d = moved(c, g, MaybeLoading::Nothing);
-    let mut e = crate::look::touch(d, at);
-    e.loads = std::num::wrapping_add_u32(e.loads, 1);
-    e
+    d.slots[at].ready = true;
+    d.used[at] = age;
+    d
 }
 
-// The last chunk came: the tile is ready if it passes, and missing if not.
+// The pages without the run of a load.
+fn without_run(g: Pages, loading: MaybeLoading) -> Pages
+    ensures { λ r. ⌜ r ≡ Loads.withoutRun loading g ⌝ }
+{
+    match loading {
+        MaybeLoading::Nothing => g,
+        MaybeLoading::Tile(l) => crate::evict::evict(g, l.slot, 1),
+    }
+}
+
+// The pages that the last chunk leaves: the run ready if the tile passes, and dropped if not.
+fn ended_pages(c: Cache, at: usize, ok: bool) -> Pages
+    ensures { λ r. ⌜ r ≡ Endings.endedPages ok (c .pages) (c .loading) at ⌝ }
+{
+    let g = c.pages;
+    if ok {
+        return ready_pages(g, at);
+    }
+    let loading = c.loading;
+    without_run(g, loading)
+}
+
+// The ring that it leaves: a tile that does not pass is missing.
+fn ended_ring(ring: Ring, key: TileKey, ok: bool) -> Ring
+    ensures { λ r. ⌜ r ≡ Endings.endedRing ok ring key ⌝ }
+{
+    if ok {
+        return ring;
+    }
+    crate::keys::forget(ring, key)
+}
+
+fn ended_loads(loads: u32, ok: bool) -> u32
+    ensures { λ r. ⌜ r ≡ Endings.endedLoads ok loads ⌝ }
+{
+    if ok {
+        return std::num::wrapping_add_u32(loads, 1);
+    }
+    loads
+}
+
+// The last chunk came: the tile is ready if it passes, and missing if not. Each part of the state is made once, so that no other state stands beside it.
 fn ended(c: Cache, arena: &[u8], l: Loading, size: u32) -> Cache
     ensures { λ r. ⌜ r ≡ Loads.ended c (now (arena .entry)) l size ⌝ }
 {
-    if crate::look::passes(arena, l.slot, l.len as usize, l.key, size) {
-        return readied(c, l);
+    let ok = crate::look::passes(arena, l.slot, l.len as usize, l.key, size);
+    let pages = ended_pages(c, l.slot, ok);
+    let ring = c.missing;
+    let missing = ended_ring(ring, l.key, ok);
+    let old = c.pending;
+    let pending = withdrawn(old);
+    let loads = ended_loads(c.loads, ok);
+    Cache {
+        pages,
+        missing,
+        loading: MaybeLoading::Nothing,
+        pending,
+        loads,
     }
-    let d = dropped(c);
-    forgot(d, l.key)
 }
 
 // The load with `come` bytes of its tile.

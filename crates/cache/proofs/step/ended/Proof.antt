@@ -1,7 +1,7 @@
--- `step::ended` meets its contract: each return by whether the tile passes.
-use mathlib.Core.Path.{sym, _∙_}
+-- `step::ended` meets its contract: its parts are the definition's.
 use borrow.Author.Needs.{needs}
-use Rattle.cache.specs.Loads.{ended}
+use denote.Ref.{now}
+use Rattle.cache.proofs.EndingLaws.{ended-parts}
 use Rattle.cache.proofs.step.ended.Statement.{statement}
 use Rattle.cache.proofs.step.ended.Tie as tie
 
@@ -9,26 +9,25 @@ cast-passes : tie.Need-cast-passes
 cast-passes c = search needs
 
 passes-requires : tie.Need-passes-requires
-passes-requires c κs = tt
+passes-requires c κs = search needs
 
-readied-requires : tie.Need-readied-requires
-readied-requires c κs = tt
+ended-pages-requires : tie.Need-ended-pages-requires
+ended-pages-requires c κs = search needs
+
+ended-ring-requires : tie.Need-ended-ring-requires
+ended-ring-requires c κs = search needs
+
+withdrawn-requires : tie.Need-withdrawn-requires
+withdrawn-requires c κs = search needs
+
+ended-loads-requires : tie.Need-ended-loads-requires
+ended-loads-requires c κs = search needs
 
 returns : tie.Need-returns
-unfolding ended
-returns c = rw (sym (c .before .before .passes .ensures) ∙ c .before .if1 .taken) (c .readied .ensures)
-
-dropped-requires : tie.Need-dropped-requires
-dropped-requires c κs = tt
-
-forgot-requires : tie.Need-forgot-requires
-forgot-requires c κs = tt
-
-returns-2 : tie.Need-returns-2
-unfolding ended
-returns-2 c =
-    let failed = c .before .before in
-    rw (sym (failed .before .passes .ensures) ∙ failed .if1 .left, ← c .before .dropped .ensures) (c .forgot .ensures)
+returns c =
+    let args = c .before .before .before .before .before .before .before .before .args in
+    rw (c .ended-loads .ensures, c .before .withdrawn .ensures, c .before .before .ended-ring .ensures, c .before .before .before .before .ended-pages .ensures, c .before .before .before .before .before .passes .ensures)
+    (ended-parts (args .c) (now (args .arena)) (args .l) (args .size))
 
 pub ended-spec : {M : Type 1} → statement M
 ended-spec =
@@ -36,8 +35,8 @@ ended-spec =
     (tie.spec
     cast-passes
     passes-requires
-    readied-requires
-    returns
-    dropped-requires
-    forgot-requires
-    returns-2)
+    ended-pages-requires
+    ended-ring-requires
+    withdrawn-requires
+    ended-loads-requires
+    returns)
