@@ -1,10 +1,11 @@
--- The code's loop over the tiles around a fix is the run over the cache's look: where it starts (`run-start`), one tile more (`run-turn`), and a place
--- without one (`run-none`). The idea: the lookups so far changed clock and ages alone, so that `get` in the cache that they left answers as in the
+-- The code's loop over the tiles around a fix is the run over the cache's look: where it starts (`run-start`), one tile more (`run-turn`), a place
+-- without one (`run-none`), and a lookup that ends the match (`run-over`). The idea: the lookups so far changed clock and ages alone, so that `get` in the cache that they left answers as in the
 -- cache given, and these two are all that has to be carried (`updated-uses`).
-use Prim.Native.Nat.{ℕ, _+_, _*_}
+use Prim.Native.Nat.{ℕ, zero, suc, _+_, _-_, _*_, _<_}
 use mathlib.Core.Path.{_≡_, refl, sym, ap, _∙_}
-use mathlib.Core.Bool.{Bool, true, false}
+use mathlib.Core.Bool.{Bool, true, false, true≢false}
 use mathlib.Core.List.{List, [], _∷_, _++_}
+use native.Mathlib.Omega.{arith}
 use borrow.Author.Tests.{le-leb}
 use lib.ListN.{length}
 use Rattle.pack.specs.declared.Header.{Header}
@@ -12,7 +13,9 @@ use Rattle.pack.specs.declared.TileKey.{TileKey}
 use Rattle.geo.specs.declared.Point.{Point}
 use Rattle.cache.specs.declared.MaybeKey.{MaybeKey}
 use Rattle.cache.specs.declared.MaybeKey.the-variants as MaybeKey
+use Rattle.cache.specs.declared.Aging.{Aging}
 use Rattle.cache.specs.declared.Cache.{Cache}
+use Rattle.cache.specs.declared.Lookup.{Lookup}
 use Rattle.cache.specs.declared.Slot.{Slot}
 use Rattle.cache.specs.Runs.{slotAt}
 use Rattle.cache.specs.declared.look.Landing.{Landing}
@@ -24,19 +27,26 @@ use Rattle.cache.proofs.LookLaws.{passes-inside, looked-aged, looked-more, got-
 use Rattle.num.proofs.FoldLaws.{up-start, up-turn}
 use Rattle.matcher.specs.Keeping.{noneKept}
 use Rattle.matcher.specs.declared.Heading.{Heading}
+use Rattle.matcher.specs.declared.Kept.{Kept}
 use Rattle.matcher.specs.declared.Matcher.{Matcher}
 use Rattle.matcher.specs.declared.Query.{Query}
 use Rattle.matcher.specs.declared.gather.Ending.{Ending}
 use Rattle.matcher.specs.declared.gather.Ending.the-variants as Ending
+use Rattle.matcher.specs.declared.gather.Gathered.{Gathered}
 use Rattle.matcher.specs.declared.NearKeys.{NearKeys}
 use Rattle.matcher.specs.Near.{keyAt}
-use Rattle.matcher.specs.Gather.{Run, lookStep, runStep, noRun, runTo, runOver, cacheAfter, updated, gatheredOf, bytesOf, gatheredWith, gatherBy, gatherStep}
+use Rattle.matcher.specs.Gather.{Run, lookStep, runStep, noRun, runTo, runOver, cacheAfter, updated, gatheredOf, bytesOf, gatheredWith, soFar}
 
 -- a run that passes lies in the arena, so its bytes are all there
 pub bytes-are : (arena : List ℕ) (first len : ℕ) (key : TileKey) (size : ℕ) → passes arena first len key size ≡ true
     → bytesOf arena first len ≡ runBytes arena first len
 unfolding bytesOf
 bytes-are arena first len key size e = rw (le-leb (first * 8192 + len) (length arena) (passes-inside arena first len key size e))
+
+abbrev pub isOver : Ending → Bool
+isOver Ending.All = false
+isOver (Ending.Need key) = true
+isOver Ending.Stale = true
 
 -- before the first tile
 gather-start : (c : Cache) (arena : List ℕ) (size : ℕ)
@@ -83,17 +93,17 @@ module _ (c : Cache) (arena : List ℕ) (q : Query) where
 
   -- ---- one tile
 
-  turn-by : (end : Ending) (key : TileKey) (r : Run)
-      → gatherBy end (gatheredOf c arena size r) c arena q key ≡ gatheredOf c arena size (runStep end (MaybeKey.Key key) (look c arena size) r q)
-  turn-by Ending.All key r = key-turn r key
-  turn-by (Ending.Need other) key r = refl
-  turn-by Ending.Stale key r = refl
-
   -- a place without a key adds nothing
   no-key : (end : Ending) (r : Run) → runStep end MaybeKey.Nothing (look c arena size) r q ≡ r
   no-key Ending.All r = refl
   no-key (Ending.Need key) r = refl
   no-key Ending.Stale r = refl
+
+  -- nor does any place once the lookups ended
+  over-step : (end : Ending) (m : MaybeKey) (r : Run) → isOver end ≡ true → runStep end m (look c arena size) r q ≡ r
+  over-step Ending.All m r e = absurd (true≢false (sym e))
+  over-step (Ending.Need key) m r e = refl
+  over-step Ending.Stale m r e = refl
 
   -- ---- the loop
 
@@ -110,12 +120,22 @@ module _ (c : Cache) (arena : List ℕ) (q : Query) where
     unfolding runTo
     run-more i = up-turn (λ (r : Run) (i : ℕ). runStep (r .end) (keyAt near i) (look c arena size) r q) noRun i
 
-    pub run-turn : (i : ℕ) (key : TileKey) → keyAt near i ≡ MaybeKey.Key key
-        → gatherStep (gatheredOf c arena (q .header .tile) (runTo (look c arena (q .header .tile)) near q i)) c arena q key
+    -- what a lookup's answer adds, while none before it ended the match
+    pub run-turn : (i : ℕ) (key : TileKey) (answer : Lookup) (kept : Kept) (uses : Aging) → keyAt near i ≡ MaybeKey.Key key
+        → answer ≡ got c arena (q .header .tile) key .answer
+        → soFar kept uses ≡ gatheredOf c arena (q .header .tile) (runTo (look c arena (q .header .tile)) near q i)
+        → gatheredWith (soFar kept uses) answer arena q key
         ≡ gatheredOf c arena (q .header .tile) (runTo (look c arena (q .header .tile)) near q (i + 1))
-    run-turn i key at =
-        turn-by (run i .end) key (run i)
-        ∙ ap (gatheredOf c arena size) (ap (λ (m : MaybeKey). runStep (run i .end) m (look c arena size) (run i) q) (sym at) ∙ sym (run-more i))
+    run-turn i key answer kept uses at told is =
+        let all : run i .end ≡ Ending.All = ap (λ (g : Gathered). g .end) (sym is) in
+        ap (λ (a : Lookup). gatheredWith (soFar kept uses) a arena q key) told
+        ∙ ap (λ (g : Gathered). gatheredWith g (got c arena size key .answer) arena q key) is
+        ∙ key-turn (run i) key
+        ∙ ap (gatheredOf c arena size)
+        (sym
+        (run-more i
+        ∙ ap (λ (end : Ending). runStep end (keyAt near i) (look c arena size) (run i) q) all
+        ∙ ap (λ (m : MaybeKey). runStep Ending.All m (look c arena size) (run i) q) at))
 
     pub run-none : (i : ℕ) → keyAt near i ≡ MaybeKey.Nothing
         → gatheredOf c arena (q .header .tile) (runTo (look c arena (q .header .tile)) near q i)
@@ -123,6 +143,23 @@ module _ (c : Cache) (arena : List ℕ) (q : Query) where
     run-none i at =
         ap (gatheredOf c arena size)
         (sym (no-key (run i .end) (run i)) ∙ ap (λ (m : MaybeKey). runStep (run i .end) m (look c arena size) (run i) q) (sym at) ∙ sym (run-more i))
+
+    -- once a lookup ended the match nothing is added
+    run-stays : (i d n : ℕ) → n ≡ i + d → isOver (run i .end) ≡ true → run n ≡ run i
+    run-stays i zero n e over = ap run (omega (arith, e))
+    run-stays i (suc d) n e over =
+        ap run (omega (arith, e))
+        ∙ run-more (i + d)
+        ∙ ap (λ (r : Run). runStep (r .end) (keyAt near (i + d)) (look c arena size) r q) (run-stays i d (i + d) refl over)
+        ∙ over-step (run i .end) (keyAt near (i + d)) (run i) over
+
+    pub run-over : (i : ℕ) (g : Gathered) → i < 4 → isOver (g .end) ≡ true
+        → g ≡ gatheredOf c arena (q .header .tile) (runTo (look c arena (q .header .tile)) near q (i + 1))
+        → g ≡ gatheredOf c arena (q .header .tile) (runTo (look c arena (q .header .tile)) near q 4)
+    run-over i g h over is =
+        is
+        ∙ ap (gatheredOf c arena size)
+        (sym (run-stays (i + 1) (3 - i) 4 (omega (arith, h)) (ap (λ (x : Gathered). isOver (x .end)) (sym is) ∙ over)))
 
 -- ---- what a match leaves of the cache is the cache given, with its clock and ages
 

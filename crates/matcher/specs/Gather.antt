@@ -11,10 +11,11 @@ use Rattle.pack.specs.declared.Header.{Header}
 use Rattle.cache.specs.declared.MaybeKey.{MaybeKey}
 use Rattle.cache.specs.declared.MaybeKey.the-variants as MaybeKey
 use Rattle.geo.specs.declared.Point.{Point}
+use Rattle.cache.specs.declared.Aging.{Aging}
 use Rattle.cache.specs.declared.Cache.{Cache}
 use Rattle.cache.specs.declared.Lookup.{Lookup}
 use Rattle.cache.specs.declared.Lookup.the-variants as Lookup
-use Rattle.cache.specs.Lookups.{runBytes, got}
+use Rattle.cache.specs.Lookups.{runBytes}
 use Rattle.cache.specs.Direct.{Look, ready, missing, absent, stale, look, looked}
 use Rattle.cache.specs.Uses.{usesOf, usedAt}
 use Rattle.num.specs.Fold.{upTo}
@@ -126,13 +127,9 @@ gatheredWith g Lookup.Missing arena q key = g
 gatheredWith g Lookup.Absent arena q key = record { kept = g .kept; uses = g .uses; end = Ending.Need key }
 gatheredWith g (Lookup.Refused number) arena q key = record { kept = g .kept; uses = g .uses; end = Ending.Stale }
 
-abbrev pub gatherBy : Ending → Gathered → Cache → List ℕ → Query → TileKey → Gathered
-gatherBy Ending.All g c arena q key = gatheredWith g (got c arena (q .header .tile) key .answer) arena q key
-gatherBy (Ending.Need other) g c arena q key = g
-gatherBy Ending.Stale g c arena q key = g
-
-abbrev pub gatherStep : Gathered → Cache → List ℕ → Query → TileKey → Gathered
-gatherStep g c arena q key = gatherBy (g .end) g c arena q key
+-- what was gathered while no lookup ended the match
+abbrev pub soFar : Kept → Aging → Gathered
+soFar kept uses = record { kept = kept; uses = uses; end = Ending.All }
 
 unfoldable pub finished : Matcher → Gathered → Heading → Made
 finished m g heading =

@@ -2,6 +2,7 @@
 pub mod Scan
 pub mod Score
 pub mod Keeping
+pub mod Placing
 pub mod Tile
 pub mod Within
 -- The matcher: the tiles around a fix, which candidate is chosen, the match made of it, number 12, a match over a lookup, and the public functions.

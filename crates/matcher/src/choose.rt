@@ -89,7 +89,7 @@ fn least_step(l: Least, n: usize, i: usize, c: Candidate, which: Which) -> Least
     l
 }
 
-// The cheapest of those looked at.
+// The cheapest of those looked at. The places are named one by one, so that what is kept is read where it stands.
 pub(crate) fn least_of(k: Kept, which: Which) -> Found
     ensures { λ r. ⌜ r ≡ Choose.leastOf k which ⌝ }
 {
@@ -98,12 +98,14 @@ pub(crate) fn least_of(k: Kept, which: Which) -> Found
         at: Found::Nothing,
         cost: 0.0,
     };
-    let mut i = 0;
-    while i < 8 {
-        let c = k.v[i];
-        l = least_step(l, n, i, c, which);
-        i += 1;
-    }
+    l = least_step(l, n, 0, k.v[0], which);
+    l = least_step(l, n, 1, k.v[1], which);
+    l = least_step(l, n, 2, k.v[2], which);
+    l = least_step(l, n, 3, k.v[3], which);
+    l = least_step(l, n, 4, k.v[4], which);
+    l = least_step(l, n, 5, k.v[5], which);
+    l = least_step(l, n, 6, k.v[6], which);
+    l = least_step(l, n, 7, k.v[7], which);
     l.at
 }
 

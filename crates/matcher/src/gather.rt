@@ -49,73 +49,50 @@ fn run_bytes(arena: &[u8], first: usize, len: usize) -> &[u8]
     &arena[at..at + len]
 }
 
-// What the answer to a lookup of `key` does to what was gathered.
-fn gathered_with(g: Gathered, answer: Lookup, arena: &[u8], q: Query, key: TileKey) -> Gathered
-    ensures { λ r. ⌜ r ≡ Gather.gatheredWith g answer (now (arena .entry)) q key ⌝ }
-{
-    let kept = g.kept;
-    let uses = g.uses;
-    match answer {
-        Lookup::Missing => g,
-        Lookup::Absent => Gathered {
-            kept,
-            uses,
-            end: Ending::Need(key),
-        },
-        Lookup::Refused(_) => Gathered {
-            kept,
-            uses,
-            end: Ending::Stale,
-        },
-        Lookup::Ready(first, len) => {
-            let more = crate::search(kept, q, run_bytes(arena, first, len));
-            let later = cache::uses::used_at(uses, first);
-            Gathered {
-                kept: more,
-                uses: later,
-                end: Ending::All,
-            }
-        }
-    }
-}
-
-// One tile more, once all before it were found or missing.
-fn gather_step(g: Gathered, c: Cache, arena: &[u8], q: Query, key: TileKey) -> Gathered
-    ensures { λ r. ⌜ r ≡ Gather.gatherStep g c (now (arena .entry)) q key ⌝ }
-{
-    let end = g.end;
-    match end {
-        Ending::Need(_) => g,
-        Ending::Stale => g,
-        Ending::All => {
-            let header = q.header;
-            let answer = cache::look::found(c, arena, header.tile, key);
-            gathered_with(g, answer, arena, q, key)
-        }
-    }
-}
-
-// The candidates of the tiles around a fix.
+// The candidates of the tiles around a fix. They and the ages go from tile to tile by themselves, so that no step copies all that was gathered.
 fn gather(c: Cache, arena: &[u8], q: Query, near: NearKeys) -> Gathered
     ensures { λ r. ⌜ r ≡ Gather.gathered c (now (arena .entry)) q near ⌝ }
 {
-    let mut g = Gathered {
-        kept: crate::keep::none_kept(),
-        uses: cache::uses::uses_of(c),
-        end: Ending::All,
-    };
+    let header = q.header;
+    let mut kept = crate::keep::none_kept();
+    let mut uses = cache::uses::uses_of(c);
     let mut i = 0;
     while i < 4 {
         let place = near.keys[i];
         let key = place.key;
         i += 1;
-        // Without a key there is nothing to gather, and nothing is copied.
         let MaybeKey::Key(k) = key else {
             continue;
         };
-        g = gather_step(g, c, arena, q, k);
+        match cache::look::found(c, arena, header.tile, k) {
+            Lookup::Missing => {
+                continue;
+            }
+            Lookup::Absent => {
+                return Gathered {
+                    kept,
+                    uses,
+                    end: Ending::Need(k),
+                };
+            }
+            Lookup::Refused(_) => {
+                return Gathered {
+                    kept,
+                    uses,
+                    end: Ending::Stale,
+                };
+            }
+            Lookup::Ready(first, len) => {
+                kept = crate::search(kept, q, run_bytes(arena, first, len));
+                uses = cache::uses::used_at(uses, first);
+            }
+        }
     }
-    g
+    Gathered {
+        kept,
+        uses,
+        end: Ending::All,
+    }
 }
 
 // What a match answers once it is finished.

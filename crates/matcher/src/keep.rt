@@ -8,6 +8,7 @@ use pack::TileKey;
 use tile::TileId;
 ghost use mathlib.Core.Path.{_≡_};
 ghost use Rattle.matcher.specs.Keeping as Keeping;
+ghost use Rattle.matcher.specs.Placing as Placing;
 
 pub(crate) fn no_candidate() -> Candidate
     ensures { λ r. ⌜ r ≡ Keeping.noCandidate ⌝ }
@@ -82,23 +83,26 @@ fn dearest_of(k: Kept) -> Dearest
     d
 }
 
-// A candidate kept, in a free place or in that of the dearest; one as dear as that is dropped.
-pub(crate) fn insert(k: Kept, c: Candidate) -> Kept
-    ensures { λ r. ⌜ r ≡ Keeping.insert k c ⌝ }
+// Where a candidate of a cost is kept: in a free place, or in that of the dearest; 8 where it is dropped, which one as dear as that is.
+pub(crate) fn place_of(k: Kept, cost: f32) -> usize
+    ensures { λ r. ⌜ r ≡ Placing.placeOf k cost ⌝ }
 {
-    let mut d = k;
-    let len = d.len;
+    if k.len < 8 {
+        return k.len;
+    }
+    let worst = dearest_of(k);
+    if cost < worst.cost {
+        return worst.at;
+    }
+    8
+}
+
+// How many are kept once one more is.
+pub(crate) fn len_after(len: usize) -> usize
+    ensures { λ r. ⌜ r ≡ Placing.lenAfter len ⌝ }
+{
     if len < 8 {
-        d.v[len] = c;
-        d.len = len + 1;
-        return d;
+        return len + 1;
     }
-    let worst = dearest_of(d);
-    let at = worst.at;
-    if c.cost < worst.cost {
-        if at < 8 {
-            d.v[at] = c;
-        }
-    }
-    d
+    len
 }

@@ -113,23 +113,7 @@ fn reached(q: Query, key: TileKey, lon_um: u32, bytes: &[u8], number: u16) -> sc
     scan::scan(header, bytes, key, edge, fix, lon_um)
 }
 
-// One candidate more.
-fn with_edge(
-    k: Kept,
-    q: Query,
-    id: TileId,
-    lon_um: u32,
-    bytes: &[u8],
-    number: u16,
-    n: Nearest,
-) -> Kept
-    ensures { λ r. ⌜ r ≡ Tile.keptWith (MaybeNearest.At n) k q id «lon_um» (now (bytes .entry)) number ⌝ }
-{
-    let c = score::candidate_at(q, id, lon_um, bytes, number, n);
-    keep::insert(k, c)
-}
-
-// The edges of a tile, in order. What is kept is copied for an edge in reach alone.
+// The edges of a tile, in order. A candidate is written into its place, so that what is kept is not copied from edge to edge.
 pub(crate) fn search(k: Kept, q: Query, bytes: &[u8]) -> Kept
     ensures { λ r. ⌜ r ≡ Tile.search k q (now (bytes .entry)) ⌝ }
 {
@@ -145,7 +129,13 @@ pub(crate) fn search(k: Kept, q: Query, bytes: &[u8]) -> Kept
         let scan::MaybeNearest::At(n) = reached(q, id.key, lon_um, bytes, at) else {
             continue;
         };
-        d = with_edge(d, q, id, lon_um, bytes, at, n);
+        let c = score::candidate_at(q, id, lon_um, bytes, at, n);
+        let place = keep::place_of(d, c.cost);
+        if 8 <= place {
+            continue;
+        }
+        d.v[place] = c;
+        d.len = keep::len_after(d.len);
     }
     d
 }

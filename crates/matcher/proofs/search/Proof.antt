@@ -1,9 +1,10 @@
--- `matcher::search` meets its contract. The loop's invariant: the candidates kept so far are the definition's after as many turns. An edge out of reach
--- adds nothing (`skips`).
+-- `matcher::search` meets its contract. The loop's invariant: the candidates kept so far are the definition's after as many turns, in eight places. An
+-- edge out of reach adds nothing (`skips`), and neither does one that is too dear.
 use Prim.Native.Nat.{ℕ, _-_, _≤_}
-use mathlib.Core.Path.{_≡_, sym, _∙_}
+use mathlib.Core.Path.{_≡_, sym, ap, _∙_}
 use mathlib.Core.List.{List}
 use native.Mathlib.Omega.{arith}
+use lib.ListN.{length, length-map, length-set}
 use borrow.Author.Needs.{needs}
 use Rattle.tile.specs.Layout as Layout
 use Rattle.tile.specs.declared.TileId.{TileId}
@@ -13,8 +14,10 @@ use Rattle.matcher.specs.declared.Query.{Query}
 use Rattle.matcher.specs.declared.scan.MaybeNearest.the-variants as MaybeNearest
 use Rattle.num.specs.Fold.{upTo}
 use Rattle.matcher.specs.Scan.{scan}
+use Rattle.matcher.specs.Keeping.{insert}
 use Rattle.matcher.specs.Tile as Tile
 use Rattle.num.proofs.FoldLaws.{up-start, up-turn}
+use Rattle.matcher.proofs.PlaceLaws.{insert-written, insert-dropped}
 use Rattle.matcher.proofs.search.Statement.{statement}
 use Rattle.matcher.proofs.search.Tie as tie
 
@@ -30,7 +33,7 @@ module _ (k : Kept) (q : Query) (id : TileId) (lonUm : ℕ) (bs : List ℕ) (num
 
 abbrev Inv-loop : tie.InvT-loop
 Inv-loop q bytes id lon-um edges d₀ number₀ d number =
-    (number ≤ edges) × (d ≡ upTo (λ (x : Kept) (j : ℕ). Tile.edgeStep x q id lon-um bytes j) d₀ number)
+    (number ≤ edges) × ((length (d .v) ≡ 8) × (d ≡ upTo (λ (x : Kept) (j : ℕ). Tile.edgeStep x q id lon-um bytes j) d₀ number))
 
 abbrev μ-loop : tie.MeasureT-loop
 μ-loop q bytes id lon-um edges d₀ number₀ d number = edges - number
@@ -42,7 +45,10 @@ id-requires : tie.Need-id-requires Inv-loop μ-loop
 id-requires c κs = tt
 
 loop-holds : tie.Need-loop-holds Inv-loop μ-loop
-loop-holds c = (search needs, sym (up-start _ _))
+loop-holds c =
+    let start = c .before .before .before in
+    let v = start .args .k .v in
+    (search needs, (sym (length-map v _) ∙ start .good .0 .1 .1 .0 .1 .0 .1, sym (up-start _ _)))
 
 add-number : tie.Need-add-number Inv-loop μ-loop
 add-number c = search needs
@@ -68,25 +74,74 @@ loop-again c =
     let args = looked .before .before .before .before .before .before .args in
     let told = sym (looked .reached .ensures) ∙ c .enum-told .given .1 in (
       omega (arith, looked .before .loop-test .taken),
-      rw (up-turn, ← at-loop .inv .1, skips (at-loop .d) (args .q) id (head .«lon_um») (args .bytes .now) (at-loop .number) told),
+      (
+        at-loop .inv .1 .0,
+        rw (up-turn, ← at-loop .inv .1 .1, skips (at-loop .d) (args .q) id (head .«lon_um») (args .bytes .now) (at-loop .number) told),
+      ),
     )
 
-with-edge-requires : tie.Need-with-edge-requires Inv-loop μ-loop
-with-edge-requires c κs = tt
+candidate-at-requires : tie.Need-candidate-at-requires Inv-loop μ-loop
+candidate-at-requires c κs = tt
+
+place-of-requires : tie.Need-place-of-requires Inv-loop μ-loop
+place-of-requires c κs = tt
 
 loop-less-2 : tie.Need-loop-less-2 Inv-loop μ-loop
 loop-less-2 c = search needs
 
 loop-again-2 : tie.Need-loop-again-2 Inv-loop μ-loop
 loop-again-2 c =
-    let looked = c .before .before .before .before in
+    let found = c .before .before in
+    let looked = found .before .before .before .before in
     let at-loop = looked .before .before .loop in
     let id = looked .before .before .before .id .result in
     let head = looked .before .before .before .before .head .result in
     let args = looked .before .before .before .before .before .before .args in
-    let told = sym (looked .reached .ensures) ∙ c .before .before .n .given .1 in (
+    let told = sym (looked .reached .ensures) ∙ found .before .before .n .given .1 in (
       omega (arith, looked .before .loop-test .taken),
-      rw (up-turn, ← at-loop .inv .1, keeps (at-loop .d) (args .q) id (head .«lon_um») (args .bytes .now) (at-loop .number) _ told) (c .with-edge .ensures),
+      (
+        at-loop .inv .1 .0,
+        rw (up-turn, ← at-loop .inv .1 .1, keeps (at-loop .d) (args .q) id (head .«lon_um») (args .bytes .now) (at-loop .number) _ told)
+            (insert-dropped (at-loop .d) (found .candidate-at .result) (at-loop .inv .1 .0) (rw (c .before .place-of .ensures) at (c .if1 .taken))
+            ∙ ap (insert (at-loop .d)) (found .candidate-at .ensures)),
+      ),
+    )
+
+mul-c : tie.Need-mul-c Inv-loop μ-loop
+mul-c c = search needs
+
+element-set-from-c : tie.Need-element-set-from-c Inv-loop μ-loop
+element-set-from-c c = search needs
+
+len-after-requires : tie.Need-len-after-requires Inv-loop μ-loop
+len-after-requires c κs = tt
+
+loop-less-3 : tie.Need-loop-less-3 Inv-loop μ-loop
+loop-less-3 c = search needs
+
+loop-again-3 : tie.Need-loop-again-3 Inv-loop μ-loop
+loop-again-3 c =
+    let place = c .before .before .place-of in
+    let found = c .before .before .before in
+    let looked = found .before .before .before .before in
+    let at-loop = looked .before .before .loop in
+    let id = looked .before .before .before .id .result in
+    let head = looked .before .before .before .before .head .result in
+    let args = looked .before .before .before .before .before .before .args in
+    let told = sym (looked .reached .ensures) ∙ found .before .before .n .given .1 in (
+      omega (arith, looked .before .loop-test .taken),
+      (
+        length-set (at-loop .d .v) (place .result) (found .candidate-at .result) ∙ at-loop .inv .1 .0,
+        rw (
+          up-turn,
+          ← at-loop .inv .1 .1,
+          keeps (at-loop .d) (args .q) id (head .«lon_um») (args .bytes .now) (at-loop .number) _ told,
+          c .len-after .ensures,
+          place .ensures,
+        )
+            (insert-written (at-loop .d) (found .candidate-at .result) (at-loop .inv .1 .0) (rw (place .ensures) at (c .before .if1 .left))
+            ∙ ap (insert (at-loop .d)) (found .candidate-at .ensures)),
+      ),
     )
 
 returns : tie.Need-returns Inv-loop μ-loop
@@ -94,7 +149,7 @@ unfolding Tile.search
 returns c =
     let at-loop = c .before .loop in
     let end : at-loop .number ≡ c .before .before .before .head .result .edges = omega (arith, c .loop-test .left, at-loop .inv .0) in
-    rw (at-loop .inv .1, end, c .before .before .id .ensures, c .before .before .before .head .ensures)
+    rw (at-loop .inv .1 .1, end, c .before .before .id .ensures, c .before .before .before .head .ensures)
 
 pub search-spec : {M : Type 1} → statement M
 search-spec =
@@ -111,7 +166,13 @@ search-spec =
     enum-told
     loop-less
     loop-again
-    with-edge-requires
+    candidate-at-requires
+    place-of-requires
     loop-less-2
     loop-again-2
+    mul-c
+    element-set-from-c
+    len-after-requires
+    loop-less-3
+    loop-again-3
     returns)

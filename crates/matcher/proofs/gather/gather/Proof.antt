@@ -1,21 +1,21 @@
--- `matcher::gather::gather` meets its contract. The loop's invariant: what was gathered is the definition's over as many tiles. A place without
--- a key adds nothing.
+-- `matcher::gather::gather` meets its contract. The loop's invariant: what was gathered so far is the definition's over as many tiles, and no lookup
+-- ended the match. A place without a key adds nothing; a lookup that ends the match leaves the rest of the tiles out (`run-over`).
 use Prim.Native.Nat.{_-_, _≤_}
-use mathlib.Core.Path.{_≡_, sym, _∙_}
+use mathlib.Core.Path.{_≡_, refl, sym, _∙_}
 use native.Mathlib.Omega.{arith}
 use borrow.Author.Needs.{needs}
 use Rattle.cache.specs.Direct.{look}
-use Rattle.matcher.specs.Gather.{runTo, gatheredOf, gathered}
-use Rattle.matcher.proofs.GatherLaws.{run-start, run-turn, run-none}
+use Rattle.matcher.specs.Gather.{runTo, gatheredOf, soFar, gathered}
+use Rattle.matcher.proofs.GatherLaws.{run-start, run-turn, run-none, run-over}
 use Rattle.matcher.proofs.gather.gather.Statement.{statement}
 use Rattle.matcher.proofs.gather.gather.Tie as tie
 
 abbrev Inv-loop : tie.InvT-loop
-Inv-loop c arena q near g₀ i₀ g i =
-    let size = q .header .tile in (i ≤ 4) × (g ≡ gatheredOf c arena size (runTo (look c arena size) near q i))
+Inv-loop c arena q near header kept₀ uses₀ i₀ kept uses i =
+    let size = q .header .tile in (i ≤ 4) × (soFar kept uses ≡ gatheredOf c arena size (runTo (look c arena size) near q i))
 
 abbrev μ-loop : tie.MeasureT-loop
-μ-loop c arena q near g₀ i₀ g i = 4 - i
+μ-loop c arena q near header kept₀ uses₀ i₀ kept uses i = 4 - i
 
 none-kept-requires : tie.Need-none-kept-requires Inv-loop μ-loop
 none-kept-requires c κs = tt
@@ -25,7 +25,7 @@ uses-of-requires c κs = tt
 
 loop-holds : tie.Need-loop-holds Inv-loop μ-loop
 loop-holds c =
-    let args = c .before .before .before .args in
+    let args = c .before .before .before .before .args in
     (search needs, rw (c .before .none-kept .ensures, c .uses-of .ensures) (sym (run-start (args .c) (args .arena .now) (args .q) (args .t4))))
 
 mul-place : tie.Need-mul-place Inv-loop μ-loop
@@ -49,32 +49,87 @@ loop-less c = search needs
 loop-again : tie.Need-loop-again Inv-loop μ-loop
 loop-again c =
     let at-loop = c .before .before .before .before .loop in
-    let args = c .before .before .before .before .before .before .before .before .args in (
+    let args = c .before .before .before .before .before .before .before .before .before .args in (
       omega (arith, c .before .before .before .loop-test .taken),
       at-loop .inv .1 ∙ run-none (args .c) (args .arena .now) (args .q) (args .t4) (at-loop .i) (c .enum-told .given .1),
     )
 
-gather-step-requires : tie.Need-gather-step-requires Inv-loop μ-loop
-gather-step-requires c κs = tt
+found-requires : tie.Need-found-requires Inv-loop μ-loop
+found-requires c κs = tt
+
+enum-told-2 : tie.Need-enum-told-2 Inv-loop μ-loop
+enum-told-2 c = search needs
 
 loop-less-2 : tie.Need-loop-less-2 Inv-loop μ-loop
 loop-less-2 c = search needs
 
 loop-again-2 : tie.Need-loop-again-2 Inv-loop μ-loop
 loop-again-2 c =
-    let at-loop = c .before .before .before .before .before .before .loop in
-    let args = c .before .before .before .before .before .before .before .before .before .before .args in (
-      omega (arith, c .before .before .before .before .before .loop-test .taken),
-      rw (c .gather-step .ensures, at-loop .inv .1)
-          (run-turn (args .c) (args .arena .now) (args .q) (args .t4) (at-loop .i) _ (c .before .before .key .given .1)),
-    )
+    let looked = c .before .before in
+    let at-loop = looked .before .before .before .before .before .before .loop in
+    let args = looked .before .before .before .before .before .before .before .before .before .before .before .args in
+    let turned = run-turn (args .c) (args .arena .now) (args .q) (args .t4) (at-loop .i) _ _ (at-loop .kept) (at-loop .uses)
+    (looked .before .before .key .given .1) (sym (c .enum-told2 .given .1) ∙ looked .found .ensures) (at-loop .inv .1) in
+    (omega (arith, looked .before .before .before .before .before .loop-test .taken), turned)
+
+enum-told-3 : tie.Need-enum-told-3 Inv-loop μ-loop
+enum-told-3 c = search needs
 
 returns : tie.Need-returns Inv-loop μ-loop
 unfolding gathered
 returns c =
+    let looked = c .before .before in
+    let at-loop = looked .before .before .before .before .before .before .loop in
+    let args = looked .before .before .before .before .before .before .before .before .before .before .before .args in
+    let turned = run-turn (args .c) (args .arena .now) (args .q) (args .t4) (at-loop .i) _ _ (at-loop .kept) (at-loop .uses)
+    (looked .before .before .key .given .1) (sym (c .enum-told3 .given .1) ∙ looked .found .ensures) (at-loop .inv .1) in
+    run-over (args .c) (args .arena .now) (args .q) (args .t4) (at-loop .i) _ (looked .before .before .before .before .before .loop-test .taken) refl turned
+
+enum-told-4 : tie.Need-enum-told-4 Inv-loop μ-loop
+enum-told-4 c = search needs
+
+returns-2 : tie.Need-returns-2 Inv-loop μ-loop
+unfolding gathered
+returns-2 c =
+    let looked = c .before .before in
+    let at-loop = looked .before .before .before .before .before .before .loop in
+    let args = looked .before .before .before .before .before .before .before .before .before .before .before .args in
+    let turned = run-turn (args .c) (args .arena .now) (args .q) (args .t4) (at-loop .i) _ _ (at-loop .kept) (at-loop .uses)
+    (looked .before .before .key .given .1) (sym (c .enum-told4 .given .1) ∙ looked .found .ensures) (at-loop .inv .1) in
+    run-over (args .c) (args .arena .now) (args .q) (args .t4) (at-loop .i) _ (looked .before .before .before .before .before .loop-test .taken) refl turned
+
+enum-known-first : tie.Need-enum-known-first Inv-loop μ-loop
+enum-known-first c = search needs
+
+run-bytes-requires : tie.Need-run-bytes-requires Inv-loop μ-loop
+run-bytes-requires c κs = tt
+
+search-requires : tie.Need-search-requires Inv-loop μ-loop
+search-requires c κs = tt
+
+used-at-requires : tie.Need-used-at-requires Inv-loop μ-loop
+used-at-requires c κs = tt
+
+loop-less-3 : tie.Need-loop-less-3 Inv-loop μ-loop
+loop-less-3 c = search needs
+
+loop-again-3 : tie.Need-loop-again-3 Inv-loop μ-loop
+loop-again-3 c =
+    let looked = c .before .before .before .before .before .before in
+    let at-loop = looked .before .before .before .before .before .before .loop in
+    let args = looked .before .before .before .before .before .before .before .before .before .before .before .args in
+    let turned = run-turn (args .c) (args .arena .now) (args .q) (args .t4) (at-loop .i) _ _ (at-loop .kept) (at-loop .uses)
+    (looked .before .before .key .given .1) (sym (c .before .before .before .before .first .given .1) ∙ looked .found .ensures) (at-loop .inv .1) in (
+      omega (arith, looked .before .before .before .before .before .loop-test .taken),
+      rw (c .used-at .ensures, c .before .search .ensures, c .before .before .run-bytes .ensures) turned,
+    )
+
+returns-3 : tie.Need-returns-3 Inv-loop μ-loop
+unfolding gathered
+returns-3 c =
     let at-loop = c .before .loop in
     let end : at-loop .i ≡ 4 = omega (arith, c .loop-test .left, at-loop .inv .0) in
-    rw (at-loop .inv .1, end)
+    rw end at (at-loop .inv .1)
 
 pub gather-spec : {M : Type 1} → statement M
 gather-spec =
@@ -92,7 +147,18 @@ gather-spec =
     enum-told
     loop-less
     loop-again
-    gather-step-requires
+    found-requires
+    enum-told-2
     loop-less-2
     loop-again-2
-    returns)
+    enum-told-3
+    returns
+    enum-told-4
+    returns-2
+    enum-known-first
+    run-bytes-requires
+    search-requires
+    used-at-requires
+    loop-less-3
+    loop-again-3
+    returns-3)
