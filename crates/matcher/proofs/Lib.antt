@@ -1,9 +1,10 @@
 -- Laws of the candidates, for their proofs and for callers to cite.
 -- ScoreLiterals: the figures that the code writes as literals. KeepLaws: how many places are kept. PlaceLaws: a candidate in its
--- place. ScanWithin: every candidate kept lies within its tile.
+-- place. StandLaws: where a scan reads the points of an edge. ScanWithin: every candidate kept lies within its tile.
 pub mod ScoreLiterals
 pub mod KeepLaws
 pub mod PlaceLaws
+pub mod StandLaws
 pub mod ScanWithin
 -- Laws of the matcher, for its proofs and for callers to cite.
 -- AgreeLaws: looks that agree give the same finished match. GatherLaws: the loop over the tiles. NearGrid: keys around a fix lie in the

@@ -109,11 +109,33 @@ pub(crate) fn least_of(k: Kept, which: Which) -> Found
     l.at
 }
 
+// The candidate number `i`. The places are named one by one here too.
 pub(crate) fn candidate_in(k: Kept, i: usize) -> Candidate
     ensures { λ r. ⌜ r ≡ Keeping.candidateIn k i ⌝ }
 {
+    if i < 1 {
+        return k.v[0];
+    }
+    if i < 2 {
+        return k.v[1];
+    }
+    if i < 3 {
+        return k.v[2];
+    }
+    if i < 4 {
+        return k.v[3];
+    }
+    if i < 5 {
+        return k.v[4];
+    }
+    if i < 6 {
+        return k.v[5];
+    }
+    if i < 7 {
+        return k.v[6];
+    }
     if i < 8 {
-        return k.v[i];
+        return k.v[7];
     }
     crate::keep::no_candidate()
 }

@@ -5,9 +5,12 @@ use geo::Point;
 use pack::Header;
 use pack::TileKey;
 use tile::Edge;
+use tile::Node;
 ghost use mathlib.Core.Path.{_≡_};
-ghost use Prim.Native.Nat.{_+_, _<_, _≤_};
+ghost use Prim.Native.Nat.{_+_, _<_, _^_};
+ghost use Rattle.tile.specs.Layout as Layout;
 ghost use Rattle.matcher.specs.Scan as Scan;
+ghost use Rattle.matcher.specs.Standing as Standing;
 
 pub(crate) enum MaybeNearest {
     Nothing,
@@ -37,6 +40,43 @@ pub(crate) fn point_of(
     ensures { λ r. ⌜ r ≡ Scan.pointOf header (now (bytes .entry)) key edge index ⌝ }
 {
     let node = tile::raw::point(bytes, edge, index);
+    geo::flat::point(header, key, node)
+}
+
+// Where the first vertex of an edge stands: it is worked out once for all of them.
+fn vertices_at(bytes: &[u8], edge: Edge) -> usize
+    ensures { λ r. ⌜ r ≡ Layout.vertexStart (now (bytes .entry)) (edge .«first_vertex») ⌝ }
+    ensures { λ r. ⌜ r < 2 ^ 40 ⌝ }
+{
+    let nodes = pack::bytes::u16_at(bytes, 8) as usize;
+    let edges = pack::bytes::u16_at(bytes, 10) as usize;
+    32 + nodes * 8 + edges * 20 + (edge.first_vertex as usize) * 6
+}
+
+// Where the point behind segment `i` of an edge stands, its first vertex being at `base`: a vertex, and past them the end node.
+fn next_at(base: usize, edge: Edge, i: u16) -> usize
+    requires { ⌜ base < 2 ^ 40 ⌝ }
+    ensures { λ r. ⌜ r ≡ Standing.nextAt base edge i ⌝ }
+    ensures { λ r. ⌜ r < 2 ^ 41 ⌝ }
+{
+    if i < edge.vertices {
+        return base + (i as usize) * 6;
+    }
+    32 + (edge.to as usize) * 8
+}
+
+// The point behind segment `i` of an edge. Its elevation is not read.
+fn next_point(header: Header, bytes: &[u8], key: TileKey, edge: Edge, base: usize, i: u16) -> Point
+    requires { ⌜ base ≡ Layout.vertexStart (now bytes) (edge .«first_vertex») ⌝ }
+    requires { ⌜ base < 2 ^ 40 ⌝ }
+    ensures { λ r. ⌜ r ≡ Scan.pointOf header (now (bytes .entry)) key edge (i + 1) ⌝ }
+{
+    let at = next_at(base, edge, i);
+    let node = Node {
+        x: pack::bytes::u16_at(bytes, at),
+        y: pack::bytes::u16_at(bytes, at + 2),
+        z: 0,
+    };
     geo::flat::point(header, key, node)
 }
 
@@ -119,13 +159,10 @@ pub(crate) fn scan(
         nearest: MaybeNearest::Nothing,
     };
     let last = edge.vertices;
+    let base = vertices_at(bytes, edge);
     let mut i: u16 = 0;
     loop {
-        let b = geo::flat::metres(
-            point_of(header, bytes, key, edge, (i as usize) + 1),
-            fix,
-            lon_um,
-        );
+        let b = geo::flat::metres(next_point(header, bytes, key, edge, base, i), fix, lon_um);
         s = segment_step(s, b, i);
         if i == last {
             break;

@@ -33,10 +33,10 @@ module _ (h : Header) (bs : List ℕ) (key : TileKey) (e : Edge) (fix : Point) (
   scan-end i s end so-far = ap (λ (x : Scanned). x .nearest) (so-far ∙ ap (λ (n : ℕ). scanned h bs key e fix lonUm (n + 1)) end)
 
 abbrev Inv-loop : tie.InvT-loop
-Inv-loop header bytes key edge fix lon-um s₀ last i₀ s i = (i ≤ last) × (s ≡ scanned header bytes key edge fix lon-um i)
+Inv-loop header bytes key edge fix lon-um s₀ last base i₀ s i = (i ≤ last) × (s ≡ scanned header bytes key edge fix lon-um i)
 
 abbrev μ-loop : tie.MeasureT-loop
-μ-loop header bytes key edge fix lon-um s₀ last i₀ s i = last - i
+μ-loop header bytes key edge fix lon-um s₀ last base i₀ s i = last - i
 
 point-of-requires : tie.Need-point-of-requires Inv-loop μ-loop
 point-of-requires c κs = tt
@@ -44,17 +44,14 @@ point-of-requires c κs = tt
 metres-requires : tie.Need-metres-requires Inv-loop μ-loop
 metres-requires c κs = tt
 
+vertices-at-requires : tie.Need-vertices-at-requires Inv-loop μ-loop
+vertices-at-requires c κs = tt
+
 loop-holds : tie.Need-loop-holds Inv-loop μ-loop
-loop-holds c = (search needs, rw (scan-start, c .metres .ensures, c .before .point-of .ensures))
+loop-holds c = (search needs, rw (scan-start, c .before .metres .ensures, c .before .before .point-of .ensures))
 
-cast-point-of : tie.Need-cast-point-of Inv-loop μ-loop
-cast-point-of c = search needs
-
-add-point-of : tie.Need-add-point-of Inv-loop μ-loop
-add-point-of c = search needs
-
-point-of-requires-2 : tie.Need-point-of-requires-2 Inv-loop μ-loop
-point-of-requires-2 c κs = tt
+next-point-requires : tie.Need-next-point-requires Inv-loop μ-loop
+next-point-requires c κs = (c .before .vertices-at .ensures .0, c .before .vertices-at .ensures .1)
 
 metres-requires-2 : tie.Need-metres-requires-2 Inv-loop μ-loop
 metres-requires-2 c κs = tt
@@ -63,7 +60,7 @@ segment-step-requires : tie.Need-segment-step-requires Inv-loop μ-loop
 segment-step-requires c κs = tt
 
 add-i : tie.Need-add-i Inv-loop μ-loop
-add-i c = omega (arith, c .if1 .left, c .before .before .before .before .before .before .before .before .good .1 .1 .1 .0)
+add-i c = omega (arith, c .if1 .left, c .before .before .before .before .before .before .before .before .before .good .1 .1 .1 .0)
 
 loop-less : tie.Need-loop-less Inv-loop μ-loop
 loop-less c = omega (arith, c .if1 .left)
@@ -75,7 +72,7 @@ loop-again c = (
     scan-turn,
     c .before .segment-step .ensures,
     c .before .before .metres2 .ensures,
-    c .before .before .before .point-of2 .ensures,
+    c .before .before .before .next-point .ensures,
     c .before .before .before .before .loop .inv .1,
   ),
 )
@@ -83,14 +80,14 @@ loop-again c = (
 returns : tie.Need-returns Inv-loop μ-loop
 returns c =
     let at-loop = c .before .before .before .before .loop in
-    let args = c .before .before .before .before .before .before .before .before .args in
+    let args = c .before .before .before .before .before .before .before .before .before .args in
     scan-end (args .header) (args .bytes .now) (args .key) (args .edge) (args .fix) (args .lon-um) (at-loop .i)
     (c .before .segment-step .result) (c .if1 .taken)
     (rw (
       scan-turn,
       c .before .segment-step .ensures,
       c .before .before .metres2 .ensures,
-      c .before .before .before .point-of2 .ensures,
+      c .before .before .before .next-point .ensures,
       at-loop .inv .1,
     ))
 
@@ -102,10 +99,9 @@ scan-spec =
     μ-loop
     point-of-requires
     metres-requires
+    vertices-at-requires
     loop-holds
-    cast-point-of
-    add-point-of
-    point-of-requires-2
+    next-point-requires
     metres-requires-2
     segment-step-requires
     add-i
