@@ -32,10 +32,9 @@ use Rattle.matcher.specs.declared.Matcher.{Matcher}
 use Rattle.matcher.specs.declared.Query.{Query}
 use Rattle.matcher.specs.declared.gather.Ending.{Ending}
 use Rattle.matcher.specs.declared.gather.Ending.the-variants as Ending
-use Rattle.matcher.specs.declared.gather.Gathered.{Gathered}
 use Rattle.matcher.specs.declared.NearKeys.{NearKeys}
 use Rattle.matcher.specs.Near.{keyAt}
-use Rattle.matcher.specs.Gather.{Run, lookStep, runStep, noRun, runTo, runOver, cacheAfter, updated, gatheredOf, bytesOf, gatheredWith, soFar}
+use Rattle.matcher.specs.Gather.{Run, Gathered, lookStep, runStep, noRun, runTo, runOver, cacheAfter, updated, gatheredOf, bytesOf, gatheredWith, soFar}
 
 -- a run that passes lies in the arena, so its bytes are all there
 pub bytes-are : (arena : List ℕ) (first len : ℕ) (key : TileKey) (size : ℕ) → passes arena first len key size ≡ true

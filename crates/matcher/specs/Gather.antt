@@ -34,7 +34,6 @@ use Rattle.matcher.specs.declared.Outcome.the-variants as Outcome
 use Rattle.matcher.specs.declared.Updated.{Updated}
 use Rattle.matcher.specs.declared.gather.Ending.{Ending}
 use Rattle.matcher.specs.declared.gather.Ending.the-variants as Ending
-use Rattle.matcher.specs.declared.gather.Gathered.{Gathered}
 use Rattle.matcher.specs.Near.{keyAt, nearOf}
 use Rattle.matcher.specs.Settle.{matched}
 
@@ -109,6 +108,12 @@ updated m c arena h fix heading =
 
 -- ---- the code's steps: this restates private code. Clock and ages are carried beside the cache, which every lookup looks into as it was given
 
+-- the candidates so far, clock and ages as the lookups left them, and how they ended
+pub record Gathered : Type 0 where
+  pub kept : Kept
+  pub uses : Aging
+  pub end : Ending
+
 -- what was gathered: clock and ages as the lookups of the keys found left them
 abbrev pub gatheredOf : Cache → List ℕ → ℕ → Run → Gathered
 gatheredOf c arena size r = record { kept = r .kept; uses = usesOf (looked c arena size (r .found)); end = r .end }
@@ -131,9 +136,18 @@ gatheredWith g (Lookup.Refused number) arena q key = record { kept = g .kept; us
 abbrev pub soFar : Kept → Aging → Gathered
 soFar kept uses = record { kept = kept; uses = uses; end = Ending.All }
 
-unfoldable pub finished : Matcher → Gathered → Heading → Made
-finished m g heading =
-    let next = matched m (g .kept) heading in record { answer = outcome (next .current); matcher = next; uses = g .uses }
+unfoldable pub finished : Matcher → Kept → Aging → Heading → Made
+finished m kept uses heading =
+    let next = matched m kept heading in record { answer = outcome (next .current); matcher = next; uses = uses }
+
+abbrev pub endedBy : Ending → Matcher → Cache → Heading → Gathered → Made
+endedBy Ending.All m c heading g = finished m (g .kept) (g .uses) heading
+endedBy (Ending.Need key) m c heading g = record { answer = Outcome.Need key; matcher = m; uses = g .uses }
+endedBy Ending.Stale m c heading g = record { answer = Outcome.Refused 12; matcher = m; uses = usesOf c }
+
+-- what a match makes of what was gathered
+abbrev pub ended : Matcher → Cache → Heading → Gathered → Made
+ended m c heading g = endedBy (g .end) m c heading g
 
 -- a match with clock and ages in place of the cache
 abbrev pub madeOf : Updated → Made

@@ -21,18 +21,11 @@ ghost use lib.ListN.{length};
 ghost use Rattle.matcher.specs.Calls as Calls;
 ghost use Rattle.matcher.specs.Gather as Gather;
 
-// How the lookups ended: all done; a tile that is not loaded; a ready run that no longer passes.
+// How the lookups of a match end, as the definitions of specs/Gather tell it: all done; a tile that is not loaded; a ready run that no longer passes.
 pub enum Ending {
     All,
     Need(TileKey),
     Stale,
-}
-
-// The candidates so far, clock and ages as the lookups left them, and how they ended.
-pub(crate) struct Gathered {
-    pub kept: Kept,
-    pub uses: Aging,
-    pub end: Ending,
 }
 
 // The bytes of a run that a lookup answered; none where it lies outside the arena.
@@ -49,9 +42,33 @@ fn run_bytes(arena: &[u8], first: usize, len: usize) -> &[u8]
     &arena[at..at + len]
 }
 
-// The candidates of the tiles around a fix. They and the ages go from tile to tile by themselves, so that no step copies all that was gathered.
-fn gather(c: Cache, arena: &[u8], q: Query, near: NearKeys) -> Gathered
-    ensures { λ r. ⌜ r ≡ Gather.gathered c (now (arena .entry)) q near ⌝ }
+// What a match answers once it is finished.
+fn outcome(current: Current) -> Outcome
+    ensures { λ r. ⌜ r ≡ Gather.outcome current ⌝ }
+{
+    match current {
+        Current::Nothing => Outcome::Nothing,
+        Current::Is(m) => Outcome::Found(m),
+    }
+}
+
+// Every tile was found or missing: the match is made.
+fn finished(m: Matcher, kept: Kept, uses: Aging, heading: Heading) -> Made
+    ensures { λ r. ⌜ r ≡ Gather.finished m kept uses heading ⌝ }
+{
+    let next = crate::settle::matched(m, kept, heading);
+    let current = next.current;
+    Made {
+        answer: outcome(current),
+        matcher: next,
+        uses,
+    }
+}
+
+// The match over the tiles around a fix. Candidates and ages go from tile to tile by themselves, so that no step copies all that was gathered; a tile
+// that is not loaded ends the match with its key, a run that no longer passes with 12 and clock and ages as they were.
+fn gather(m: Matcher, c: Cache, arena: &[u8], q: Query, near: NearKeys) -> Made
+    ensures { λ r. ⌜ r ≡ Gather.ended m c (q .heading) (Gather.gathered c (now (arena .entry)) q near) ⌝ }
 {
     let header = q.header;
     let mut kept = crate::keep::none_kept();
@@ -69,17 +86,17 @@ fn gather(c: Cache, arena: &[u8], q: Query, near: NearKeys) -> Gathered
                 continue;
             }
             Lookup::Absent => {
-                return Gathered {
-                    kept,
+                return Made {
+                    answer: Outcome::Need(k),
+                    matcher: m,
                     uses,
-                    end: Ending::Need(k),
                 };
             }
             Lookup::Refused(_) => {
-                return Gathered {
-                    kept,
-                    uses,
-                    end: Ending::Stale,
+                return Made {
+                    answer: Outcome::Refused(12),
+                    matcher: m,
+                    uses: cache::uses::uses_of(c),
                 };
             }
             Lookup::Ready(first, len) => {
@@ -88,36 +105,8 @@ fn gather(c: Cache, arena: &[u8], q: Query, near: NearKeys) -> Gathered
             }
         }
     }
-    Gathered {
-        kept,
-        uses,
-        end: Ending::All,
-    }
-}
-
-// What a match answers once it is finished.
-fn outcome(current: Current) -> Outcome
-    ensures { λ r. ⌜ r ≡ Gather.outcome current ⌝ }
-{
-    match current {
-        Current::Nothing => Outcome::Nothing,
-        Current::Is(m) => Outcome::Found(m),
-    }
-}
-
-// Every tile was found or missing: the match is made.
-fn finished(m: Matcher, g: Gathered, heading: Heading) -> Made
-    ensures { λ r. ⌜ r ≡ Gather.finished m g heading ⌝ }
-{
-    let kept = g.kept;
-    let next = crate::settle::matched(m, kept, heading);
-    let current = next.current;
-    let uses = g.uses;
-    Made {
-        answer: outcome(current),
-        matcher: next,
-        uses,
-    }
+    let heading = q.heading;
+    finished(m, kept, uses, heading)
 }
 
 // A match of a point and a heading that have passed, in a state that has been tested; what it does to clock and ages beside the cache.
@@ -139,22 +128,7 @@ pub fn made(
         current,
     };
     let near = crate::near::near_of(header, fix);
-    let g = gather(c, arena, q, near);
-    let end = g.end;
-    let uses = g.uses;
-    match end {
-        Ending::All => finished(m, g, heading),
-        Ending::Need(k) => Made {
-            answer: Outcome::Need(k),
-            matcher: m,
-            uses,
-        },
-        Ending::Stale => Made {
-            answer: Outcome::Refused(12),
-            matcher: m,
-            uses: cache::uses::uses_of(c),
-        },
-    }
+    gather(m, c, arena, q, near)
 }
 
 // The match with the cache that it leaves.

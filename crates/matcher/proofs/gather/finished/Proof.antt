@@ -11,7 +11,7 @@ outcome-requires c κs = tt
 
 returns : tie.Need-returns
 unfolding finished
-returns c = rw (c .outcome .ensures, c .before .before .matched .ensures)
+returns c = rw (c .outcome .ensures, c .before .matched .ensures)
 
 pub finished-spec : {M : Type 1} → statement M
 finished-spec = tie.close (tie.spec matched-requires outcome-requires returns)

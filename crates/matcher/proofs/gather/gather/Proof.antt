@@ -1,21 +1,21 @@
 -- `matcher::gather::gather` meets its contract. The loop's invariant: what was gathered so far is the definition's over as many tiles, and no lookup
 -- ended the match. A place without a key adds nothing; a lookup that ends the match leaves the rest of the tiles out (`run-over`).
 use Prim.Native.Nat.{_-_, _≤_}
-use mathlib.Core.Path.{_≡_, refl, sym, _∙_}
+use mathlib.Core.Path.{_≡_, refl, sym, ap, _∙_}
 use native.Mathlib.Omega.{arith}
 use borrow.Author.Needs.{needs}
 use Rattle.cache.specs.Direct.{look}
-use Rattle.matcher.specs.Gather.{runTo, gatheredOf, soFar, gathered}
+use Rattle.matcher.specs.Gather.{runTo, gatheredOf, soFar, gathered, ended}
 use Rattle.matcher.proofs.GatherLaws.{run-start, run-turn, run-none, run-over}
 use Rattle.matcher.proofs.gather.gather.Statement.{statement}
 use Rattle.matcher.proofs.gather.gather.Tie as tie
 
 abbrev Inv-loop : tie.InvT-loop
-Inv-loop c arena q near header kept₀ uses₀ i₀ kept uses i =
+Inv-loop m c arena q near header kept₀ uses₀ i₀ kept uses i =
     let size = q .header .tile in (i ≤ 4) × (soFar kept uses ≡ gatheredOf c arena size (runTo (look c arena size) near q i))
 
 abbrev μ-loop : tie.MeasureT-loop
-μ-loop c arena q near header kept₀ uses₀ i₀ kept uses i = 4 - i
+μ-loop m c arena q near header kept₀ uses₀ i₀ kept uses i = 4 - i
 
 none-kept-requires : tie.Need-none-kept-requires Inv-loop μ-loop
 none-kept-requires c κs = tt
@@ -26,7 +26,7 @@ uses-of-requires c κs = tt
 loop-holds : tie.Need-loop-holds Inv-loop μ-loop
 loop-holds c =
     let args = c .before .before .before .before .args in
-    (search needs, rw (c .before .none-kept .ensures, c .uses-of .ensures) (sym (run-start (args .c) (args .arena .now) (args .q) (args .t4))))
+    (search needs, rw (c .before .none-kept .ensures, c .uses-of .ensures) (sym (run-start (args .c) (args .arena .now) (args .q) (args .t5))))
 
 mul-place : tie.Need-mul-place Inv-loop μ-loop
 mul-place c = search needs
@@ -51,7 +51,7 @@ loop-again c =
     let at-loop = c .before .before .before .before .loop in
     let args = c .before .before .before .before .before .before .before .before .before .args in (
       omega (arith, c .before .before .before .loop-test .taken),
-      at-loop .inv .1 ∙ run-none (args .c) (args .arena .now) (args .q) (args .t4) (at-loop .i) (c .enum-told .given .1),
+      at-loop .inv .1 ∙ run-none (args .c) (args .arena .now) (args .q) (args .t5) (at-loop .i) (c .enum-told .given .1),
     )
 
 found-requires : tie.Need-found-requires Inv-loop μ-loop
@@ -68,7 +68,7 @@ loop-again-2 c =
     let looked = c .before .before in
     let at-loop = looked .before .before .before .before .before .before .loop in
     let args = looked .before .before .before .before .before .before .before .before .before .before .before .args in
-    let turned = run-turn (args .c) (args .arena .now) (args .q) (args .t4) (at-loop .i) _ _ (at-loop .kept) (at-loop .uses)
+    let turned = run-turn (args .c) (args .arena .now) (args .q) (args .t5) (at-loop .i) _ _ (at-loop .kept) (at-loop .uses)
     (looked .before .before .key .given .1) (sym (c .enum-told2 .given .1) ∙ looked .found .ensures) (at-loop .inv .1) in
     (omega (arith, looked .before .before .before .before .before .loop-test .taken), turned)
 
@@ -81,22 +81,28 @@ returns c =
     let looked = c .before .before in
     let at-loop = looked .before .before .before .before .before .before .loop in
     let args = looked .before .before .before .before .before .before .before .before .before .before .before .args in
-    let turned = run-turn (args .c) (args .arena .now) (args .q) (args .t4) (at-loop .i) _ _ (at-loop .kept) (at-loop .uses)
+    let turned = run-turn (args .c) (args .arena .now) (args .q) (args .t5) (at-loop .i) _ _ (at-loop .kept) (at-loop .uses)
     (looked .before .before .key .given .1) (sym (c .enum-told3 .given .1) ∙ looked .found .ensures) (at-loop .inv .1) in
-    run-over (args .c) (args .arena .now) (args .q) (args .t4) (at-loop .i) _ (looked .before .before .before .before .before .loop-test .taken) refl turned
+    ap (ended (args .m) (args .c) (args .q .heading))
+    (run-over (args .c) (args .arena .now) (args .q) (args .t5) (at-loop .i) _ (looked .before .before .before .before .before .loop-test .taken) refl turned)
 
 enum-told-4 : tie.Need-enum-told-4 Inv-loop μ-loop
 enum-told-4 c = search needs
 
+uses-of-requires-2 : tie.Need-uses-of-requires-2 Inv-loop μ-loop
+uses-of-requires-2 c κs = tt
+
 returns-2 : tie.Need-returns-2 Inv-loop μ-loop
 unfolding gathered
 returns-2 c =
-    let looked = c .before .before in
+    let looked = c .before .before .before in
     let at-loop = looked .before .before .before .before .before .before .loop in
     let args = looked .before .before .before .before .before .before .before .before .before .before .before .args in
-    let turned = run-turn (args .c) (args .arena .now) (args .q) (args .t4) (at-loop .i) _ _ (at-loop .kept) (at-loop .uses)
-    (looked .before .before .key .given .1) (sym (c .enum-told4 .given .1) ∙ looked .found .ensures) (at-loop .inv .1) in
-    run-over (args .c) (args .arena .now) (args .q) (args .t4) (at-loop .i) _ (looked .before .before .before .before .before .loop-test .taken) refl turned
+    let turned = run-turn (args .c) (args .arena .now) (args .q) (args .t5) (at-loop .i) _ _ (at-loop .kept) (at-loop .uses)
+    (looked .before .before .key .given .1) (sym (c .before .enum-told4 .given .1) ∙ looked .found .ensures) (at-loop .inv .1) in
+    rw (c .uses-of2 .ensures)
+    (ap (ended (args .m) (args .c) (args .q .heading))
+    (run-over (args .c) (args .arena .now) (args .q) (args .t5) (at-loop .i) _ (looked .before .before .before .before .before .loop-test .taken) refl turned))
 
 enum-known-first : tie.Need-enum-known-first Inv-loop μ-loop
 enum-known-first c = search needs
@@ -118,18 +124,22 @@ loop-again-3 c =
     let looked = c .before .before .before .before .before .before in
     let at-loop = looked .before .before .before .before .before .before .loop in
     let args = looked .before .before .before .before .before .before .before .before .before .before .before .args in
-    let turned = run-turn (args .c) (args .arena .now) (args .q) (args .t4) (at-loop .i) _ _ (at-loop .kept) (at-loop .uses)
+    let turned = run-turn (args .c) (args .arena .now) (args .q) (args .t5) (at-loop .i) _ _ (at-loop .kept) (at-loop .uses)
     (looked .before .before .key .given .1) (sym (c .before .before .before .before .first .given .1) ∙ looked .found .ensures) (at-loop .inv .1) in (
       omega (arith, looked .before .before .before .before .before .loop-test .taken),
       rw (c .used-at .ensures, c .before .search .ensures, c .before .before .run-bytes .ensures) turned,
     )
 
+finished-requires : tie.Need-finished-requires Inv-loop μ-loop
+finished-requires c κs = tt
+
 returns-3 : tie.Need-returns-3 Inv-loop μ-loop
 unfolding gathered
 returns-3 c =
-    let at-loop = c .before .loop in
-    let end : at-loop .i ≡ 4 = omega (arith, c .loop-test .left, at-loop .inv .0) in
-    rw end at (at-loop .inv .1)
+    let at-loop = c .before .before .loop in
+    let args = c .before .before .before .before .before .before .before .args in
+    let end : at-loop .i ≡ 4 = omega (arith, c .before .loop-test .left, at-loop .inv .0) in
+    c .finished .ensures ∙ ap (ended (args .m) (args .c) (args .q .heading)) (rw end at (at-loop .inv .1))
 
 pub gather-spec : {M : Type 1} → statement M
 gather-spec =
@@ -154,6 +164,7 @@ gather-spec =
     enum-told-3
     returns
     enum-told-4
+    uses-of-requires-2
     returns-2
     enum-known-first
     run-bytes-requires
@@ -161,4 +172,5 @@ gather-spec =
     used-at-requires
     loop-less-3
     loop-again-3
+    finished-requires
     returns-3)
