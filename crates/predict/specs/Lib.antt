@@ -5,10 +5,11 @@ pub mod Twins
 pub mod Outgoing
 pub mod Cost
 pub mod Choose
--- Moving along one edge: the start, the points ahead, the heading at the end, and the road just ridden.
+-- Moving along one edge: the start, the points ahead, the heading at the end, where points stand by the code, and the road just ridden.
 pub mod Start
 pub mod Vertex
 pub mod Incoming
+pub mod Spots
 pub mod Ridden
 -- At a junction: the edges and tiles met before, the ways on, and the one that is taken.
 pub mod Visits

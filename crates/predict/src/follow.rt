@@ -79,9 +79,10 @@ pub(crate) fn follow(
             w = reached(w);
             break 'edges;
         }
+        let base = crate::spots::vertices_at(bytes);
         let mut i = w.from;
         'points: while i <= last {
-            t = crate::vertex::advance(trip, leg, bytes, head.lon_um, t, i, heights);
+            t = crate::vertex::advance(trip, leg, bytes, head.lon_um, base, t, i, heights);
             if t.over {
                 w = reached(w);
                 break 'edges;

@@ -127,9 +127,10 @@ pub(crate) fn incoming(h: History, here: Point, distance: f32, lon_um: u32, appr
     ensures { λ r. ⌜ r ≡ Incoming.incoming h here distance «lon_um» approach ⌝ }
 {
     let back = back_of(h, distance);
-    let m = geo::flat::metres(here, back, lon_um);
-    if geo::flat::length(m.east, m.north) > 0.0 {
-        return geo::flat::bearing(m.east, m.north);
+    let east = crate::spots::east(here.lon, back.lon, lon_um);
+    let north = crate::spots::north(here.lat, back.lat);
+    if geo::flat::length(east, north) > 0.0 {
+        return geo::flat::bearing(east, north);
     }
     approach
 }

@@ -3,8 +3,8 @@
 // From the matched point the walk follows the edge in the travel direction. At a junction it scores every way on, and stops where two are
 // about as likely. Each decision lowers the confidence a little, more when it was close.
 //
-// `samples` has the heights, with the mark and the heights lent side by side; `start`, `vertex`, `incoming` and `ridden` move along one edge
-// and look no tile up; `twins`, `outgoing`, `cost` and `choose` have the ways on from a junction, `visits`, `meets`, `consider`, `cross` and
+// `samples` has the heights, with the mark and the heights lent side by side; `spots` says where an edge's points stand, and how far apart, in
+// numbers; `start`, `vertex`, `incoming` and `ridden` move along one edge and look no tile up; `twins`, `outgoing`, `cost` and `choose` have the ways on from a junction, `visits`, `meets`, `consider`, `cross` and
 // `decide` the one that is taken; `turn`, `enter` and `follow` go from edge to edge up to the horizon; `road` is the whole.
 pub mod choose;
 mod consider;
@@ -19,6 +19,7 @@ pub mod outgoing;
 pub mod ridden;
 pub mod road;
 mod samples;
+mod spots;
 mod start;
 mod turn;
 pub mod twins;

@@ -44,7 +44,7 @@ fn back_step(
     ensures { λ r. ⌜ r ≡ Ridden.backStep trip leg (now (bytes .entry)) «lon_um» reach b i (now (heights .entry)) .back ⌝ }
     ensures { λ r. ⌜ now (heights .exit) ≡ Ridden.backStep trip leg (now (bytes .entry)) «lon_um» reach b i (now (heights .entry)) .heights ⌝ }
 {
-    let node = crate::vertex::node_at(leg, bytes, i);
+    let node = crate::spots::node_at(crate::spots::vertices_at(bytes), leg, bytes, i);
     let point = geo::flat::point(leg.header, leg.key, node);
     let z = crate::start::less(geo::flat::z_dm(node), trip.z_dm);
     let step = crate::vertex::step_of(b.here, point, lon_um);

@@ -4,31 +4,18 @@ use crate::Track;
 use crate::Trip;
 use crate::outgoing::Leg;
 use geo::Point;
-use tile::Node;
 ghost use mathlib.Core.Path.{_≡_};
+ghost use Prim.Native.Nat.{_^_, _<_};
 ghost use Rattle.predict.specs.Vertex as Vertex;
-
-// Point number `i` along the leg with its height, from 0 at its start.
-pub(crate) fn node_at(leg: Leg, bytes: &[u8], i: u32) -> Node
-    ensures { λ r. ⌜ r ≡ Vertex.nodeAt leg (now (bytes .entry)) i ⌝ }
-{
-    let edge = leg.edge;
-    let last = (edge.vertices as u32) + 1;
-    if leg.forward {
-        return tile::raw::point(bytes, edge, i as usize);
-    }
-    if last < i {
-        return tile::raw::point(bytes, edge, 0);
-    }
-    tile::raw::point(bytes, edge, (last - i) as usize)
-}
+ghost use Rattle.predict.specs.Spots as Spots;
 
 // The length of the way from one point to another.
 pub(crate) fn step_of(from: Point, to: Point, lon_um: u32) -> f32
     ensures { λ r. ⌜ r ≡ Vertex.stepOf from to «lon_um» ⌝ }
 {
-    let m = geo::flat::metres(to, from, lon_um);
-    geo::flat::length(m.east, m.north)
+    let east = crate::spots::east(to.lon, from.lon, lon_um);
+    let north = crate::spots::north(to.lat, from.lat);
+    geo::flat::length(east, north)
 }
 
 // What part of a step lies before the horizon.
@@ -88,20 +75,23 @@ fn pass(t: Track, distance: f32, point: Point, z: i32, heights: &mut [i16]) -> T
     }
 }
 
-// Point number `i` along the leg.
+// Point number `i` along the leg. `base` is where the tile's vertices begin.
 pub(crate) fn advance(
     trip: Trip,
     leg: Leg,
     bytes: &[u8],
     lon_um: u32,
+    base: usize,
     t: Track,
     i: u32,
     heights: &mut [i16],
 ) -> Track
+    requires { ⌜ base < 2 ^ 32 ⌝ }
+    requires { ⌜ base ≡ Spots.verticesAt (now bytes) ⌝ }
     ensures { λ r. ⌜ r ≡ Vertex.advanced trip leg (now (bytes .entry)) «lon_um» t i (now (heights .entry)) .track ⌝ }
     ensures { λ r. ⌜ now (heights .exit) ≡ Vertex.advanced trip leg (now (bytes .entry)) «lon_um» t i (now (heights .entry)) .heights ⌝ }
 {
-    let node = node_at(leg, bytes, i);
+    let node = crate::spots::node_at(base, leg, bytes, i);
     let point = geo::flat::point(leg.header, leg.key, node);
     let z = crate::start::less(geo::flat::z_dm(node), trip.z_dm);
     let step = step_of(t.here, point, lon_um);

@@ -50,7 +50,7 @@ crossed-is : {w : Walk} {looks : List ℕ} {x : Stride (List ℕ)} → w ≡ x .
 crossed-is p q = λ i. record { walk = p i; carried = q i }
 
 abbrev Inv-points : tie.InvT-points
-Inv-points arena trip budget looks visited met heights₀ header w₀ t₀ n bytes head leg last i₀ heights w t i =
+Inv-points arena trip budget looks visited met heights₀ header w₀ t₀ n bytes head leg last base i₀ heights w t i =
     (i₀ ≤ i)
     × ((i - i₀ ≤ last + 1 - i₀)
     × ((length heights ≡ length heights₀)
@@ -58,7 +58,7 @@ Inv-points arena trip budget looks visited met heights₀ header w₀ t₀ n byt
     × ((t .over ≡ false) × (alongOf t heights ≡ vertices trip leg bytes (head .«lon_um») i₀ (alongOf t₀ heights₀) (i - i₀))))))
 
 abbrev μ-points : tie.MeasureT-points
-μ-points arena trip budget looks visited met heights₀ header w₀ t₀ n bytes head leg last i₀ heights w t i = last + 1 - i
+μ-points arena trip budget looks visited met heights₀ header w₀ t₀ n bytes head leg last base i₀ heights w t i = last + 1 - i
 
 abbrev Inv-edges : tie.InvT-edges
 Inv-edges arena trip budget looks₀ visited₀ met₀ heights₀ header w₀ t₀ n₀ looks visited met heights w t n =
@@ -107,10 +107,13 @@ add-last c = search needs
 reached-requires : tie.Need-reached-requires Inv-points μ-points Inv-edges μ-edges
 reached-requires c κs = tt
 
+vertices-at-requires : tie.Need-vertices-at-requires Inv-points μ-points Inv-edges μ-edges
+vertices-at-requires c κs = tt
+
 points-holds : tie.Need-points-holds Inv-points μ-points Inv-edges μ-edges
 points-holds c =
-    let args = c .before .before .before .before .before .before .before .before .before .before .before .before .before .before .before .before .before .args in
-    let edges = c .before .before .before .before .before .before .before .before .before .before .before .before .before .before .edges in (
+    let args = c .before .before .before .before .before .before .before .before .before .before .before .before .before .before .before .before .before .before .args in
+    let edges = c .before .before .before .before .before .before .before .before .before .before .before .before .before .before .before .edges in (
       omega arith,
       (
         omega arith,
@@ -119,8 +122,8 @@ points-holds c =
           (
             refl,
             (
-              c .if2 .left,
-              points-start (args .trip) (c .before .before .before .leg-of .result) (now (c .before .before .before .before .before .run-bytes .result)) (c .before .before .before .before .head .result .«lon_um») (c .before .before .before .before .before .before .before .before .before .enter .result .walk .from)
+              c .before .if2 .left,
+              points-start (args .trip) (c .before .before .before .before .leg-of .result) (now (c .before .before .before .before .before .before .run-bytes .result)) (c .before .before .before .before .before .head .result .«lon_um») (c .before .before .before .before .before .before .before .before .before .before .enter .result .walk .from)
                   (alongOf (edges .t) (edges .heights)),
             ),
           ),
@@ -129,35 +132,37 @@ points-holds c =
     )
 
 advance-requires : tie.Need-advance-requires Inv-points μ-points Inv-edges μ-edges
-advance-requires c κs = tt
+advance-requires c κs =
+    let base = c .before .before .before .vertices-at in
+    (base .ensures .1, base .ensures .0)
 
 reached-requires-2 : tie.Need-reached-requires-2 Inv-points μ-points Inv-edges μ-edges
 reached-requires-2 c κs = tt
 
 add-i : tie.Need-add-i Inv-points μ-points Inv-edges μ-edges
-add-i c = omega (arith, c .before .before .before .before .points-test .taken, c .before .before .before .before .before .before .before .struct-known)
+add-i c = omega (arith, c .before .before .before .before .points-test .taken, c .before .before .before .before .before .before .before .before .struct-known)
 
 points-less : tie.Need-points-less Inv-points μ-points Inv-edges μ-edges
 points-less c = omega (arith, c .before .before .before .before .points-test .taken)
 
 points-again : tie.Need-points-again Inv-points μ-points Inv-edges μ-edges
 points-again c =
-    let args = c .before .before .before .before .before .before .before .before .before .before .before .before .before .before .before .before .before .before .before .before .before .before .before .args in
-    let edges = c .before .before .before .before .before .before .before .before .before .before .before .before .before .before .before .before .before .before .before .before .edges in
+    let args = c .before .before .before .before .before .before .before .before .before .before .before .before .before .before .before .before .before .before .before .before .before .before .before .before .args in
+    let edges = c .before .before .before .before .before .before .before .before .before .before .before .before .before .before .before .before .before .before .before .before .before .edges in
     let points = c .before .before .before .before .before .points in
     let advance = c .before .before .advance in (
       omega (arith, points .inv .0),
       (
         omega (arith, points .inv .0, c .before .before .before .before .points-test .taken),
         (
-          advance .kept .1 .1 .1 .1 .1 .1 .0 ∙ points .inv .1 .1 .0,
+          advance .kept .1 .1 .1 .1 .1 .1 .1 .0 ∙ points .inv .1 .1 .0,
           (
             points .inv .1 .1 .1 .0,
             (
               c .if3 .left,
-              points-on (args .trip) (c .before .before .before .before .before .before .before .before .before .leg-of .result) (now (c .before .before .before .before .before .before .before .before .before .before .before .run-bytes .result)) (c .before .before .before .before .before .before .before .before .before .before .head .result .«lon_um») (c .before .before .before .before .before .before .before .before .before .before .before .before .before .before .before .enter .result .walk .from)
+              points-on (args .trip) (c .before .before .before .before .before .before .before .before .before .before .leg-of .result) (now (c .before .before .before .before .before .before .before .before .before .before .before .before .run-bytes .result)) (c .before .before .before .before .before .before .before .before .before .before .before .head .result .«lon_um») (c .before .before .before .before .before .before .before .before .before .before .before .before .before .before .before .before .enter .result .walk .from)
                   (alongOf (edges .t) (edges .heights)) (points .i) (points .t) (points .heights) (points .inv .0) (points .inv .1 .1 .1 .1 .0)
-                  (points .inv .1 .1 .1 .1 .1) (advance .result) (advance .last .1 .1 .1 .1 .1 .1 .0) (advance .ensures .0) (advance .ensures .1),
+                  (points .inv .1 .1 .1 .1 .1) (advance .result) (advance .last .1 .1 .1 .1 .1 .1 .1 .0) (advance .ensures .0) (advance .ensures .1),
             ),
           ),
         ),
@@ -168,25 +173,25 @@ crossed-requires : tie.Need-crossed-requires Inv-points μ-points Inv-edges μ-e
 crossed-requires c κs = tt
 
 add-n : tie.Need-add-n Inv-points μ-points Inv-edges μ-edges
-add-n c = omega (arith, c .before .before .before .before .before .before .before .before .before .before .before .before .before .before .before .before .before .before .edges-test .taken)
+add-n c = omega (arith, c .before .before .before .before .before .before .before .before .before .before .before .before .before .before .before .before .before .before .before .edges-test .taken)
 
 edges-less : tie.Need-edges-less Inv-points μ-points Inv-edges μ-edges
-edges-less c = omega (arith, c .before .before .before .before .before .before .before .before .before .before .before .before .before .before .before .before .before .before .edges-test .taken)
+edges-less c = omega (arith, c .before .before .before .before .before .before .before .before .before .before .before .before .before .before .before .before .before .before .before .edges-test .taken)
 
 edges-again : tie.Need-edges-again Inv-points μ-points Inv-edges μ-edges
 edges-again c =
-    let args = c .before .before .before .before .before .before .before .before .before .before .before .before .before .before .before .before .before .before .before .before .before .before .args in
-    let edges = c .before .before .before .before .before .before .before .before .before .before .before .before .before .before .before .before .before .before .before .edges in
-    let entered = c .before .before .before .before .before .before .before .before .before .before .before .before .before .before .enter in
+    let args = c .before .before .before .before .before .before .before .before .before .before .before .before .before .before .before .before .before .before .before .before .before .before .before .args in
+    let edges = c .before .before .before .before .before .before .before .before .before .before .before .before .before .before .before .before .before .before .before .before .edges in
+    let entered = c .before .before .before .before .before .before .before .before .before .before .before .before .before .before .before .enter in
     let walk = entered .result .walk in
     let e = ontoEntered (entered .result) (entered .last .1 .1 .1 .1 .0) (entered .last .1 .1 .1 .1 .1 .0) (entered .last .1 .1 .1 .1 .1 .1 .0) in
     let came = entered-is (entered .ensures .0) (entered .ensures .1 .0) (entered .ensures .1 .1 .0) (entered .ensures .1 .1 .1) in
     let start = onto (args .start) (now (args .visited)) (now (args .met)) in
     let before = onto (edges .w) (edges .visited) (edges .met) in
-    let read = c .before .before .before .before .before .before .before .before .before .before .run-bytes in
-    let head = c .before .before .before .before .before .before .before .before .before .head in
-    let leg = c .before .before .before .before .before .before .before .before .leg-of in
-    let goes = sym (c .before .before .before .before .before .before .before .before .before .before .before .before .goes-on .ensures) ∙ not-false _ (c .before .before .before .before .before .before .before .before .before .before .before .if1 .left) in
+    let read = c .before .before .before .before .before .before .before .before .before .before .before .run-bytes in
+    let head = c .before .before .before .before .before .before .before .before .before .before .head in
+    let leg = c .before .before .before .before .before .before .before .before .before .leg-of in
+    let goes = sym (c .before .before .before .before .before .before .before .before .before .before .before .before .before .goes-on .ensures) ∙ not-false _ (c .before .before .before .before .before .before .before .before .before .before .before .before .if1 .left) in
     let first = alongOf (edges .t) (edges .heights) in
     let points = c .before .before .before .before .points in
     let crossed = c .crossed in
@@ -195,7 +200,7 @@ edges-again c =
     in
     let end = ap (vertices (args .trip) (leg .result) (now (read .result)) (head .result .«lon_um») (walk .from) first) all in
     let same = points .inv .1 .1 .1 .0 in (
-      omega (arith, c .before .before .before .before .before .before .before .before .before .before .before .before .before .before .before .before .before .before .edges-test .taken),
+      omega (arith, c .before .before .before .before .before .before .before .before .before .before .before .before .before .before .before .before .before .before .before .edges-test .taken),
       (
         points .inv .1 .1 .0 ∙ edges .inv .1 .0,
         walk-on (now (args .arena)) (args .trip) (args .budget)
@@ -279,26 +284,26 @@ returns-3 c =
     (reached-ends (ended .result) walk (ended .ensures)) (c .before .before .before .before .before .before .before .before .before .before .before .before .before .before .edges-test .taken))
 
 same-length-4 : tie.Need-same-length-4 Inv-points μ-points Inv-edges μ-edges
-same-length-4 c = c .before .before .before .advance .kept .1 .1 .1 .1 .1 .1 .0 ∙ c .before .before .before .before .before .before .points .inv .1 .1 .0 ∙ c .before .before .before .before .before .before .before .before .before .before .before .before .before .before .before .before .before .before .before .before .before .edges .inv .1 .0
+same-length-4 c = c .before .before .before .advance .kept .1 .1 .1 .1 .1 .1 .1 .0 ∙ c .before .before .before .before .before .before .points .inv .1 .1 .0 ∙ c .before .before .before .before .before .before .before .before .before .before .before .before .before .before .before .before .before .before .before .before .before .before .edges .inv .1 .0
 
 returns-4 : tie.Need-returns-4 Inv-points μ-points Inv-edges μ-edges
 returns-4 c =
-    let args = c .before .before .before .before .before .before .before .before .before .before .before .before .before .before .before .before .before .before .before .before .before .before .before .before .args in
-    let edges = c .before .before .before .before .before .before .before .before .before .before .before .before .before .before .before .before .before .before .before .before .before .edges in
-    let entered = c .before .before .before .before .before .before .before .before .before .before .before .before .before .before .before .before .enter in
+    let args = c .before .before .before .before .before .before .before .before .before .before .before .before .before .before .before .before .before .before .before .before .before .before .before .before .before .args in
+    let edges = c .before .before .before .before .before .before .before .before .before .before .before .before .before .before .before .before .before .before .before .before .before .before .edges in
+    let entered = c .before .before .before .before .before .before .before .before .before .before .before .before .before .before .before .before .before .enter in
     let walk = entered .result .walk in
     let e = ontoEntered (entered .result) (entered .last .1 .1 .1 .1 .0) (entered .last .1 .1 .1 .1 .1 .0) (entered .last .1 .1 .1 .1 .1 .1 .0) in
     let came = entered-is (entered .ensures .0) (entered .ensures .1 .0) (entered .ensures .1 .1 .0) (entered .ensures .1 .1 .1) in
     let start = onto (args .start) (now (args .visited)) (now (args .met)) in
     let before = onto (edges .w) (edges .visited) (edges .met) in
-    let read = c .before .before .before .before .before .before .before .before .before .before .before .before .run-bytes in
-    let head = c .before .before .before .before .before .before .before .before .before .before .before .head in
-    let leg = c .before .before .before .before .before .before .before .before .before .before .leg-of in
-    let goes = sym (c .before .before .before .before .before .before .before .before .before .before .before .before .before .before .goes-on .ensures) ∙ not-false _ (c .before .before .before .before .before .before .before .before .before .before .before .before .before .if1 .left) in
+    let read = c .before .before .before .before .before .before .before .before .before .before .before .before .before .run-bytes in
+    let head = c .before .before .before .before .before .before .before .before .before .before .before .before .head in
+    let leg = c .before .before .before .before .before .before .before .before .before .before .before .leg-of in
+    let goes = sym (c .before .before .before .before .before .before .before .before .before .before .before .before .before .before .before .goes-on .ensures) ∙ not-false _ (c .before .before .before .before .before .before .before .before .before .before .before .before .before .before .if1 .left) in
     let first = alongOf (edges .t) (edges .heights) in
     let points = c .before .before .before .before .before .before .points in
     let advance = c .before .before .before .advance in
-    let heights = advance .last .1 .1 .1 .1 .1 .1 .0 in
+    let heights = advance .last .1 .1 .1 .1 .1 .1 .1 .0 in
     let ended = c .reached2 in
     let reached = rw (points .inv .1 .1 .1 .0) at (ended .ensures) in
     let over = runOf (onto (ended .result) (e .visited) (e .met)) (advance .result) (e .looks) heights in
@@ -313,7 +318,7 @@ returns-4 c =
     (points-on (args .trip) (leg .result) (now (read .result)) (head .result .«lon_um») (walk .from) first (points .i) (points .t) (points .heights)
     (points .inv .0) (points .inv .1 .1 .1 .1 .0) (points .inv .1 .1 .1 .1 .1) (advance .result) heights (advance .ensures .0) (advance .ensures .1))
     (c .before .if3 .taken) (omega (arith, c .before .before .before .before .before .points-test .taken))) (ended .result) reached (c .before .if3 .taken))
-    (reached-ends (ended .result) walk reached) (c .before .before .before .before .before .before .before .before .before .before .before .before .before .before .before .before .before .before .before .before .edges-test .taken))
+    (reached-ends (ended .result) walk reached) (c .before .before .before .before .before .before .before .before .before .before .before .before .before .before .before .before .before .before .before .before .before .edges-test .taken))
 
 pub follow-spec : {M : Type 1} → statement M
 follow-spec =
@@ -332,6 +337,7 @@ follow-spec =
     cast-last
     add-last
     reached-requires
+    vertices-at-requires
     points-holds
     advance-requires
     reached-requires-2

@@ -29,13 +29,10 @@ module _ (leg : Leg) (bs : List ℕ) (lonUm : ℕ) where
   far-on more (suc left) i e r = let same : more ≡ left = omega arith in rw (r, same)
 
 abbrev Inv-loop : tie.InvT-loop
-Inv-loop leg bytes lon-um origin last i₀ i = (1 ≤ i) × ((i ≤ last) × (farFrom (last - i) leg bytes lon-um i ≡ farPoint leg bytes lon-um))
+Inv-loop base leg bytes lon-um origin last i₀ i = (1 ≤ i) × ((i ≤ last) × (farFrom (last - i) leg bytes lon-um i ≡ farPoint leg bytes lon-um))
 
 abbrev μ-loop : tie.MeasureT-loop
-μ-loop leg bytes lon-um origin last i₀ i = last - i
-
-point-at-requires : tie.Need-point-at-requires Inv-loop μ-loop
-point-at-requires c κs = tt
+μ-loop base leg bytes lon-um origin last i₀ i = last - i
 
 cast-last : tie.Need-cast-last Inv-loop μ-loop
 cast-last c = search needs
@@ -45,18 +42,20 @@ add-last c = search needs
 
 loop-holds : tie.Need-loop-holds Inv-loop μ-loop
 loop-holds c =
-    let edge = c .before .before .before .before .args .leg .edge in
+    let edge = c .before .before .before .args .leg .edge in
     let same : edge .vertices + 1 - 1 ≡ edge .vertices = omega arith in
     (omega arith, (omega arith, rw same))
 
-point-at-requires-2 : tie.Need-point-at-requires-2 Inv-loop μ-loop
-point-at-requires-2 c κs = tt
+point-at-requires : tie.Need-point-at-requires Inv-loop μ-loop
+point-at-requires c κs =
+    let start = c .before .before .before .before in
+    (start .pre .0, start .pre .1 .0)
 
 returns : tie.Need-returns Inv-loop μ-loop
 returns c =
-    let args = c .before .before .before .before .before .before .before .args in
+    let args = c .before .before .before .before .before .before .args in
     let at-loop = c .before .before .loop in
-    c .before .point-at2 .ensures ∙ sym (far-last (args .leg) (args .bytes .now) (args .lon-um) _ (at-loop .i) (omega (arith, c .if1 .taken)))
+    c .before .point-at .ensures ∙ sym (far-last (args .leg) (args .bytes .now) (args .lon-um) _ (at-loop .i) (omega (arith, c .if1 .taken)))
     ∙ at-loop .inv .1 .1
 
 reaches-requires : tie.Need-reaches-requires Inv-loop μ-loop
@@ -64,12 +63,13 @@ reaches-requires c κs = tt
 
 returns-2 : tie.Need-returns-2 Inv-loop μ-loop
 returns-2 c =
-    let args = c .before .before .before .before .before .before .before .before .before .args in
+    let start = c .before .before .before .before .before .before .before .before in
+    let args = start .args in
     let point = c .before .before .before in
     let at-loop = point .before .loop in
     let hit = sym (c .before .reaches .ensures) ∙ c .if2 .taken in
-    let far = rw (point .point-at2 .ensures, point .before .before .before .before .point-at .ensures) at hit in
-    point .point-at2 .ensures ∙ sym (far-hit (args .leg) (args .bytes .now) (args .lon-um) _ (at-loop .i) far) ∙ at-loop .inv .1 .1
+    let far = rw (point .point-at .ensures, start .pre .1 .1) at hit in
+    point .point-at .ensures ∙ sym (far-hit (args .leg) (args .bytes .now) (args .lon-um) _ (at-loop .i) far) ∙ at-loop .inv .1 .1
 
 add-i : tie.Need-add-i Inv-loop μ-loop
 add-i c = omega (arith, c .before .before .if1 .left)
@@ -79,11 +79,12 @@ loop-less c = omega (arith, c .before .before .if1 .left)
 
 loop-again : tie.Need-loop-again Inv-loop μ-loop
 loop-again c =
-    let args = c .before .before .before .before .before .before .before .before .before .args in
+    let start = c .before .before .before .before .before .before .before .before in
+    let args = start .args in
     let point = c .before .before .before in
     let at-loop = point .before .loop in
     let missed = sym (c .before .reaches .ensures) ∙ c .if2 .left in
-    let near = rw (point .point-at2 .ensures, point .before .before .before .before .point-at .ensures) at missed in (
+    let near = rw (point .point-at .ensures, start .pre .1 .1) at missed in (
       omega arith,
       (
         omega (arith, c .before .before .if1 .left),
@@ -98,11 +99,10 @@ far-point-spec =
     (tie.spec
     Inv-loop
     μ-loop
-    point-at-requires
     cast-last
     add-last
     loop-holds
-    point-at-requires-2
+    point-at-requires
     returns
     reaches-requires
     returns-2

@@ -7,8 +7,11 @@ use Rattle.predict.specs.Ridden.{backStep}
 use Rattle.predict.proofs.ridden.back_step.Statement.{statement}
 use Rattle.predict.proofs.ridden.back_step.Tie as tie
 
+vertices-at-requires : tie.Need-vertices-at-requires
+vertices-at-requires c κs = tt
+
 node-at-requires : tie.Need-node-at-requires
-node-at-requires c κs = tt
+node-at-requires c κs = (c .vertices-at .ensures .1, c .vertices-at .ensures .0)
 
 point-requires : tie.Need-point-requires
 point-requires c κs = tt
@@ -41,7 +44,7 @@ returns c =
     let height = less .before .before in
     let point = height .before in
     let node = point .before in
-    let trip = node .before .before .args .trip in
+    let trip = node .before .before .before .args .trip in
     let rider = toZ-ofZ (sf w32 (trip .«z_dm») (less .before .struct-told .given .1 .1 .0 .1)) in
     let far = rw (step .step-of .ensures, point .point .ensures, node .node-at .ensures) at (there .before .if1 .taken) in
     let pushes =
@@ -75,7 +78,7 @@ returns-2 c =
     let height = less .before .before in
     let point = height .before in
     let node = point .before in
-    let trip = node .before .before .args .trip in
+    let trip = node .before .before .before .args .trip in
     let rider = toZ-ofZ (sf w32 (trip .«z_dm») (less .before .struct-told .given .1 .1 .0 .1)) in
     let short = rw (step .step-of .ensures, point .point .ensures, node .node-at .ensures) at (near .if1 .left) in
     let pushes =
@@ -95,6 +98,7 @@ pub back-step-spec : {M : Type 1} → statement M
 back-step-spec =
     tie.close
     (tie.spec
+    vertices-at-requires
     node-at-requires
     point-requires
     z-dm-requires

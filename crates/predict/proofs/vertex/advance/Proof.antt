@@ -8,7 +8,7 @@ use Rattle.predict.proofs.vertex.advance.Statement.{statement}
 use Rattle.predict.proofs.vertex.advance.Tie as tie
 
 node-at-requires : tie.Need-node-at-requires
-node-at-requires c κs = tt
+node-at-requires c κs = (c .before .pre .0, c .before .pre .1)
 
 point-requires : tie.Need-point-requires
 point-requires c κs = tt
