@@ -54,9 +54,8 @@ fn is_way_on(
             return false;
         }
     }
-    let edge = tile::raw::edge(bytes, entry.edge);
     if entry.ends {
-        if edge.has(tile::flag::ONEWAY) {
+        if crate::spots::has_flag(bytes, entry.edge, tile::flag::ONEWAY) {
             return false;
         }
     }

@@ -57,3 +57,15 @@ pub(crate) fn push_on(m: Mark, heights: &mut [i16], distance: f32, z: i32) -> Ma
     push(&mut mark, heights, distance, z);
     mark
 }
+
+// The same where few points have a sample before them: one that has none costs a test, and its mark does not go through memory.
+pub(crate) fn push_due(m: Mark, heights: &mut [i16], distance: f32, z: i32) -> Mark
+    ensures { λ r. ⌜ r ≡ Samples.pushed m (now (heights .entry)) distance z .mark ⌝ }
+    ensures { λ r. ⌜ now (heights .exit) ≡ Samples.pushed m (now (heights .entry)) distance z .heights ⌝ }
+{
+    let len = m.len;
+    if sample_at(len) > distance {
+        return Mark { len, distance, z };
+    }
+    push_on(m, heights, distance, z)
+}

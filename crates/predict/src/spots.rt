@@ -5,6 +5,7 @@ use tile::Node;
 ghost use mathlib.Core.Path.{_≡_};
 ghost use Prim.Native.Nat.{_^_, _<_};
 ghost use Rattle.tile.specs.Layout as Layout;
+ghost use Rattle.predict.specs.Cost as Cost;
 ghost use Rattle.predict.specs.Vertex as Vertex;
 ghost use Rattle.predict.specs.Spots as Spots;
 
@@ -99,4 +100,21 @@ pub(crate) fn north(to: i32, from: i32) -> f32
 {
     let micro = num::convert::f32_of_i64((to as i64) - (from as i64));
     micro * geo::LAT_UM * 0.000001
+}
+
+// The flags of an edge.
+fn flags_at(bytes: &[u8], index: u16) -> u8
+    ensures { λ r. ⌜ r ≡ Layout.edgeOf (now (bytes .entry)) index .flags ⌝ }
+{
+    let nodes = pack::bytes::u16_at(bytes, 8) as usize;
+    let edges = pack::bytes::u16_at(bytes, 10) as usize;
+    let at = 32 + nodes * 8 + edges * 4 + (index as usize) * 16;
+    pack::bytes::byte_at(bytes, at + 11)
+}
+
+// Whether an edge has a flag.
+pub(crate) fn has_flag(bytes: &[u8], index: u16, flag: u8) -> bool
+    ensures { λ r. ⌜ r ≡ Cost.hasFlag (Layout.edgeOf (now (bytes .entry)) index .flags) flag ⌝ }
+{
+    flags_at(bytes, index) & flag != 0
 }

@@ -63,7 +63,7 @@ fn pass(t: Track, distance: f32, point: Point, z: i32, heights: &mut [i16]) -> T
     ensures { λ r. ⌜ now (heights .exit) ≡ Vertex.passed t distance point z (now (heights .entry)) .heights ⌝ }
 {
     let old = t.mark;
-    let mark = crate::samples::push_on(old, heights, distance, z);
+    let mark = crate::samples::push_due(old, heights, distance, z);
     let before = t.history;
     let history = crate::incoming::push(before, point, distance);
     Track {

@@ -14,21 +14,16 @@ returns : tie.Need-returns
 unfolding isWayOn
 returns c = rw (eq-eqb _ _ (c .before .before .before .if1 .taken), sym (c .before .same-key .ensures) ∙ c .if2 .taken)
 
-edge-requires : tie.Need-edge-requires
-edge-requires c κs = tt
-
-has-requires : tie.Need-has-requires
-has-requires c κs = tt
+has-flag-requires : tie.Need-has-flag-requires
+has-flag-requires c κs = tt
 
 returns-2 : tie.Need-returns-2
 unfolding isWayOn
 returns-2 c =
-    let edge = c .before .before .before in
     rw (
-      ⊎-elim (λ w. not-both (eq-eqb _ _ (w .0 .taken)) (sym (w .2 .ensures) ∙ w .3 .left)) (λ w. not-first _ (ne-eqb _ _ (w .left))) (edge .before .if1 .came),
+      ⊎-elim (λ w. not-both (eq-eqb _ _ (w .0 .taken)) (sym (w .2 .ensures) ∙ w .3 .left)) (λ w. not-first _ (ne-eqb _ _ (w .left))) (c .before .before .before .if1 .came),
       c .before .before .if3 .taken,
-      ← edge .edge .ensures,
-      sym (c .before .has .ensures) ∙ c .if4 .taken,
+      sym (c .before .has-flag .ensures) ∙ c .if4 .taken,
     )
 
 was-visited-requires : tie.Need-was-visited-requires
@@ -37,10 +32,8 @@ was-visited-requires c κs = tt
 returns-3 : tie.Need-returns-3
 unfolding isWayOn
 returns-3 c =
-    let edge = c .before .before in
     rw (
-      ⊎-elim (λ w. not-both (eq-eqb _ _ (w .0 .taken)) (sym (w .2 .ensures) ∙ w .3 .left)) (λ w. not-first _ (ne-eqb _ _ (w .left))) (edge .before .if1 .came),
-      ← edge .edge .ensures,
+      ⊎-elim (λ w. not-both (eq-eqb _ _ (w .0 .taken)) (sym (w .2 .ensures) ∙ w .3 .left)) (λ w. not-first _ (ne-eqb _ _ (w .left))) (c .before .before .if1 .came),
       ⊎-elim (λ w. not-both (w .0 .taken) (sym (w .1 .ensures) ∙ w .2 .left)) (λ w. not-first _ (w .left)) (c .before .if3 .came),
       c .was-visited .ensures,
     )
@@ -51,8 +44,7 @@ is-way-on-spec =
     (tie.spec
     same-key-requires
     returns
-    edge-requires
-    has-requires
+    has-flag-requires
     returns-2
     was-visited-requires
     returns-3)
