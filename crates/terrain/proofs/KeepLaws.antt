@@ -18,8 +18,8 @@ use Rattle.engine.specs.declared.Taken.the-variants as Taken
 use Rattle.engine_states.specs.Refused.{isRefused, isTaken}
 use Rattle.engine_states.proofs.RefusedSame.{refused-same}
 use Rattle.terrain.specs.Host as Host
-use Rattle.terrain.specs.Words.{words, engineOf, accepted}
-use Rattle.terrain.proofs.WordsLaws.{words-engine}
+use Rattle.words.specs.Words.{words, engineOf, accepted}
+use Rattle.words.proofs.WordsLaws.{words-engine}
 
 taken-not : (t : Taken) → Host.takenNumber t ≢ 0 → isTaken t ≡ false
 taken-not Taken.Done n = absurd (n refl)

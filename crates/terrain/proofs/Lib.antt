@@ -1,17 +1,3 @@
--- Laws of the words: loops that fill arrays and put pieces, equal words, pieces held at their places; and of the parts over them.
-pub mod ArrayLaws
-pub mod PutLaws
-pub mod PieceLaws
-pub mod SameLaws
-pub mod HeldLaws
-pub mod WordsLaws
-pub mod CountLaws
-pub mod NumberLaws
-pub mod TripLaws
-pub mod KeptLaws
-pub mod BackLaws
-pub mod SmallLaws
+-- Laws of the calls on words: what a refused call leaves, and the parts over an engine's words.
 pub mod KeepLaws
-pub mod FloatLaws
-pub mod MatcherLaws
 pub mod PartLaws

@@ -3,9 +3,9 @@ use Prim.Native.Nat.{ℕ}
 use mathlib.Core.Bool.{Bool, true, false}
 use mathlib.Core.Path.{_≡_, refl}
 use mathlib.Core.List.{List}
-use Rattle.terrain.specs.Words.{accepted}
+use Rattle.words.specs.Words.{accepted}
 use Rattle.terrain.specs.Parts.{cacheOf, after}
-use Rattle.terrain.proofs.WordsLaws.{words-engine}
+use Rattle.words.proofs.WordsLaws.{words-engine}
 
 by : (ws : List ℕ) (b : Bool) → accepted ws ≡ b → after ws (cacheOf ws) ≡ ws
 by ws true e = rw e (words-engine ws e)

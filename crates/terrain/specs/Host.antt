@@ -36,7 +36,7 @@ use Rattle.terrain.specs.declared.host.HeaderTold.{HeaderTold}
 use Rattle.terrain.specs.declared.host.HeadingTold.{HeadingTold}
 use Rattle.terrain.specs.declared.host.MatchTold.{MatchTold}
 use Rattle.terrain.specs.declared.host.StepTold.{StepTold}
-use Rattle.terrain.specs.Words.{words, engineOf, accepted, bit, endWord, forwardWord}
+use Rattle.words.specs.Words.{words, engineOf, accepted, bit, endWord, forwardWord}
 
 -- ---- how answers cross
 

@@ -6,10 +6,6 @@ pub mod Format
 pub mod Transects
 pub mod Page
 pub mod Write
-pub mod Words
-pub mod Put
-pub mod Held
-pub mod Typed
 pub mod Host
 pub mod Parts
 pub mod Roads

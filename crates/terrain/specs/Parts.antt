@@ -20,7 +20,7 @@ use Rattle.cache.specs.declared.Request.the-variants as Request
 use Rattle.cache.specs.declared.Progress.{Progress}
 use Rattle.cache.specs.declared.Progress.the-variants as Progress
 use Rattle.engine.specs.declared.Engine.{Engine}
-use Rattle.terrain.specs.Words.{words, engineOf, accepted}
+use Rattle.words.specs.Words.{words, engineOf, accepted}
 use Rattle.terrain.specs.declared.parts.TerrainCount.{TerrainCount}
 use Rattle.terrain.specs.declared.parts.TerrainLookup.{TerrainLookup}
 use Rattle.terrain.specs.declared.parts.TerrainRequest.{TerrainRequest}

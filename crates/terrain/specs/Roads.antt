@@ -31,7 +31,7 @@ use Rattle.predict.specs.declared.Outcome as Road
 use Rattle.predict.specs.declared.Outcome.the-variants as Road′
 use Rattle.predict.specs.declared.Prediction.{Prediction}
 use Rattle.terrain.specs.Records.{zero, keyOut, noKey}
-use Rattle.terrain.specs.Words.{accepted, sameWords, matcherOf, matcherWords, forwardOf, endWord}
+use Rattle.words.specs.Words.{accepted, sameWords, matcherOf, matcherWords, forwardOf, endWord}
 use Rattle.terrain.specs.Host.{matchedTold, unmatched}
 use Rattle.terrain.specs.Parts.{cacheOf, after}
 use Rattle.terrain.specs.declared.host.MatchTold.{MatchTold}

@@ -1,6 +1,5 @@
 // The engine's calls for other languages. The host owns the state, as words, and lends it with the arena to every call. Words that are no engine's are refused with 12,
 // and then nothing lent is changed; so it is with every other refusal.
-use crate::words;
 use engine::Ahead;
 use engine::Changed;
 use engine::Count;
@@ -23,7 +22,7 @@ ghost use Rattle.engine.specs.Fixes as Fixes;
 ghost use Rattle.engine.specs.Publish as Publish;
 ghost use Rattle.engine.specs.State as State;
 ghost use Rattle.terrain.specs.Host as Host;
-ghost use Rattle.terrain.specs.Words as Words;
+ghost use Rattle.words.specs.Words as Words;
 
 // ---- what crosses by value
 

@@ -3,17 +3,13 @@
 //
 // `words` has the state's layout and both ways through it, `decode` and `encode` its pieces, `kept` the test that words are some engine's, `host` the engine's calls; `records` what
 // crosses by value; `leaves`, `format`, `figures`, `transect`, `page` and `write` are thin calls of the library's own, `parts` and `roads` the cache's, the matcher's and predict's.
-mod decode;
-mod encode;
 mod figures;
 mod format;
 pub mod host;
-mod kept;
 mod leaves;
 mod page;
 pub mod parts;
 pub mod records;
 pub mod roads;
 mod transect;
-pub mod words;
 mod write;

@@ -1,7 +1,6 @@
 // The cache's calls for other languages, on the cache in an engine's words. Words that no engine has are refused with 12 and stay as they were.
 use crate::records::TerrainHeader;
 use crate::records::TerrainKey;
-use crate::words;
 use cache::Cache;
 use cache::Clearing;
 use cache::Count;
@@ -10,7 +9,7 @@ use cache::Progress;
 use cache::Request;
 ghost use mathlib.Core.Path.{_≡_};
 ghost use Rattle.terrain.specs.Records as Records;
-ghost use Rattle.terrain.specs.Words as Words;
+ghost use Rattle.words.specs.Words as Words;
 ghost use Rattle.terrain.specs.Parts as Parts;
 
 #[repr(C)]

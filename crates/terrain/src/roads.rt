@@ -5,7 +5,6 @@ use crate::parts;
 use crate::records::TerrainHeader;
 use crate::records::TerrainKey;
 use crate::records::TerrainPoint;
-use crate::words;
 use cache::MaybeKey;
 use matcher::Answer;
 use matcher::Challenger;
@@ -20,7 +19,7 @@ use predict::Prediction;
 ghost use mathlib.Core.Path.{_≡_};
 ghost use Rattle.matcher.specs.Calls as Calls;
 ghost use Rattle.terrain.specs.Records as Records;
-ghost use Rattle.terrain.specs.Words as Words;
+ghost use Rattle.words.specs.Words as Words;
 ghost use Rattle.terrain.specs.Parts as Parts;
 ghost use Rattle.terrain.specs.Roads as Roads;
 
@@ -94,7 +93,7 @@ fn given(m: MatchTold) -> Matched
         crc: m.crc,
         edges: m.edges,
     };
-    let forward = crate::decode::forward(m.forward);
+    let forward = words::decode::forward(m.forward);
     Matched {
         tile,
         edge: m.edge,
@@ -115,20 +114,20 @@ fn given(m: MatchTold) -> Matched
 fn matched_in(ws: &[u32; MATCHER_WORDS]) -> Matched
     ensures { λ r. ⌜ r ≡ Words.matchedBy (Words.from (now (ws .entry)) 0) ⌝ }
 {
-    let tile = crate::decode::id(ws[1], ws[2], ws[3]);
-    let forward = crate::decode::forward(ws[7]);
+    let tile = words::decode::id(ws[1], ws[2], ws[3]);
+    let forward = words::decode::forward(ws[7]);
     Matched {
         tile,
-        edge: crate::decode::short(ws[4]),
-        segment: crate::decode::short(ws[5]),
-        fraction: crate::decode::float(ws[6]),
+        edge: words::decode::short(ws[4]),
+        segment: words::decode::short(ws[5]),
+        fraction: words::decode::float(ws[6]),
         forward,
-        offset_m: crate::decode::float(ws[8]),
+        offset_m: words::decode::float(ws[8]),
         z_dm: pack::bytes::signed_32(ws[9]),
-        class: crate::decode::byte(ws[10]),
-        flags: crate::decode::byte(ws[11]),
-        confidence: crate::decode::byte(ws[12]),
-        ridden_m: crate::decode::float(ws[13]),
+        class: words::decode::byte(ws[10]),
+        flags: words::decode::byte(ws[11]),
+        confidence: words::decode::byte(ws[12]),
+        ridden_m: words::decode::float(ws[13]),
     }
 }
 
@@ -146,11 +145,11 @@ fn challenger_in(ws: &[u32; MATCHER_WORDS]) -> Challenger
     ensures { λ r. ⌜ r ≡ Words.challengerBy (Words.from (now (ws .entry)) 14) ⌝ }
 {
     if ws[14] == 1 {
-        let tile = crate::decode::id(ws[15], ws[16], ws[17]);
+        let tile = words::decode::id(ws[15], ws[16], ws[17]);
         return Challenger::Is(
             tile,
-            crate::decode::short(ws[18]),
-            crate::decode::byte(ws[19]),
+            words::decode::short(ws[18]),
+            words::decode::byte(ws[19]),
         );
     }
     Challenger::Nothing
@@ -164,8 +163,8 @@ fn matcher_in(ws: &[u32; MATCHER_WORDS]) -> Matcher
     Matcher {
         current,
         challenger,
-        misses: crate::decode::byte(ws[20]),
-        run_from_m: crate::decode::float(ws[21]),
+        misses: words::decode::byte(ws[20]),
+        run_from_m: words::decode::float(ws[21]),
     }
 }
 
@@ -173,11 +172,11 @@ fn matcher_out(m: Matcher) -> [u32; MATCHER_WORDS]
     ensures { λ r. ⌜ r ≡ Words.matcherWords m ⌝ }
 {
     let held = m.current;
-    let c = crate::encode::current(held);
+    let c = words::encode::current(held);
     let other = m.challenger;
-    let d = crate::encode::challenger(other);
-    let misses = crate::encode::byte(m.misses);
-    let run = crate::encode::pattern(m.run_from_m);
+    let d = words::encode::challenger(other);
+    let misses = words::encode::byte(m.misses);
+    let run = words::encode::pattern(m.run_from_m);
     [
         c[0],
         c[1],

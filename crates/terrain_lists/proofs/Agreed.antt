@@ -40,13 +40,13 @@ use Rattle.engine.specs.declared.Taken.{Taken}
 use Rattle.engine.specs.declared.Taken.the-variants as Taken
 use Rattle.terrain.specs.Host as Host
 use Rattle.terrain.specs.Roads as Roads
-use Rattle.terrain.specs.Words.{words, engineOf, accepted}
+use Rattle.words.specs.Words.{words, engineOf, accepted}
 use Rattle.terrain.specs.declared.host.MatchTold.{MatchTold}
 use Rattle.terrain.specs.declared.records.TerrainHeader.{TerrainHeader}
 use Rattle.terrain.specs.declared.records.TerrainKey.{TerrainKey}
 use Rattle.terrain.specs.declared.records.TerrainPoint.{TerrainPoint}
 use Rattle.terrain.specs.declared.roads.TerrainHeading.{TerrainHeading}
-use Rattle.terrain.proofs.BackLaws.{engine-words, accepted-words}
+use Rattle.words.proofs.BackLaws.{engine-words, accepted-words}
 use Rattle.direct.specs.Lists as Direct
 use Rattle.direct.specs.Story.{after}
 use Rattle.direct.specs.Lists.{World, Call, Answer, exec, number, numberOfKnown}

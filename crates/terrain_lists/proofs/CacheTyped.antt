@@ -51,7 +51,7 @@ use Rattle.cache.specs.declared.next.Next.{Next}
 use Rattle.cache.specs.declared.next.Next.the-variants as Next
 use Rattle.cache.specs.declared.victim.Found.{Found}
 use Rattle.cache.specs.declared.victim.Found.the-variants as Found
-use Rattle.terrain.specs.Typed.{Word, Byte, Short, TypedKey, TypedMaybe, TypedSlot, TypedPages, TypedRing, TypedLoading, TypedPending, TypedCache}
+use Rattle.words.specs.Typed.{Word, Byte, Short, TypedKey, TypedMaybe, TypedSlot, TypedPages, TypedRing, TypedLoading, TypedPending, TypedCache}
 use Rattle.terrain_lists.specs.Calls.{Bytes}
 use Rattle.terrain_lists.proofs.Everywhere.{All, all-set, all-drop, all-take, all-append, all-replicate, all-fill, beyond, length-fill}
 use Rattle.terrain_lists.proofs.Either.{either, either-false}

@@ -78,7 +78,7 @@ use Rattle.engine_states.proofs.KeptParts.{apart, standing-of}
 use Rattle.engine_states.proofs.MatcherKept as Matchers
 use Rattle.engine_states.proofs.MatcherKept.{look-accepted, PlacedIn, update-needs}
 use Rattle.engine_states.proofs.RoadBounds.{RoadIn, predict-in}
-use Rattle.terrain.specs.Typed.{Byte, Word, Signed, Height, Single, TypedKey, TypedMaybe, TypedHeader, TypedPending, TypedCache, TypedMatched, TypedCurrent, TypedMatcher, TypedShared, TypedFollower, Typed}
+use Rattle.words.specs.Typed.{Byte, Word, Signed, Height, Single, TypedKey, TypedMaybe, TypedHeader, TypedPending, TypedCache, TypedMatched, TypedCurrent, TypedMatcher, TypedShared, TypedFollower, Typed}
 use Rattle.terrain_lists.specs.Calls.{Bytes}
 use Rattle.terrain_lists.proofs.Everywhere.{All, all-set, all-replicate}
 use Rattle.terrain_lists.proofs.Numbers.{signed-read, grid-key}

@@ -39,7 +39,7 @@ use Rattle.engine.specs.declared.Fix.{Fix}
 use Rattle.engine.specs.declared.Follower.{Follower}
 use Rattle.engine.specs.declared.Places.{Places}
 use Rattle.engine.specs.declared.Sight.{Sight}
-use Rattle.terrain.specs.Typed.{Word, Signed, Height, Single, TypedKey, TypedPoint, TypedPlaces, TypedHeading, TypedSight, TypedMatched, TypedMatcher, TypedDue, TypedAhead, TypedFollower}
+use Rattle.words.specs.Typed.{Word, Signed, Height, Single, TypedKey, TypedPoint, TypedPlaces, TypedHeading, TypedSight, TypedMatched, TypedMatcher, TypedDue, TypedAhead, TypedFollower}
 use Rattle.terrain_lists.proofs.Everywhere.{All, all-set, all-drop, all-take, all-append, all-replicate, beyond}
 use Rattle.terrain_lists.proofs.Numbers.{single-whole, single-min, single-bearing}
 use Rattle.terrain_lists.proofs.MatchTyped.{reset-typed}

@@ -23,7 +23,7 @@ use Rattle.matcher.specs.declared.Updated.{Updated}
 use Rattle.predict.specs.Predict as Predict
 use Rattle.predict.specs.Predict.{predictOver, predictedIn}
 use Rattle.engine.specs.declared.Engine.{Engine}
-use Rattle.terrain.specs.Typed.{Single, TypedCache, TypedMatcher, Typed}
+use Rattle.words.specs.Typed.{Single, TypedCache, TypedMatcher, Typed}
 use Rattle.direct.specs.Lists as Direct
 use Rattle.direct.specs.Story.{after}
 use Rattle.direct.specs.Lists.{World, Call, exec, start, Along}

@@ -16,9 +16,9 @@ use Rattle.terrain.specs.Host as Host
 use Rattle.terrain.specs.Parts as Parts
 use Rattle.terrain.specs.Roads as Roads
 use Rattle.terrain.specs.declared.roads.TerrainHeading.{TerrainHeading}
-use Rattle.terrain.specs.Words.{accepted, matcherOf, matcherWords}
-use Rattle.terrain.proofs.BackLaws.{accepted-words}
-use Rattle.terrain.proofs.WordsLaws.{words-engine}
+use Rattle.words.specs.Words.{accepted, matcherOf, matcherWords}
+use Rattle.words.proofs.BackLaws.{accepted-words}
+use Rattle.words.proofs.WordsLaws.{words-engine}
 use Rattle.direct.specs.Claims.{Safe, Open, AllFair, tolds, shows, madeOf}
 use Rattle.direct.specs.Direct.{directly, newDirect, directShows}
 use Rattle.direct.specs.Published.{Read, readOf}

@@ -60,7 +60,7 @@ use Rattle.matcher.specs.declared.choose.Which.the-variants as Which
 use Rattle.matcher.specs.declared.gather.Ending.{Ending}
 use Rattle.matcher.specs.declared.gather.Ending.the-variants as Ending
 use Rattle.matcher.proofs.Chosen.{IsBelow, least-below, chosen-kept}
-use Rattle.terrain.specs.Typed.{Byte, Signed, Single, TypedId, TypedMatched, TypedCurrent, TypedChallenger, TypedMatcher}
+use Rattle.words.specs.Typed.{Byte, Signed, Single, TypedId, TypedMatched, TypedCurrent, TypedChallenger, TypedMatcher}
 use Rattle.terrain_lists.specs.Calls.{Bytes}
 use Rattle.terrain_lists.proofs.CacheTyped.{bytes-take, bytes-drop}
 use Rattle.terrain_lists.proofs.Everywhere.{All, all-set, all-replicate}

@@ -20,7 +20,7 @@ use Rattle.pack.specs.Grid.{inGrid}
 use Rattle.pack.specs.declared.Header.{Header}
 use Rattle.pack.specs.declared.TileKey.{TileKey}
 use Rattle.pack.proofs.Laws.{row-below, col-below}
-use Rattle.terrain.specs.Typed.{Signed, Height, Single, TypedKey, TypedHeader}
+use Rattle.words.specs.Typed.{Signed, Height, Single, TypedKey, TypedHeader}
 
 -- ---- floats
 

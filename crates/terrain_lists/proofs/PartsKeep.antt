@@ -87,11 +87,11 @@ use Rattle.predict.specs.declared.ridden.Behind.{Behind}
 use Rattle.terrain.specs.Parts as Parts
 use Rattle.terrain.specs.Parts.{cacheOf, after}
 use Rattle.terrain.specs.Roads as Roads
-use Rattle.terrain.specs.Words.{accepted, matcherOf, matcherWords}
+use Rattle.words.specs.Words.{accepted, matcherOf, matcherWords}
 use Rattle.terrain.specs.declared.host.MatchTold.{MatchTold}
 use Rattle.terrain.specs.declared.roads.TerrainHeading.{TerrainHeading}
 use Rattle.terrain.proofs.PartLaws.{after-kept}
-use Rattle.terrain.proofs.SameLaws.{both, same-is}
+use Rattle.words.proofs.SameLaws.{both, same-is}
 use Rattle.terrain_lists.proofs.Either.{either}
 
 -- ---- the library's own refused calls

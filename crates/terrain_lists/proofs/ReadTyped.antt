@@ -29,11 +29,11 @@ use Rattle.matcher.specs.declared.Matched.{Matched}
 use Rattle.matcher.specs.declared.Matcher.{Matcher}
 use Rattle.engine.specs.declared.MaybeFix.the-variants as MaybeFix
 use Rattle.terrain.specs.Roads as Roads
-use Rattle.terrain.specs.Typed.{Word, Byte, Height, Single, TypedKey, TypedMaybe, TypedHeader, TypedPart, TypedSlot, TypedPages, TypedRing, TypedLoading, TypedPending, TypedCache, TypedPoint, TypedFix, TypedPlaces, TypedHeading, TypedSight, TypedMatched, TypedCurrent, TypedChallenger, TypedMatcher, TypedDue, TypedAhead, Typed}
-use Rattle.terrain.specs.Words.{table, flat, from, isSet, floatOf, floatWord, heightOf, keyOf, maybeKeyOf, headerBy, partOf, slotBy, pagesOf, placeBy, ringOf, cacheOf, sharedOf, pointBy, noPoint, placesOf, sightOf, currentWords, currentBy, challengerWords, matcherWords, matcherOf, dueOf, heightsOf, aheadOf, followerOf, engineOf}
-use Rattle.terrain.proofs.ArrayLaws.{length-table}
-use Rattle.terrain.proofs.NumberLaws.{short-back, byte-back, signed-back, float-back, key-back, forward-back}
-use Rattle.terrain.proofs.SameLaws.{same-self}
+use Rattle.words.specs.Typed.{Word, Byte, Height, Single, TypedKey, TypedMaybe, TypedHeader, TypedPart, TypedSlot, TypedPages, TypedRing, TypedLoading, TypedPending, TypedCache, TypedPoint, TypedFix, TypedPlaces, TypedHeading, TypedSight, TypedMatched, TypedCurrent, TypedChallenger, TypedMatcher, TypedDue, TypedAhead, Typed}
+use Rattle.words.specs.Words.{table, flat, from, isSet, floatOf, floatWord, heightOf, keyOf, maybeKeyOf, headerBy, partOf, slotBy, pagesOf, placeBy, ringOf, cacheOf, sharedOf, pointBy, noPoint, placesOf, sightOf, currentWords, currentBy, challengerWords, matcherWords, matcherOf, dueOf, heightsOf, aheadOf, followerOf, engineOf}
+use Rattle.words.proofs.ArrayLaws.{length-table}
+use Rattle.words.proofs.NumberLaws.{short-back, byte-back, signed-back, float-back, key-back, forward-back}
+use Rattle.words.proofs.SameLaws.{same-self}
 use Rattle.terrain_lists.specs.Claims.{AreWords}
 use Rattle.terrain_lists.proofs.Either.{either}
 use Rattle.terrain_lists.proofs.Everywhere.{All, all-none, all-cons, all-append}

@@ -48,7 +48,7 @@ use Rattle.predict.specs.declared.Walk.{Walk}
 use Rattle.predict.specs.declared.outgoing.Leg.{Leg}
 use Rattle.predict.specs.declared.ridden.Back.{Back}
 use Rattle.predict.specs.declared.ridden.Behind.{Behind}
-use Rattle.terrain.specs.Typed.{Byte, Height, Single}
+use Rattle.words.specs.Typed.{Byte, Height, Single}
 use Rattle.terrain_lists.proofs.Everywhere.{All, all-set}
 use Rattle.terrain_lists.proofs.Numbers.{single-whole, single-min, height-low}
 use Rattle.terrain_lists.proofs.Either.{either}

@@ -15,8 +15,8 @@ use Rattle.terrain.specs.Host as Host
 use Rattle.terrain.specs.Parts as Parts
 use Rattle.terrain.specs.Records.{headerOf, keyOf, pointOf, noKey}
 use Rattle.terrain.specs.Roads as Roads
-use Rattle.terrain.specs.Typed.{Byte, Signed, TypedKey}
-use Rattle.terrain.specs.Words.{words, matcherOf, matcherWords}
+use Rattle.words.specs.Typed.{Byte, Signed, TypedKey}
+use Rattle.words.specs.Words.{words, matcherOf, matcherWords}
 use Rattle.terrain.specs.declared.host.AheadTold.{AheadTold}
 use Rattle.terrain.specs.declared.host.CountTold.{CountTold}
 use Rattle.terrain.specs.declared.host.HeaderTold.{HeaderTold}

@@ -10,8 +10,8 @@ use Rattle.pack.specs.declared.Header.{Header}
 use Rattle.geo.specs.declared.Point.{Point}
 use Rattle.matcher.specs.Calls as Matching
 use Rattle.terrain.specs.Roads as Roads
-use Rattle.terrain.specs.Typed.{Word, Single, Typed}
-use Rattle.terrain.specs.Words.{engineOf, accepted, matcherWords}
+use Rattle.words.specs.Typed.{Word, Single, Typed}
+use Rattle.words.specs.Words.{engineOf, accepted, matcherWords}
 use Rattle.terrain.specs.declared.roads.TerrainHeading.{TerrainHeading}
 use Rattle.direct.specs.Story.{after}
 use Rattle.direct.specs.Lists.{World, Call, exec, number, start, Along}

@@ -1,12 +1,12 @@
 -- `host::terrain_step` meets its contract: words that no engine has are refused; a step with nothing to do changes its count alone; any other is the engine's own call.
 use borrow.Author.Needs.{needs}
 use Rattle.terrain.specs.Host.{step}
-use Rattle.terrain.specs.Words.{engineOf}
+use Rattle.words.specs.Words.{engineOf}
 use borrow.Author.Tests.{not-true, not-false}
 use mathlib.Core.Path.{sym, _∙_}
 use denote.Ref.{now}
 use Rattle.engine.proofs.PlanLaws.{rest-step}
-use Rattle.terrain.proofs.CountLaws.{counted-words, accepted-long}
+use Rattle.words.proofs.CountLaws.{counted-words, accepted-long}
 use Rattle.terrain.proofs.host.terrain_step.Statement.{statement}
 use Rattle.terrain.proofs.host.terrain_step.Tie as tie
 

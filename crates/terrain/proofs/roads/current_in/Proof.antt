@@ -1,5 +1,5 @@
 -- `roads::current_in` meets its contract: each answer by its case.
-use Rattle.terrain.specs.Words.{currentBy}
+use Rattle.words.specs.Words.{currentBy}
 use borrow.Author.Tests.{eq-eqb, ne-eqb}
 use borrow.Author.Needs.{needs}
 use Rattle.terrain.proofs.roads.current_in.Statement.{statement}

@@ -1,5 +1,5 @@
 -- `roads::matcher_in` meets its contract: what the callee ensures, of the records it is given.
-use Rattle.terrain.specs.Words.{matcherOf}
+use Rattle.words.specs.Words.{matcherOf}
 use borrow.Author.Needs.{needs}
 use Rattle.terrain.proofs.roads.matcher_in.Statement.{statement}
 use Rattle.terrain.proofs.roads.matcher_in.Tie as tie

@@ -1,7 +1,7 @@
 -- `roads::matcher_out` meets its contract: what the callee ensures, of the records it is given.
 use mathlib.Core.List.{[], _∷_}
-use Rattle.terrain.specs.Words.{floatWord, matcherWords}
-use Rattle.terrain.proofs.MatcherLaws.{taken-all}
+use Rattle.words.specs.Words.{floatWord, matcherWords}
+use Rattle.words.proofs.MatcherLaws.{taken-all}
 use borrow.Author.Needs.{needs}
 use Rattle.terrain.proofs.roads.matcher_out.Statement.{statement}
 use Rattle.terrain.proofs.roads.matcher_out.Tie as tie

@@ -4,9 +4,9 @@ use mathlib.Core.Path.{_≡_, refl, sym, _∙_}
 use native.Mathlib.Omega.{arith}
 use lib.ListN.{length, drop}
 use borrow.Author.Needs.{needs}
-use Rattle.terrain.specs.Words.{sameWords}
-use Rattle.terrain.proofs.MatcherLaws.{same-length}
-use Rattle.terrain.proofs.SameLaws.{same-on, same-miss, same-end}
+use Rattle.words.specs.Words.{sameWords}
+use Rattle.words.proofs.MatcherLaws.{same-length}
+use Rattle.words.proofs.SameLaws.{same-on, same-miss, same-end}
 use Rattle.terrain.proofs.roads.same.Statement.{statement}
 use Rattle.terrain.proofs.roads.same.Tie as tie
 

@@ -1,0 +1,59 @@
+-- `kept::points` meets its contract. The loop's invariant: so far each is held or one is not.
+use Rattle.words.specs.Held.{pointsHeld}
+use Rattle.tile.proofs.Laws.{all-none}
+use Rattle.words.proofs.HeldLaws.{below-next}
+use native.Mathlib.Omega.{arith}
+use mathlib.Core.Path.{_≡_, sym, _∙_}
+use Prim.Native.Nat.{_-_, _≤_}
+use borrow.Author.Needs.{needs}
+use Rattle.words.proofs.kept.points.Statement.{statement}
+use Rattle.words.proofs.kept.points.Tie as tie
+
+abbrev Inv-loop : tie.InvT-loop
+Inv-loop ws ok₀ i₀ ok i = (i ≤ 16) × (ok ≡ pointsHeld ws i)
+
+abbrev μ-loop : tie.MeasureT-loop
+μ-loop ws ok₀ i₀ ok i = 16 - i
+
+loop-holds : tie.Need-loop-holds Inv-loop μ-loop
+loop-holds c = (search needs, sym (all-none _))
+
+mul-point : tie.Need-mul-point Inv-loop μ-loop
+mul-point c = search needs
+
+add-point : tie.Need-add-point Inv-loop μ-loop
+add-point c = search needs
+
+point-requires : tie.Need-point-requires Inv-loop μ-loop
+point-requires c κs = search needs
+
+both-requires : tie.Need-both-requires Inv-loop μ-loop
+both-requires c κs = search needs
+
+add-i : tie.Need-add-i Inv-loop μ-loop
+add-i c = search needs
+
+loop-less : tie.Need-loop-less Inv-loop μ-loop
+loop-less c = search needs
+
+loop-again : tie.Need-loop-again Inv-loop μ-loop
+loop-again c = (search needs, rw (c .both .ensures, c .before .point .ensures, c .before .before .before .loop .inv .1, below-next))
+
+returns : tie.Need-returns Inv-loop μ-loop
+returns c = let end : c .before .loop .i ≡ 16 = omega arith in rw end at (c .before .loop .inv .1)
+
+pub points-spec : {M : Type 1} → statement M
+points-spec =
+    tie.close
+    (tie.spec
+    Inv-loop
+    μ-loop
+    loop-holds
+    mul-point
+    add-point
+    point-requires
+    both-requires
+    add-i
+    loop-less
+    loop-again
+    returns)
