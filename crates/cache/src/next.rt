@@ -17,7 +17,7 @@ pub enum Next {
 }
 
 // A chunk where this tile is being loaded, else its directory entry.
-fn next_read(loading: MaybeLoading, key: TileKey) -> Next
+pub fn next_read(loading: MaybeLoading, key: TileKey) -> Next
     ensures { λ r. ⌜ r ≡ Lookups.nextRead loading key ⌝ }
 {
     match loading {

@@ -261,7 +261,7 @@ fn copy(arena: &mut [u8], at: usize, bytes: &[u8])
 }
 
 // The bytes written into the run from page `slot` on, `done` bytes into it, where they lie in the arena.
-fn put(arena: &mut [u8], slot: usize, done: u32, bytes: &[u8])
+pub fn put(arena: &mut [u8], slot: usize, done: u32, bytes: &[u8])
     ensures { λ _. ⌜ now (arena .exit) ≡ Loads.put (now (arena .entry)) slot done (now (bytes .entry)) ⌝ }
 {
     if arena.len() / crate::PAGE_BYTES < slot {

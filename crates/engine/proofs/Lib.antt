@@ -6,7 +6,7 @@ pub mod Literals
 pub mod FollowerLaws
 -- Laws of the engine, for its proofs and for callers to cite.
 -- FetchLaws: the open fetch: a step repeats it, a reset withdraws it, a fix and the loss of fixes commute with its delivery. StateLaws: a new
--- engine is no state that number 12 names. StateNeeds: what a phase holds, and when an arena is shorter than its pages. StepNeeds: what the arms
+-- engine is no state that number 12 names. StateNeeds: an arm of two phases, and when an arena is shorter than its pages. StepNeeds: what the arms
 -- of several variants know, and the limit on asked tiles.
 pub mod FetchLaws
 pub mod StateLaws
@@ -17,3 +17,5 @@ pub mod NeedLaws
 pub mod TestedLaws
 -- PlanLaws: a step where no fetch is open does what its plan says.
 pub mod PlanLaws
+-- SummaryLaws: an engine by its summary, a step that opens a fetch of the needed tile, a chunk that leaves more to come.
+pub mod SummaryLaws

@@ -78,11 +78,11 @@ module _ (key : TileKey) where
       by true q = let z : _≡_ {A = ℕ} 0 1 = cc in absurd (omega arith)
       by false q = chunk-read (c .loading) l q
 
-  entry-for : (c : Cache) → nextStep c key ≡ Next.Entry → pendingFor (c .loading) key ≡ Pending.Entry key
+  pub entry-for : (c : Cache) → nextStep c key ≡ Next.Entry → pendingFor (c .loading) key ≡ Pending.Entry key
   unfolding nextStep
   entry-for c q = entry-at (landsOn c key) c q
 
-  chunk-for : (c : Cache) (l : Loading) → nextStep c key ≡ Next.Chunk l → pendingFor (c .loading) key ≡ Pending.Chunk
+  pub chunk-for : (c : Cache) (l : Loading) → nextStep c key ≡ Next.Chunk l → pendingFor (c .loading) key ≡ Pending.Chunk
   unfolding nextStep
   chunk-for c l q = chunk-at (landsOn c key) c l q
 
@@ -119,7 +119,7 @@ module _ (e : Engine) (arena : List ℕ) (key : TileKey) where
   h₁ = e .shared .header
 
   -- what an answer of the cache is made
-  abbrev turned : Loaded → Stepped
+  abbrev pub turned : Loaded → Stepped
   turned l = cond (awaitsRead (l .answer)) (opened e (pendingFor (c₁ .loading) key)) (Deliver.loaded e l)
 
   pub need-reads : (l : Loaded) → l ≡ Loads.told (loadTested c₁ arena h₁ key 0 []) → awaitsRead (l .answer) ≡ true

@@ -1,14 +1,12 @@
 -- A step where no fetch is open does what its plan says (`plan-step`): by whether the pack is read and a tile is needed, whether there is a fix, where it lies, and what is due.
 use Prim.Native.Nat.{ℕ}
-use mathlib.Core.Path.{_≡_, refl, sym, ap, _∙_}
-use mathlib.Core.Bool.{Bool, true, false, _&&_, cond, true≢false}
+use mathlib.Core.Path.{_≡_, refl, ap, _∙_}
+use mathlib.Core.Bool.{Bool, true, false, cond}
 use mathlib.Core.List.{List}
-use lib.ListN.{length}
 use Rattle.pack.specs.Grid.{keyOf, inGrid}
 use Rattle.pack.specs.declared.Header.{Header}
 use Rattle.pack.specs.declared.Keyed.{Keyed}
 use Rattle.pack.specs.declared.Keyed.the-variants as Keyed
-use Rattle.pack.proofs.Laws.{and-left, and-right}
 use Rattle.cache.specs.declared.MaybeKey.{MaybeKey}
 use Rattle.cache.specs.declared.MaybeKey.the-variants as MaybeKey
 use Rattle.cache.specs.declared.Pending.{Pending}
@@ -16,10 +14,8 @@ use Rattle.cache.specs.declared.Pending.the-variants as Pending
 use Rattle.matcher.specs.State.{keyOk}
 use Rattle.matcher.specs.declared.Current.{Current}
 use Rattle.matcher.specs.declared.Current.the-variants as Current
-use Rattle.engine.specs.Plans.{ofRoad, ofFix, ofSight, ofNeed, ofState, doneBy, planOf, isRest, isClosed, rests}
-use Rattle.engine.specs.Calls.{step, stepFrom}
-use Rattle.engine.specs.Deliver.{over}
-use Rattle.engine.specs.State.{engineOk, refused}
+use Rattle.engine.specs.Plans.{ofRoad, ofFix, ofSight, ofNeed, ofState, doneBy, planOf}
+use Rattle.engine.specs.State.{engineOk}
 use Rattle.engine.specs.Steps.{readyBy, startedBy, started, steppedBy, stepped}
 use Rattle.engine.specs.Work.{counted, ended, matchStep, roadDueBy, atFixBy, atFix, workedBy, worked}
 use Rattle.engine.specs.declared.Due.{Due}
@@ -33,7 +29,6 @@ use Rattle.engine.specs.declared.Phase.the-variants as Phase
 use Rattle.engine.specs.declared.plan.Plan.{Plan}
 use Rattle.engine.specs.declared.plan.Plan.the-variants as Plan
 use Rattle.engine.specs.declared.Status.the-variants as Status
-use Rattle.engine.specs.declared.Stepped.{Stepped}
 use Rattle.engine.proofs.TestedLaws.{current-in}
 
 module _ (e : Engine) (arena : List ℕ) where
@@ -80,48 +75,6 @@ module _ (e : Engine) (arena : List ℕ) where
   pub plan-step : e .shared .cache .pending ≡ Pending.Nothing → stepped e arena ≡ doneBy (planOf e) e arena
   unfolding stepped started
   plan-step pending = ap (λ (p : Pending). steppedBy p e arena) pending ∙ phase-by (e .shared .phase)
-
--- ---- a step with nothing to do counts itself and answers Idle
-
-module _ (e : Engine) (arena : List ℕ) where
-  abbrev idle : Stepped
-  idle = ended e (e .shared .cache) (counted (e .follower)) Status.Idle
-
-  closed-is : (p : Pending) → isClosed p ≡ true → p ≡ Pending.Nothing
-  closed-is Pending.Nothing q = refl
-  closed-is Pending.Header q = absurd (true≢false (sym q))
-  closed-is (Pending.Entry key) q = absurd (true≢false (sym q))
-  closed-is Pending.Chunk q = absurd (true≢false (sym q))
-
-  rest-by : (p : Plan) → isRest p ≡ true → doneBy p e arena ≡ idle
-  rest-by Plan.Rest q = refl
-  rest-by Plan.NoPack q = absurd (true≢false (sym q))
-  rest-by Plan.Header q = absurd (true≢false (sym q))
-  rest-by (Plan.Need key) q = absurd (true≢false (sym q))
-  rest-by (Plan.Match fix) q = absurd (true≢false (sym q))
-  rest-by (Plan.Road fix found) q = absurd (true≢false (sym q))
-  rest-by Plan.Roadless q = absurd (true≢false (sym q))
-  rest-by (Plan.Off fix) q = absurd (true≢false (sym q))
-
-  module _ (h : rests e (length arena) ≡ true) where
-    closed-in : e .shared .cache .pending ≡ Pending.Nothing
-    unfolding rests
-    closed-in = closed-is (e .shared .cache .pending) (and-left (isClosed (e .shared .cache .pending)) _ h)
-
-    planned-in : (isRest (planOf e) && engineOk e (length arena)) ≡ true
-    unfolding rests
-    planned-in = and-right (isClosed (e .shared .cache .pending)) _ h
-
-    pub rest-step : step e arena ≡ ended e (e .shared .cache) (counted (e .follower)) Status.Idle
-    unfolding step
-    rest-step =
-        ap (λ (b : Bool). cond b (stepped e arena) (refused e 12)) (and-right (isRest (planOf e)) _ planned-in)
-        ∙ plan-step e arena closed-in
-        ∙ rest-by (planOf e) (and-left (isRest (planOf e)) _ planned-in)
-
-    pub rest-from : (pack : List ℕ) → stepFrom e arena pack ≡ over idle arena
-    unfolding stepFrom
-    rest-from pack = rw rest-step
 
 -- ---- a road is planned of a match in the grid
 

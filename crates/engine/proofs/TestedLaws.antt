@@ -20,7 +20,7 @@ use Rattle.engine.specs.declared.Phase.the-variants as Phase
 use Rattle.engine.specs.State.{needOk, matchedOk, sharedOk, pendingOk, fixOk, placesOk, sightOk, aheadOk, failuresOk, matcherOk, reloadLimit, dueOk, engineOk}
 
 module _ (e : Engine) (n : ℕ) (ok : engineOk e n ≡ true) where
-  abbrev causes : List Bool
+  abbrev pub causes : List Bool
   causes =
       sharedOk (e .shared) n ∷ dueOk (e .shared) (e .follower .due) ∷ sightOk (e .follower .sight) ∷ matcherOk (e .shared) (e .follower .matcher)
       ∷ aheadOk (e .shared) (e .follower .ahead) ∷ failuresOk (e .shared .phase) (e .follower .failures)

@@ -13,3 +13,5 @@ pub mod Calls
 pub mod Numbers
 -- What a step is to do, and what it makes of an answer.
 pub mod Plans
+-- What number 12 asks beside the cache's own state, and what the plan is made of.
+pub mod Summaries

@@ -1,11 +1,12 @@
--- What a step is to do where no fetch is open: this restates private code (`plan.rt`, and what `work.rt` and `deliver.rt` make of an answer). `Steps` has the step itself, and
+-- What a step is to do where no fetch is open: this restates code (`plan.rt`, and what `work.rt` and `deliver.rt` make of an answer). `Steps` has the step itself, and
 -- `PlanLaws` says that both are one.
 use Prim.Native.Nat.{ℕ, _+_}
-use mathlib.Core.Bool.{Bool, true, false, not, _&&_, cond}
+use mathlib.Core.Bool.{Bool, true, false, not, _||_, cond}
 use mathlib.Core.List.{List}
 use lib.Dec.{eqb, ltb, leb}
 use Rattle.pack.specs.Grid.{keyOf}
 use Rattle.pack.specs.declared.Header.{Header}
+use Rattle.pack.specs.declared.TileKey.{TileKey}
 use Rattle.pack.specs.declared.Keyed.{Keyed}
 use Rattle.pack.specs.declared.Keyed.the-variants as Keyed
 use Rattle.cache.specs.declared.MaybeKey.{MaybeKey}
@@ -39,9 +40,8 @@ use Rattle.engine.specs.declared.Status.{Status}
 use Rattle.engine.specs.declared.Status.the-variants as Status
 use Rattle.engine.specs.declared.Stepped.{Stepped}
 use Rattle.engine.specs.Deliver.{failing, needless}
-use Rattle.engine.specs.State.{engineOk}
 use Rattle.engine.specs.Steps.{opened, needStep}
-use Rattle.engine.specs.Work.{counted, ended, offMap, matched, matchAsks, mayAsk, matchEndedBy, matchStep, published, roadAsks, rematch, roadStep, roadOff, withDue}
+use Rattle.engine.specs.Work.{asking, isOther, isTime, matchDone, counted, ended, offMap, matched, matchAsks, mayAsk, matchEndedBy, matchStep, published, roadAsks, rematch, roadStep, roadOff, withDue}
 
 abbrev pub ofRoad : Current → Fix → Plan
 ofRoad (Current.Is found) fix = Plan.Road fix found
@@ -89,26 +89,6 @@ doneBy (Plan.Off fix) e arena = leftMap e fix
 abbrev pub planOf : Engine → Plan
 planOf e = ofState (e .shared .phase) (e .shared .header) (e .follower .sight .fix) (e .follower .due) (e .follower .matcher .current)
 
--- no fetch is open, and there is nothing to do
-abbrev pub isRest : Plan → Bool
-isRest Plan.Rest = true
-isRest Plan.NoPack = false
-isRest Plan.Header = false
-isRest (Plan.Need key) = false
-isRest (Plan.Match fix) = false
-isRest (Plan.Road fix found) = false
-isRest Plan.Roadless = false
-isRest (Plan.Off fix) = false
-
-abbrev pub isClosed : Pending → Bool
-isClosed Pending.Nothing = true
-isClosed Pending.Header = false
-isClosed (Pending.Entry key) = false
-isClosed Pending.Chunk = false
-
-unfoldable pub rests : Engine → ℕ → Bool
-rests e size = isClosed (e .shared .cache .pending) && (isRest (planOf e) && engineOk e size)
-
 -- ---- what a match that ended makes of the follower, and its answer
 
 abbrev pub matchLeaves : MatchOutcome.Outcome → Follower → Matcher → Fix → ℕ → Follower
@@ -127,6 +107,14 @@ abbrev pub matchMade : Engine → Fix → Made → Stepped
 matchMade e fix u =
     matchEndedBy (u .answer) e (counted (e .follower)) fix
     (record { answer = u .answer; matcher = u .matcher; cache = withUses (e .shared .cache) (u .uses) })
+
+-- what is due after it, of what was due
+abbrev pub matchedDue : Due → Current → Current → ℕ → Due
+matchedDue due Current.Nothing published at = matchDone due (due .road)
+matchedDue due (Current.Is found) published at = matchDone due (cond (isOther found published || isTime (due .«last_road») at) true (due .road))
+
+abbrev pub askingDue : Due → ℕ → TileKey → Due
+askingDue due pages key = cond (mayAsk due pages) (asking due key (due .reloads + 1)) (matchDone due (due .road))
 
 -- ---- what a road makes of the follower, and when it refuses the step
 

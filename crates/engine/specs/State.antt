@@ -99,17 +99,26 @@ heldBy Phase.Ready h key = inGrid h key
 abbrev pub heldOk : Shared → TileKey → Bool
 heldOk s key = heldBy (s .phase) (s .header) key
 
+abbrev pub needBy : Phase → Header → MaybeKey → Bool
+needBy phase h MaybeKey.Nothing = true
+needBy phase h (MaybeKey.Key key) = heldBy phase h key
+
 abbrev pub needOk : Shared → MaybeKey → Bool
-needOk s MaybeKey.Nothing = true
-needOk s (MaybeKey.Key key) = heldOk s key
+needOk s need = needBy (s .phase) (s .header) need
+
+abbrev pub matchedBy : Phase → Header → Current → Bool
+matchedBy phase h Current.Nothing = true
+matchedBy phase h (Current.Is m) = heldBy phase h (m .tile .key)
 
 abbrev pub matchedOk : Shared → Current → Bool
-matchedOk s Current.Nothing = true
-matchedOk s (Current.Is m) = heldOk s (m .tile .key)
+matchedOk s current = matchedBy (s .phase) (s .header) current
 
 -- the header counts in phase Ready alone
+abbrev pub headerBy : Phase → Header → Bool
+headerBy phase h = cond (isReady phase) (rules h) true
+
 abbrev pub headerOk : Shared → Bool
-headerOk s = cond (isReady (s .phase)) (rules (s .header)) true
+headerOk s = headerBy (s .phase) (s .header)
 
 unfoldable pub sharedOk : Shared → ℕ → Bool
 sharedOk s size = stateOk (s .cache) && (arenaOk (s .cache) size && headerOk s)
@@ -119,11 +128,14 @@ loadsNeeded MaybeLoading.Nothing need = false
 loadsNeeded (MaybeLoading.Tile l) need = holds need (l .key)
 
 -- beside what the cache asks of an open fetch: the header's is open while it is unread, any other in phase Ready and for the tile needed
+abbrev pub pendingIn : Pending → Phase → MaybeLoading → MaybeKey → Bool
+pendingIn Pending.Nothing phase loading need = true
+pendingIn Pending.Header phase loading need = isUnread phase
+pendingIn (Pending.Entry key) phase loading need = isReady phase && holds need key
+pendingIn Pending.Chunk phase loading need = isReady phase && loadsNeeded loading need
+
 abbrev pub pendingBy : Pending → Shared → MaybeKey → Bool
-pendingBy Pending.Nothing s need = true
-pendingBy Pending.Header s need = isUnread (s .phase)
-pendingBy (Pending.Entry key) s need = isReady (s .phase) && holds need key
-pendingBy Pending.Chunk s need = isReady (s .phase) && loadsNeeded (s .cache .loading) need
+pendingBy pending s need = pendingIn pending (s .phase) (s .cache .loading) need
 
 abbrev pub pendingOk : Shared → MaybeKey → Bool
 pendingOk s need = pendingBy (s .cache .pending) s need
@@ -140,21 +152,30 @@ abbrev pub sightOk : Sight → Bool
 sightOk s = fixOk (s .fix) && (placesOk (s .history) && headingOk (s .heading))
 
 -- 501 samples, 11 behind
+abbrev pub aheadBy : Phase → Header → ℕ → ℕ → Current → Bool
+aheadBy phase h len behind published = leb len 501 && (leb behind 11 && matchedBy phase h published)
+
 abbrev pub aheadOk : Shared → Ahead → Bool
-aheadOk s a = leb (a .len) 501 && (leb (a .«behind_len») 11 && matchedOk s (a .matched))
+aheadOk s a = aheadBy (s .phase) (s .header) (a .len) (a .«behind_len») (a .matched)
 
 abbrev pub failuresOk : Phase → ℕ → Bool
 failuresOk phase failures = cond (ltb failures 8) true (eqb failures 8 && isFailed phase)
 
+abbrev pub matcherBy : Phase → Header → Matcher → Bool
+matcherBy phase h m = countsOk m && matchedBy phase h (m .current)
+
 abbrev pub matcherOk : Shared → Matcher → Bool
-matcherOk s m = countsOk m && matchedOk s (m .current)
+matcherOk s m = matcherBy (s .phase) (s .header) m
 
 -- 2 × pages + 16, of at most 96 pages
 abbrev pub reloadLimit : ℕ → ℕ
 reloadLimit pages = 2 * min pages 96 + 16
 
+abbrev pub dueBy : Phase → Header → ℕ → Due → Bool
+dueBy phase h pages due = leb (due .reloads) (reloadLimit pages) && needBy phase h (due .need)
+
 abbrev pub dueOk : Shared → Due → Bool
-dueOk s due = leb (due .reloads) (reloadLimit (s .cache .pages .count)) && needOk s (due .need)
+dueOk s due = dueBy (s .phase) (s .header) (s .cache .pages .count) due
 
 -- all of them, over an arena of `size` bytes: what is shared, what a follower holds, and the open fetch against the follower whose it is
 unfoldable pub engineOk : Engine → ℕ → Bool

@@ -5,6 +5,7 @@ use mathlib.Core.Bool.{Bool, false, cond}
 use mathlib.Core.List.{List, []}
 use lib.Dec.{eqb}
 use Rattle.pack.specs.Grid.{entryOf}
+use Rattle.pack.specs.declared.Header.{Header}
 use Rattle.pack.specs.declared.TileKey.{TileKey}
 use Rattle.cache.specs.declared.MaybeKey.{MaybeKey}
 use Rattle.cache.specs.declared.MaybeKey.the-variants as MaybeKey
@@ -36,11 +37,14 @@ chunkRequest MaybeLoading.Nothing = Status.Refused 12
 chunkRequest (MaybeLoading.Tile l) = Status.Fetch (chunkOffset l) (chunkLen l)
 
 -- the read that an open fetch asks for, worked out from it, the header and the load; the header is the pack's first 512 bytes
+abbrev pub requestBy : Header → MaybeLoading → Pending → Status
+requestBy h loading Pending.Nothing = Status.Refused 12
+requestBy h loading Pending.Header = Status.Fetch 0 512
+requestBy h loading (Pending.Entry key) = Status.Fetch (entryOf h key) 8
+requestBy h loading Pending.Chunk = chunkRequest loading
+
 abbrev pub requestOf : Shared → Pending → Status
-requestOf s Pending.Nothing = Status.Refused 12
-requestOf s Pending.Header = Status.Fetch 0 512
-requestOf s (Pending.Entry key) = Status.Fetch (entryOf (s .header) key) 8
-requestOf s Pending.Chunk = chunkRequest (s .cache .loading)
+requestOf s pending = requestBy (s .header) (s .cache .loading) pending
 
 -- the engine with that fetch open, and its read
 abbrev pub opened : Engine → Pending → Stepped

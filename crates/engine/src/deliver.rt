@@ -91,7 +91,7 @@ fn short_sector(bytes: &[u8]) -> [u8; 512]
 }
 
 // The first 512 bytes of an answer.
-fn sector_of(bytes: &[u8]) -> [u8; 512]
+pub fn sector_of(bytes: &[u8]) -> [u8; 512]
     ensures { λ r. ⌜ r ≡ Deliver.sectorOf (now (bytes .entry)) ⌝ }
 {
     if bytes.len() < 512 {
@@ -235,7 +235,7 @@ fn part_came(e: Engine, arena: &mut [u8], key: TileKey, failure: u32, bytes: &[u
 // ---- the delivery
 
 // Whether an answer fits a read of 512 bytes.
-fn fits_header(failure: u32, len: usize) -> bool
+pub fn fits_header(failure: u32, len: usize) -> bool
     ensures { λ r. ⌜ r ≡ Deliver.fitsHeader failure len ⌝ }
 {
     if failure == 0 {

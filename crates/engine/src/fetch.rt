@@ -9,13 +9,13 @@ use cache::MaybeKey;
 use cache::MaybeLoading;
 use cache::Pending;
 use cache::Progress;
+use pack::Header;
 use pack::TileKey;
 ghost use mathlib.Core.Path.{_≡_};
 ghost use Rattle.engine.specs.Calls as Calls;
-ghost use Rattle.engine.specs.Plans as Plans;
 ghost use Rattle.engine.specs.Steps as Steps;
 
-pub(crate) fn with_pending(c: Cache, pending: Pending) -> Cache
+pub fn with_pending(c: Cache, pending: Pending) -> Cache
     ensures { λ r. ⌜ r ≡ Steps.withPending c pending ⌝ }
 {
     let pages = c.pages;
@@ -43,23 +43,25 @@ fn chunk_request(loading: MaybeLoading) -> Status
     }
 }
 
-// The read that an open fetch asks for, worked out from it.
-fn request_of(s: Shared, pending: Pending) -> Status
-    ensures { λ r. ⌜ r ≡ Steps.requestOf s pending ⌝ }
+// The read that an open fetch asks for, worked out from it, the header and the load.
+pub fn request(header: Header, loading: MaybeLoading, pending: Pending) -> Status
+    ensures { λ r. ⌜ r ≡ Steps.requestBy header loading pending ⌝ }
 {
     match pending {
         Pending::Nothing => Status::Refused(12),
         Pending::Header => Status::Fetch(0, 512),
-        Pending::Entry(key) => {
-            let header = s.header;
-            Status::Fetch(pack::grid::entry_of(header, key), 8)
-        }
-        Pending::Chunk => {
-            let c = s.cache;
-            let loading = c.loading;
-            chunk_request(loading)
-        }
+        Pending::Entry(key) => Status::Fetch(pack::grid::entry_of(header, key), 8),
+        Pending::Chunk => chunk_request(loading),
     }
+}
+
+fn request_of(s: Shared, pending: Pending) -> Status
+    ensures { λ r. ⌜ r ≡ Steps.requestOf s pending ⌝ }
+{
+    let header = s.header;
+    let c = s.cache;
+    let loading = c.loading;
+    request(header, loading, pending)
 }
 
 // The engine with that fetch open, and its read.
@@ -163,41 +165,4 @@ pub(crate) fn stepped(mut e: Engine, arena: &[u8]) -> Stepped
             }
         }
     }
-}
-
-// Whether no fetch is open.
-fn is_closed(pending: Pending) -> bool
-    ensures { λ r. ⌜ r ≡ Plans.isClosed pending ⌝ }
-{
-    match pending {
-        Pending::Nothing => true,
-        Pending::Header => false,
-        Pending::Entry(_) => false,
-        Pending::Chunk => false,
-    }
-}
-
-// Whether a step has nothing to do. What is small is asked first: a step that has something to do makes number 12's test itself.
-pub(crate) fn rests(e: Engine, size: usize) -> bool
-    ensures { λ r. ⌜ r ≡ Plans.rests e size ⌝ }
-{
-    let s = e.shared;
-    let c = s.cache;
-    let pending = c.pending;
-    if !is_closed(pending) {
-        return false;
-    }
-    let phase = s.phase;
-    let header = s.header;
-    let f = e.follower;
-    let due = f.due;
-    let sight = f.sight;
-    let fix = sight.fix;
-    let m = f.matcher;
-    let current = m.current;
-    let plan = crate::plan::of_state(phase, header, fix, due, current);
-    if !crate::plan::is_rest(plan) {
-        return false;
-    }
-    crate::state::engine_ok(e, size)
 }

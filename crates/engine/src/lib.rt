@@ -6,15 +6,16 @@
 //
 // `Shared` is what the pack and the card give; `Follower` is what follows one rider: the fixes and the heading that they give, the match, what
 // is due, and the road ahead that is published. `fixes`, `publish` and `follow` have the follower, which reads neither pack nor tile; `state`
-// has number 12; `plan` what a step is to do, and `fetch`, `work` and `deliver` the steps.
-mod deliver;
-mod fetch;
+// and `summary` have number 12; `plan` what a step is to do, and `fetch`, `work` and `deliver` the steps.
+pub mod deliver;
+pub mod fetch;
 mod fixes;
 mod follow;
-mod plan;
+pub mod plan;
 mod publish;
 mod state;
-mod work;
+pub mod summary;
+pub mod work;
 
 // What the answers hold, so that a host names this crate alone.
 use cache::Cache;
@@ -33,9 +34,7 @@ pub use predict::MAX_SAMPLES;
 pub use tile::TileId;
 ghost use Rattle.engine.specs.Calls as Calls;
 ghost use Rattle.engine.specs.Fixes as Fixes;
-ghost use Rattle.engine.specs.Plans as Plans;
 ghost use Rattle.engine.specs.Publish as Publish;
-ghost use lib.ListN.{length};
 ghost use mathlib.Core.Path.{_≡_};
 
 // A GPS position in micro-degrees, at a monotonic time.
@@ -342,13 +341,6 @@ impl Engine {
         }
         let f = self.follower;
         Count::Is(f.steps)
-    }
-
-    // Whether a step has nothing to do: it then answers Idle, and changes nothing but that it is counted (`rest-step`). For a host that keeps the state in a form of its own.
-    pub fn rests(self, arena: &[u8]) -> bool
-        ensures { λ r. ⌜ r ≡ Plans.rests self (length (now (arena .entry))) ⌝ }
-    {
-        fetch::rests(self, arena.len())
     }
 
     // One bounded unit of work.

@@ -94,19 +94,3 @@ pub(crate) fn of_state(
         Phase::Ready => of_need(header, fix, due, current),
     }
 }
-
-// Whether there is nothing to do.
-pub(crate) fn is_rest(plan: Plan) -> bool
-    ensures { λ r. ⌜ r ≡ Plans.isRest plan ⌝ }
-{
-    match plan {
-        Plan::Rest => true,
-        Plan::NoPack => false,
-        Plan::Header => false,
-        Plan::Need(_) => false,
-        Plan::Match(_) => false,
-        Plan::Road(_, _) => false,
-        Plan::Roadless => false,
-        Plan::Off(_) => false,
-    }
-}

@@ -33,7 +33,7 @@ pub(crate) fn counted(f: Follower) -> Follower
     d
 }
 
-fn is_matched(c: Current) -> bool
+pub fn is_matched(c: Current) -> bool
     ensures { λ r. ⌜ r ≡ Work.isMatched c ⌝ }
 {
     match c {
@@ -43,7 +43,7 @@ fn is_matched(c: Current) -> bool
 }
 
 // A road that is published goes, for a reason.
-fn emptied(a: Ahead, at_ms: u64, end: End) -> Ahead
+pub fn emptied(a: Ahead, at_ms: u64, end: End) -> Ahead
     ensures { λ r. ⌜ r ≡ Work.emptied a «at_ms» end ⌝ }
 {
     let matched = a.matched;
@@ -75,7 +75,7 @@ fn off_map(f: Follower, fix: Fix) -> Follower
 // ---- a tile is needed first
 
 // A tile asked for, as the next attempt's number.
-fn asking(d: Due, key: TileKey, reloads: u16) -> Due
+pub fn asking(d: Due, key: TileKey, reloads: u16) -> Due
     ensures { λ r. ⌜ r ≡ Work.asking d key reloads ⌝ }
 {
     let last_road = d.last_road;
@@ -89,7 +89,7 @@ fn asking(d: Due, key: TileKey, reloads: u16) -> Due
 }
 
 // Whether the attempt under way may ask for another tile.
-fn may_ask(d: Due, pages: usize) -> bool
+pub fn may_ask(d: Due, pages: usize) -> bool
     ensures { λ r. ⌜ r ≡ Work.mayAsk d pages ⌝ }
 {
     (d.reloads as usize) < crate::state::reload_limit(pages)
@@ -122,49 +122,64 @@ fn is_time(last: MaybeTime, now_ms: u64) -> bool
     }
 }
 
-// The match is made: a road is due where it is on another edge, or it is time.
-fn matched(f: Follower, m: Matcher, fix: Fix) -> Follower
-    ensures { λ r. ⌜ r ≡ Work.matched f m fix ⌝ }
+// What is due once a match is made: a road where it is on another edge, or it is time.
+pub fn matched_due(due: Due, current: Current, published: Current, at_ms: u64) -> Due
+    ensures { λ r. ⌜ r ≡ Plans.matchedDue due current published «at_ms» ⌝ }
 {
-    let mut d = f;
-    d.matcher = m;
-    let mut due = d.due;
-    due.reloads = 0;
-    due.matching = false;
-    let a = d.ahead;
-    let current = m.current;
+    let mut d = due;
+    d.reloads = 0;
+    d.matching = false;
     match current {
-        Current::Nothing => {
-            let ahead = emptied(a, fix.at_ms, End::Uncertain);
-            d.ahead = ahead;
-            d.due = due;
-            d
-        }
+        Current::Nothing => d,
         Current::Is(found) => {
-            let published = a.matched;
-            let last = due.last_road;
-            if is_other(found, published) || is_time(last, fix.at_ms) {
-                due.road = true;
+            let last = d.last_road;
+            if is_other(found, published) || is_time(last, at_ms) {
+                d.road = true;
             }
-            d.due = due;
             d
         }
     }
 }
 
-// A match needs a tile first; past the limit it is given up.
+// The match is made; one that found nothing takes the road that is published away.
+fn matched(f: Follower, m: Matcher, fix: Fix) -> Follower
+    ensures { λ r. ⌜ r ≡ Work.matched f m fix ⌝ }
+{
+    let mut d = f;
+    d.matcher = m;
+    let current = m.current;
+    let a = d.ahead;
+    let published = a.matched;
+    let before = d.due;
+    let due = matched_due(before, current, published, fix.at_ms);
+    d.due = due;
+    if is_matched(current) {
+        return d;
+    }
+    let ahead = emptied(a, fix.at_ms, End::Uncertain);
+    d.ahead = ahead;
+    d
+}
+
+// What is due once a match needs a tile first; past the limit the match is given up.
+pub fn asking_due(due: Due, pages: usize, key: TileKey) -> Due
+    ensures { λ r. ⌜ r ≡ Plans.askingDue due pages key ⌝ }
+{
+    if may_ask(due, pages) {
+        return asking(due, key, due.reloads + 1);
+    }
+    let mut d = due;
+    d.reloads = 0;
+    d.matching = false;
+    d
+}
+
 fn match_asks(f: Follower, pages: usize, key: TileKey) -> Follower
     ensures { λ r. ⌜ r ≡ Work.matchAsks f pages key ⌝ }
 {
     let mut d = f;
-    let mut due = d.due;
-    if may_ask(due, pages) {
-        let asked = asking(due, key, due.reloads + 1);
-        d.due = asked;
-        return d;
-    }
-    due.reloads = 0;
-    due.matching = false;
+    let before = d.due;
+    let due = asking_due(before, pages, key);
     d.due = due;
     d
 }
@@ -205,8 +220,8 @@ fn match_leaves(
     }
 }
 
-// How a step that matched ends.
-fn match_tells(due: Due, pages: usize, answer: matcher::Outcome) -> Status
+// How a step that matched ends, where the match is not refused.
+pub fn match_tells(due: Due, pages: usize, answer: matcher::Outcome) -> Status
     ensures { λ r. ⌜ r ≡ Plans.matchTells answer due pages ⌝ }
 {
     match answer {
@@ -251,7 +266,7 @@ fn match_ended(mut e: Engine, fix: Fix, u: Made) -> Stepped
 
 // ---- a road
 
-fn no_road() -> Prediction
+pub fn no_road() -> Prediction
     ensures { λ r. ⌜ r ≡ Work.noRoad ⌝ }
 {
     Prediction {
@@ -265,7 +280,7 @@ fn no_road() -> Prediction
 }
 
 // A road was worked out at the fix's time.
-fn road_done(d: Due, at_ms: u64) -> Due
+pub fn road_done(d: Due, at_ms: u64) -> Due
     ensures { λ r. ⌜ r ≡ Work.roadDone d «at_ms» ⌝ }
 {
     let need = d.need;
@@ -339,7 +354,7 @@ fn road_leaves(
 }
 
 // Whether a road refuses the step: after 10 the fix is matched again.
-fn road_fails(answer: Outcome) -> bool
+pub fn road_fails(answer: Outcome) -> bool
     ensures { λ r. ⌜ r ≡ Plans.roadFails answer ⌝ }
 {
     match answer {
@@ -348,8 +363,8 @@ fn road_fails(answer: Outcome) -> bool
     }
 }
 
-// The number that it is refused with.
-fn road_number(answer: Outcome) -> u32
+// The number that it is refused with, 0 where it is not.
+pub fn road_number(answer: Outcome) -> u32
     ensures { λ r. ⌜ r ≡ Plans.roadNumber answer ⌝ }
 {
     match answer {

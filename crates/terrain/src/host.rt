@@ -13,11 +13,8 @@ use engine::HeadingRead;
 use engine::Known;
 use engine::Matched;
 use engine::Status;
-use engine::Stepped;
 use engine::Taken;
-ghost use lib.ListN.{length, getD, set};
 ghost use mathlib.Core.Path.{_≡_};
-ghost use Rattle.cache.specs.Lookups.{after};
 ghost use Rattle.engine.specs.Fixes as Fixes;
 ghost use Rattle.engine.specs.Publish as Publish;
 ghost use Rattle.engine.specs.State as State;
@@ -162,24 +159,6 @@ fn status(answer: Status) -> StepTold
         },
         Status::Refused(number) => told(number, 5),
     }
-}
-
-fn stepped(s: Stepped, ws: &mut [u32; words::WORDS]) -> StepTold
-    ensures { λ r. ⌜ r ≡ Host.moved s .answer ⌝ }
-    ensures { λ r. ⌜ now (ws .exit) ≡ Host.moved s .words ⌝ }
-{
-    let after = s.engine;
-    words::write(after, ws);
-    let answer = s.answer;
-    status(answer)
-}
-
-// A step with nothing to do is counted in its word, and no other word is written.
-fn count_step(ws: &mut [u32; words::WORDS])
-    requires { ⌜ length (now ws) ≡ 1150 ⌝ }
-    ensures { λ r. ⌜ now (ws .exit) ≡ set (now (ws .entry)) 1149 (after (getD (now (ws .entry)) 1149 0)) ⌝ }
-{
-    ws[1149] = std::num::wrapping_add_u32(ws[1149], 1);
 }
 
 fn known(answer: Known) -> CountTold
@@ -469,17 +448,7 @@ pub extern "C" fn terrain_step(engine: &mut [u32; words::WORDS], arena: &[u8]) -
     ensures { λ r. ⌜ r ≡ Host.step (now (engine .entry)) (now (arena .entry)) .answer ⌝ }
     ensures { λ r. ⌜ now (engine .exit) ≡ Host.step (now (engine .entry)) (now (arena .entry)) .words ⌝ }
 {
-    let r = words::read(&*engine);
-    if !r.accepted {
-        return told(12, 5);
-    }
-    let e = r.engine;
-    if e.rests(arena) {
-        count_step(engine);
-        return told(0, 0);
-    }
-    let s = e.step(arena);
-    stepped(s, engine)
+    status(words::steps::step(engine, arena))
 }
 
 // The open fetch answered: by its bytes with failure 0, or by failure 1 (missed) or 2 (past the pack's end).
@@ -494,13 +463,7 @@ pub extern "C" fn terrain_deliver(
     ensures { λ r. ⌜ now (engine .exit) ≡ Host.deliver (now (engine .entry)) (now (arena .entry)) failure (now (bytes .entry)) .words ⌝ }
     ensures { λ r. ⌜ now (arena .exit) ≡ Host.deliver (now (engine .entry)) (now (arena .entry)) failure (now (bytes .entry)) .arena ⌝ }
 {
-    let r = words::read(&*engine);
-    if !r.accepted {
-        return told(12, 5);
-    }
-    let e = r.engine;
-    let s = e.deliver(arena, failure, bytes);
-    stepped(s, engine)
+    status(words::deliver::deliver(engine, arena, failure, bytes))
 }
 
 // One step over a pack that is lent whole.
@@ -514,17 +477,7 @@ pub extern "C" fn terrain_step_from(
     ensures { λ r. ⌜ now (engine .exit) ≡ Host.stepFrom (now (engine .entry)) (now (arena .entry)) (now (pack .entry)) .words ⌝ }
     ensures { λ r. ⌜ now (arena .exit) ≡ Host.stepFrom (now (engine .entry)) (now (arena .entry)) (now (pack .entry)) .arena ⌝ }
 {
-    let r = words::read(&*engine);
-    if !r.accepted {
-        return told(12, 5);
-    }
-    let e = r.engine;
-    if e.rests(&arena[..]) {
-        count_step(engine);
-        return told(0, 0);
-    }
-    let s = e.step_from(arena, pack);
-    stepped(s, engine)
+    status(words::deliver::step_from(engine, arena, pack))
 }
 
 // The road ahead as it was published last; refused, an empty one.

@@ -8,6 +8,7 @@ use cache::Lookup;
 use cache::Progress;
 use cache::Request;
 ghost use mathlib.Core.Path.{_≡_};
+ghost use mathlib.Core.Bool.{true};
 ghost use Rattle.terrain.specs.Records as Records;
 ghost use Rattle.words.specs.Words as Words;
 ghost use Rattle.terrain.specs.Parts as Parts;
@@ -151,26 +152,17 @@ pub(crate) fn held(ws: &[u32; words::WORDS]) -> Cached
     ensures { λ r. ⌜ r .accepted ≡ Words.accepted (now (ws .entry)) ⌝ }
     ensures { λ r. ⌜ r .cache ≡ Parts.cacheOf (now (ws .entry)) ⌝ }
 {
-    let read = words::read(ws);
-    let e = read.engine;
-    let s = e.shared;
-    let cache = s.cache;
-    Cached {
-        accepted: read.accepted,
-        cache,
-    }
+    let accepted = words::accepted(ws);
+    let cache = words::cache(ws);
+    Cached { accepted, cache }
 }
 
-// The words of the engine with another cache.
+// The words of the engine with another cache: the cache's alone are written.
 pub(crate) fn leave(c: Cache, ws: &mut [u32; words::WORDS])
+    requires { ⌜ Words.accepted (now ws) ≡ true ⌝ }
     ensures { λ r. ⌜ now (ws .exit) ≡ Words.words (Parts.withCache c (Words.engineOf (now (ws .entry)))) ⌝ }
 {
-    let read = words::read(&*ws);
-    let mut e = read.engine;
-    let mut s = e.shared;
-    s.cache = c;
-    e.shared = s;
-    words::write(e, ws);
+    words::put_cache(c, ws);
 }
 
 // ---- what is there

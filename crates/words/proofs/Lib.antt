@@ -4,8 +4,11 @@ pub mod PutLaws
 pub mod PieceLaws
 pub mod SameLaws
 pub mod HeldLaws
+pub mod SetLaws
 pub mod WordsLaws
 pub mod CountLaws
+-- CameLaws: what the answer to a fetch leaves.
+pub mod CameLaws
 pub mod NumberLaws
 pub mod TripLaws
 pub mod KeptLaws
@@ -13,3 +16,9 @@ pub mod BackLaws
 pub mod SmallLaws
 pub mod FloatLaws
 pub mod MatcherLaws
+-- PagesLaws: the cache's pages and ring in the words. OpenLaws: a step that leaves a fetch open, and one that opens none. StepLaws: what a step puts.
+pub mod PagesLaws
+pub mod OpenLaws
+pub mod StepLaws
+-- WorkLaws: what a match and a road put.
+pub mod WorkLaws

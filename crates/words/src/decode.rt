@@ -1,4 +1,4 @@
-// An engine from its words, piece by piece. What a field can't hold is cut, and a tag that no variant has is the first one's: `words::read` then sees that the words of
+// An engine from its words, piece by piece. What a field can't hold is cut, and a tag that no variant has is the first one's: `words::accepted` then sees that the words of
 // what was read are others, and refuses them.
 use cache::Cache;
 use cache::Loading;
@@ -21,6 +21,7 @@ use engine::Phase;
 use engine::Places;
 use engine::Shared;
 use engine::Sight;
+use engine::summary::Summary;
 use geo::Point;
 use matcher::Challenger;
 use matcher::Current;
@@ -34,6 +35,7 @@ use predict::End;
 use tile::TileId;
 ghost use mathlib.Core.Path.{_≡_};
 ghost use Prim.Native.Nat.{_+_, _%_, _≤_};
+ghost use Rattle.engine.specs.Summaries.{summaryOf};
 ghost use Rattle.words.specs.Words as Words;
 
 // ---- numbers
@@ -240,7 +242,7 @@ pub(crate) fn pending(tag: u32, at: u32) -> Pending
     Pending::Nothing
 }
 
-fn cache(ws: &[u32; crate::WORDS]) -> Cache
+pub(crate) fn cache(ws: &[u32; crate::WORDS]) -> Cache
     ensures { λ r. ⌜ r ≡ Words.cacheOf (now (ws .entry)) 15 ⌝ }
 {
     let pages = pages(ws);
@@ -322,7 +324,7 @@ pub(crate) fn heading(tag: u32, degrees: u32) -> Heading
     Heading::Nothing
 }
 
-fn sight(ws: &[u32; crate::WORDS]) -> Sight
+pub(crate) fn sight(ws: &[u32; crate::WORDS]) -> Sight
     ensures { λ r. ⌜ r ≡ Words.sightOf (now (ws .entry)) 539 ⌝ }
 {
     let fix = fix(ws);
@@ -404,7 +406,7 @@ pub(crate) fn challenger(ws: &[u32; crate::WORDS]) -> Challenger
     Challenger::Nothing
 }
 
-fn matcher(ws: &[u32; crate::WORDS]) -> Matcher
+pub(crate) fn matcher(ws: &[u32; crate::WORDS]) -> Matcher
     ensures { λ r. ⌜ r ≡ Words.matcherOf (now (ws .entry)) 581 ⌝ }
 {
     let current = current(ws, 581);
@@ -428,7 +430,7 @@ pub(crate) fn time(tag: u32, low: u32, high: u32) -> MaybeTime
     MaybeTime::Nothing
 }
 
-fn due(ws: &[u32; crate::WORDS]) -> Due
+pub(crate) fn due(ws: &[u32; crate::WORDS]) -> Due
     ensures { λ r. ⌜ r ≡ Words.dueOf (now (ws .entry)) 603 ⌝ }
 {
     let last_road = time(ws[605], ws[606], ws[607]);
@@ -496,7 +498,7 @@ pub(crate) fn end(tag: u32) -> End
     End::Horizon
 }
 
-fn ahead(ws: &[u32; crate::WORDS]) -> Ahead
+pub(crate) fn ahead(ws: &[u32; crate::WORDS]) -> Ahead
     ensures { λ r. ⌜ r ≡ Words.aheadOf (now (ws .entry)) 611 ⌝ }
 {
     let matched = current(ws, 614);
@@ -545,4 +547,32 @@ pub(crate) fn engine(ws: &[u32; crate::WORDS]) -> Engine
     let shared = shared(ws);
     let follower = follower(ws);
     Engine { shared, follower }
+}
+
+// What number 12 asks of the engine beside the cache's own state, and what its plan is made of.
+pub(crate) fn summary(ws: &[u32; crate::WORDS]) -> Summary
+    ensures { λ r. ⌜ r ≡ summaryOf (Words.engineOf (now (ws .entry))) ⌝ }
+{
+    let phase = phase(ws[1]);
+    let header = header(ws);
+    let loading = loading(ws);
+    let pending = pending(ws[536], ws[537]);
+    let sight = sight(ws);
+    let matcher = matcher(ws);
+    let due = due(ws);
+    let published = current(ws, 614);
+    Summary {
+        phase,
+        header,
+        count: size(ws[399]),
+        loading,
+        pending,
+        sight,
+        matcher,
+        due,
+        published,
+        len: size(ws[1130]),
+        behind_len: size(ws[1142]),
+        failures: byte(ws[1147]),
+    }
 }

@@ -1,4 +1,5 @@
 // An engine's words, piece by piece, each put at its place.
+use cache::Aging;
 use cache::Cache;
 use cache::MaybeKey;
 use cache::MaybeLoading;
@@ -28,7 +29,7 @@ use pack::Header;
 use pack::TileKey;
 use predict::End;
 ghost use mathlib.Core.Path.{_≡_};
-ghost use mathlib.Core.List.{_∷_};
+ghost use mathlib.Core.List.{[], _∷_};
 ghost use Prim.Native.Nat.{_+_, _≤_};
 ghost use lib.ListN.{length};
 ghost use Rattle.num.specs.Cast.{bits32};
@@ -46,6 +47,15 @@ fn put(out: &mut [u32; crate::WORDS], at: usize, piece: &[u32])
         out[at + i] = piece[i];
         i += 1;
     }
+}
+
+// One word, at its place.
+pub(crate) fn put_word(out: &mut [u32; crate::WORDS], at: usize, n: u32)
+    requires { ⌜ (at + 1 ≤ 1150) × (length (now out) ≡ 1150) ⌝ }
+    ensures { λ r. ⌜ now (out .exit) ≡ put at (n ∷ []) (now (out .entry)) ⌝ }
+    ensures { λ r. ⌜ length (now (out .exit)) ≡ 1150 ⌝ }
+{
+    out[at] = n;
 }
 
 // ---- numbers
@@ -100,7 +110,7 @@ pub fn pattern(x: f32) -> u32
     f32::to_bits(x)
 }
 
-fn of_key(key: TileKey) -> u32
+pub(crate) fn of_key(key: TileKey) -> u32
     ensures { λ r. ⌜ r ≡ Words.keyWord key ⌝ }
 {
     (key.row as u32) * 65536 + (key.col as u32)
@@ -158,6 +168,15 @@ pub(crate) fn header(h: Header) -> [u32; 13]
     ]
 }
 
+pub(crate) fn put_header(h: Header, out: &mut [u32; crate::WORDS])
+    requires { ⌜ length (now out) ≡ 1150 ⌝ }
+    ensures { λ r. ⌜ now (out .exit) ≡ put 2 (Words.headerWords h) (now (out .entry)) ⌝ }
+    ensures { λ r. ⌜ length (now (out .exit)) ≡ 1150 ⌝ }
+{
+    let ws = header(h);
+    put(out, 2, &ws);
+}
+
 // ---- the cache
 
 // A first page is 0, a page of the run from page h on h + 1.
@@ -196,17 +215,27 @@ fn put_slots(g: Pages, out: &mut [u32; crate::WORDS])
     }
 }
 
-fn put_used(g: Pages, out: &mut [u32; crate::WORDS])
+fn put_used(used: &[u32; cache::MAX_PAGES], out: &mut [u32; crate::WORDS])
     requires { ⌜ length (now out) ≡ 1150 ⌝ }
-    ensures { λ r. ⌜ now (out .exit) ≡ put 303 (Words.usedWords (g .used)) (now (out .entry)) ⌝ }
+    ensures { λ r. ⌜ now (out .exit) ≡ put 303 (Words.usedWords (now (used .entry))) (now (out .entry)) ⌝ }
     ensures { λ r. ⌜ length (now (out .exit)) ≡ 1150 ⌝ }
 {
     let mut i = 0;
     while i < cache::MAX_PAGES {
-        let age = [g.used[i]];
+        let age = [used[i]];
         put(out, 303 + i, &age);
         i += 1;
     }
+}
+
+// What lookups change: when each page was last used, and the clock.
+pub(crate) fn put_uses(a: Aging, out: &mut [u32; crate::WORDS])
+    requires { ⌜ length (now out) ≡ 1150 ⌝ }
+    ensures { λ r. ⌜ now (out .exit) ≡ put 400 (a .clock ∷ []) (put 303 (Words.usedWords (a .used)) (now (out .entry))) ⌝ }
+    ensures { λ r. ⌜ length (now (out .exit)) ≡ 1150 ⌝ }
+{
+    put_used(&a.used, out);
+    put_word(out, 400, a.clock);
 }
 
 fn put_pages(g: Pages, out: &mut [u32; crate::WORDS])
@@ -215,7 +244,7 @@ fn put_pages(g: Pages, out: &mut [u32; crate::WORDS])
     ensures { λ r. ⌜ length (now (out .exit)) ≡ 1150 ⌝ }
 {
     put_slots(g, out);
-    put_used(g, out);
+    put_used(&g.used, out);
     let counts = [size(g.count), g.clock];
     put(out, 399, &counts);
 }
@@ -268,7 +297,25 @@ pub(crate) fn pending(pending: Pending) -> [u32; 2]
     }
 }
 
-fn put_cache(c: Cache, out: &mut [u32; crate::WORDS])
+pub(crate) fn put_loading(l: MaybeLoading, out: &mut [u32; crate::WORDS])
+    requires { ⌜ length (now out) ≡ 1150 ⌝ }
+    ensures { λ r. ⌜ now (out .exit) ≡ put 530 (Words.loadingWords l) (now (out .entry)) ⌝ }
+    ensures { λ r. ⌜ length (now (out .exit)) ≡ 1150 ⌝ }
+{
+    let ws = loading(l);
+    put(out, 530, &ws);
+}
+
+pub(crate) fn put_pending(p: Pending, out: &mut [u32; crate::WORDS])
+    requires { ⌜ length (now out) ≡ 1150 ⌝ }
+    ensures { λ r. ⌜ now (out .exit) ≡ put 536 (Words.pendingWords p) (now (out .entry)) ⌝ }
+    ensures { λ r. ⌜ length (now (out .exit)) ≡ 1150 ⌝ }
+{
+    let ws = pending(p);
+    put(out, 536, &ws);
+}
+
+pub(crate) fn put_cache(c: Cache, out: &mut [u32; crate::WORDS])
     requires { ⌜ length (now out) ≡ 1150 ⌝ }
     ensures { λ r. ⌜ now (out .exit) ≡ put 15 (Words.cacheWords c) (now (out .entry)) ⌝ }
     ensures { λ r. ⌜ length (now (out .exit)) ≡ 1150 ⌝ }
@@ -278,13 +325,10 @@ fn put_cache(c: Cache, out: &mut [u32; crate::WORDS])
     let r = c.missing;
     put_ring(r, out);
     let under_way = c.loading;
-    let l = loading(under_way);
-    put(out, 530, &l);
+    put_loading(under_way, out);
     let open = c.pending;
-    let p = pending(open);
-    put(out, 536, &p);
-    let loads = [c.loads];
-    put(out, 538, &loads);
+    put_pending(open, out);
+    put_word(out, 538, c.loads);
 }
 
 fn put_shared(s: Shared, out: &mut [u32; crate::WORDS])
@@ -295,9 +339,8 @@ fn put_shared(s: Shared, out: &mut [u32; crate::WORDS])
     let read = s.phase;
     let first = [crate::VERSION, phase(read)];
     put(out, 0, &first);
-    let of_pack = s.header;
-    let h = header(of_pack);
-    put(out, 2, &h);
+    let h = s.header;
+    put_header(h, out);
     let c = s.cache;
     put_cache(c, out);
 }
@@ -442,7 +485,7 @@ pub fn challenger(c: Challenger) -> [u32; 6]
     }
 }
 
-fn put_matcher(m: Matcher, out: &mut [u32; crate::WORDS])
+pub(crate) fn put_matcher(m: Matcher, out: &mut [u32; crate::WORDS])
     requires { ⌜ length (now out) ≡ 1150 ⌝ }
     ensures { λ r. ⌜ now (out .exit) ≡ put 581 (Words.matcherWords m) (now (out .entry)) ⌝ }
     ensures { λ r. ⌜ length (now (out .exit)) ≡ 1150 ⌝ }
@@ -468,7 +511,7 @@ pub(crate) fn time(t: MaybeTime) -> [u32; 3]
     }
 }
 
-fn put_due(d: Due, out: &mut [u32; crate::WORDS])
+pub(crate) fn put_due(d: Due, out: &mut [u32; crate::WORDS])
     requires { ⌜ length (now out) ≡ 1150 ⌝ }
     ensures { λ r. ⌜ now (out .exit) ≡ put 603 (Words.dueWords d) (now (out .entry)) ⌝ }
     ensures { λ r. ⌜ length (now (out .exit)) ≡ 1150 ⌝ }
@@ -530,7 +573,7 @@ pub(crate) fn end(end: End) -> u32
     }
 }
 
-fn put_ahead(a: Ahead, out: &mut [u32; crate::WORDS])
+pub(crate) fn put_ahead(a: Ahead, out: &mut [u32; crate::WORDS])
     requires { ⌜ length (now out) ≡ 1150 ⌝ }
     ensures { λ r. ⌜ now (out .exit) ≡ put 611 (Words.aheadWords a) (now (out .entry)) ⌝ }
     ensures { λ r. ⌜ length (now (out .exit)) ≡ 1150 ⌝ }

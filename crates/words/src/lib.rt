@@ -32,13 +32,22 @@
 // | 1,131 | 11      | heights behind                                                                                    |
 // | 1,142 | 5       | how many, their metres, end, its metres, confidence                                               |
 // | 1,147 | 3       | failures, horizon, steps                                                                          |
+//
+// `decode` and `encode` have the pieces, both ways, and `kept` the test that words are some engine's; `pages` number 12's causes in the cache's words, `steps` a step on words, `work` its
+// matches and roads, `deliver` the answer to a fetch and a step over a lent pack.
 pub mod decode;
+pub mod deliver;
 pub mod encode;
 mod kept;
+mod pages;
+pub mod steps;
+mod work;
 
+use cache::Cache;
 use engine::Engine;
 ghost use mathlib.Core.Path.{_≡_};
 ghost use lib.ListN.{length};
+ghost use Rattle.words.specs.Put as Put;
 ghost use Rattle.words.specs.Words as Words;
 
 pub const WORDS: usize = 1150;
@@ -59,20 +68,40 @@ fn count(ws: &[u32]) -> usize
 }
 
 // What is read, written again, has to be the same words: those that no engine has come out as others.
+pub fn accepted(ws: &[u32; WORDS]) -> bool
+    ensures { λ r. ⌜ r ≡ Words.accepted (now (ws .entry)) ⌝ }
+{
+    if count(ws) != WORDS {
+        return false;
+    }
+    crate::kept::engine(ws)
+}
+
 pub fn read(ws: &[u32; WORDS]) -> Reading
     ensures { λ r. ⌜ (r .accepted ≡ Words.accepted (now (ws .entry))) × (r .engine ≡ Words.engineOf (now (ws .entry))) ⌝ }
 {
     let engine = crate::decode::engine(ws);
-    if count(ws) != WORDS {
-        return Reading {
-            accepted: false,
-            engine,
-        };
-    }
     Reading {
-        accepted: crate::kept::engine(ws),
+        accepted: accepted(ws),
         engine,
     }
+}
+
+// The cache alone, for calls that ask for no more.
+pub fn cache(ws: &[u32; WORDS]) -> Cache
+    ensures { λ r. ⌜ r ≡ Words.cacheOf (now (ws .entry)) 15 ⌝ }
+{
+    crate::decode::cache(ws)
+}
+
+// The cache's words in their place, and no others written; nothing where there are not as many words as an engine has.
+pub fn put_cache(c: Cache, ws: &mut [u32; WORDS])
+    ensures { λ r. ⌜ now (ws .exit) ≡ Put.cacheIn c (now (ws .entry)) ⌝ }
+{
+    if count(&*ws) != WORDS {
+        return;
+    }
+    crate::encode::put_cache(c, ws);
 }
 
 pub fn write(e: Engine, out: &mut [u32; WORDS])

@@ -181,6 +181,7 @@ fn main() -> ExitCode {
         ["full", "engine"] => engine::compare(&FULL),
         ["bench"] => bench::run(),
         ["list_replay", file] => record::write(file),
+        ["bench", "matching"] => matching::bench::run(),
         ["bench", "road"] => road::bench::run(),
         ["bench", "engine"] => engine::bench::run(),
         ["bench", "caches"] => engine::caches::run(),
@@ -200,7 +201,7 @@ fn main() -> ExitCode {
         ["sample", pack, list, seed] => drive::write_any(pack, list, seed),
         _ => {
             eprintln!(
-                "usage: run [gate [format | angles | crossing | cache | matching | road | engine | drive | profile | page | write | map | words] | full [numbers [NAME] | format | crossing | cache | matching | road | engine | page | write] | bench [road | engine | caches | write] | panics | list_replay FILE | drive PACK DRIVE [K] | profile [FILE] | sample PACK DRIVE [SEED]"
+                "usage: run [gate [format | angles | crossing | cache | matching | road | engine | drive | profile | page | write | map | words] | full [numbers [NAME] | format | crossing | cache | matching | road | engine | page | write] | bench [matching | road | engine | caches | write] | panics | list_replay FILE | drive PACK DRIVE [K] | profile [FILE] | sample PACK DRIVE [SEED]"
             );
             return ExitCode::from(2);
         }

@@ -1,32 +1,36 @@
--- `engine::work::match_asks` meets its contract: each return by whether another tile may be asked for; the number asked for stays small, since
--- the limit is.
-use mathlib.Core.Path.{_∙_, sym}
-use native.Mathlib.Omega.{arith}
-use borrow.Author.Tests.{ltb-true}
-use Rattle.engine.specs.State.{reloadLimit}
-use Rattle.engine.proofs.StepNeeds.{limit-small}
+-- `engine::work::match_asks` meets its contract: by what is due, whether another tile may be asked for or not (`asked-is`).
+use Prim.Native.Nat.{ℕ, _+_}
+use mathlib.Core.Path.{_≡_, refl}
+use mathlib.Core.Bool.{Bool, true, false, cond}
+use Rattle.pack.specs.declared.TileKey.{TileKey}
+use Rattle.engine.specs.declared.Due.{Due}
+use Rattle.engine.specs.declared.Follower.{Follower}
+use Rattle.engine.specs.Plans.{askingDue}
+use Rattle.engine.specs.Work.{withDue, asking, mayAsk, matchDone, matchAsks}
+use borrow.Author.Needs.{needs}
 use Rattle.engine.proofs.work.match_asks.Statement.{statement}
 use Rattle.engine.proofs.work.match_asks.Tie as tie
 
-may-ask-requires : tie.Need-may-ask-requires
-may-ask-requires c κs = tt
+asked-is : (f : Follower) (pages : ℕ) (key : TileKey) → withDue f (askingDue (f .due) pages key) ≡ matchAsks f pages key
+asked-is f pages key = by (mayAsk (f .due) pages)
+  where
+    asked : Due
+    asked = asking (f .due) key (f .due .reloads + 1)
 
-add-asking : tie.Need-add-asking
-add-asking c =
-    let start = c .before .before .before .before in
-    let args = start .args in
-    let may = sym (c .before .before .may-ask .ensures) ∙ c .before .if1 .taken in
-    omega (arith, limit-small (args .pages), ltb-true (args .f .due .reloads) (reloadLimit (args .pages)) may)
+    ended : Due
+    ended = matchDone (f .due) (f .due .road)
 
-asking-requires : tie.Need-asking-requires
-asking-requires c κs = tt
+    by : (t : Bool) → withDue f (cond t asked ended) ≡ cond t (withDue f asked) (withDue f ended)
+    by true = refl
+    by false = refl
+
+asking-due-requires : tie.Need-asking-due-requires
+asking-due-requires c κs = search needs
 
 returns : tie.Need-returns
-returns c = rw (c .asking .ensures, sym (c .before .before .before .may-ask .ensures) ∙ c .before .before .if1 .taken)
-
-returns-2 : tie.Need-returns-2
-returns-2 c = rw (sym (c .before .may-ask .ensures) ∙ c .if1 .left)
+returns c =
+    let args = c .before .before .args in
+    rw (c .asking-due .ensures) (asked-is (args .f) (args .pages) (args .key))
 
 pub match-asks-spec : {M : Type 1} → statement M
-match-asks-spec =
-    tie.close (tie.spec may-ask-requires add-asking asking-requires returns returns-2)
+match-asks-spec = tie.close (tie.spec asking-due-requires returns)

@@ -1,53 +1,52 @@
--- `engine::work::matched` meets its contract: each return by whether there is a match, on another edge or not, and whether it is time for a
--- road.
-use mathlib.Core.Logic.{⊎-elim}
-use mathlib.Core.Path.{_∙_, sym}
+-- `engine::work::matched` meets its contract: each return by whether there is a match (`found-by`, `none-by`).
+use mathlib.Core.Path.{_≡_, refl, _∙_, sym}
+use mathlib.Core.Bool.{true, false, true≢false}
+use Rattle.matcher.specs.declared.Current.{Current}
+use Rattle.matcher.specs.declared.Current.the-variants as Current
+use Rattle.matcher.specs.declared.Matcher.{Matcher}
+use Rattle.predict.specs.declared.End.the-variants as End
+use Rattle.engine.specs.declared.Fix.{Fix}
+use Rattle.engine.specs.declared.Follower.{Follower}
+use Rattle.engine.specs.Plans.{matchedDue}
+use Rattle.engine.specs.Work.{withDue, withAhead, withMatcher, isMatched, emptied, matchedBy, matched}
 use borrow.Author.Needs.{needs}
-use Rattle.engine.specs.Work.{matched}
 use Rattle.engine.proofs.work.matched.Statement.{statement}
 use Rattle.engine.proofs.work.matched.Tie as tie
 
-enum-told : tie.Need-enum-told
-enum-told c = search needs
+module _ (f : Follower) (m : Matcher) (fix : Fix) where
+  found-by : (x : Current) → isMatched x ≡ true → withDue (withMatcher f m) (matchedDue (f .due) x (f .ahead .matched) (fix .«at_ms»)) ≡ matchedBy x f m fix
+  found-by (Current.Is found) q = refl
+  found-by Current.Nothing q = absurd (true≢false (sym q))
 
-emptied-requires : tie.Need-emptied-requires
-emptied-requires c κs = tt
+  none-by : (x : Current) → isMatched x ≡ false
+      → withDue (withAhead (withMatcher f m) (emptied (f .ahead) (fix .«at_ms») End.Uncertain)) (matchedDue (f .due) x (f .ahead .matched) (fix .«at_ms»))
+      ≡ matchedBy x f m fix
+  none-by (Current.Is found) q = absurd (true≢false q)
+  none-by Current.Nothing q = refl
 
-enum-known-current : tie.Need-enum-known-current
-enum-known-current c = search needs
+matched-due-requires : tie.Need-matched-due-requires
+matched-due-requires c κs = search needs
 
-is-other-requires : tie.Need-is-other-requires
-is-other-requires c κs = tt
-
-is-time-requires : tie.Need-is-time-requires
-is-time-requires c κs = tt
+is-matched-requires : tie.Need-is-matched-requires
+is-matched-requires c κs = search needs
 
 returns : tie.Need-returns
 unfolding matched
-returns c = rw (c .emptied .ensures, c .before .enum-told .given .1)
+returns c =
+    let args = c .before .before .before .before .before .args in
+    rw (c .before .before .matched-due .ensures) (found-by (args .f) (args .m) (args .fix) (args .m .current) (sym (c .before .is-matched .ensures) ∙ c .if1 .taken))
+
+emptied-requires : tie.Need-emptied-requires
+emptied-requires c κs = search needs
 
 returns-2 : tie.Need-returns-2
 unfolding matched
 returns-2 c =
-    let found = c .before .before .before .current .given .1 in
-    let other = c .before .is-other .ensures in
-    ⊎-elim
-    (λ way.
-    ⊎-elim
-    (λ test. rw (way .1, found, sym other ∙ test .taken))
-    (λ test. rw (way .1, found, sym other ∙ test .0 .left, sym (test .1 .ensures) ∙ test .2 .taken))
-    (way .0 .came))
-    (λ way. rw (way .3, found, sym other ∙ way .0 .left, sym (way .1 .ensures) ∙ way .2 .left))
-    (c .if1 .came)
+    let args = c .before .before .before .before .before .before .args in
+    rw (c .emptied .ensures, c .before .before .before .matched-due .ensures)
+    (none-by (args .f) (args .m) (args .fix) (args .m .current) (sym (c .before .before .is-matched .ensures) ∙ c .before .if1 .left))
 
 pub matched-spec : {M : Type 1} → statement M
 matched-spec =
     tie.close
-    (tie.spec
-    enum-told
-    emptied-requires
-    enum-known-current
-    is-other-requires
-    is-time-requires
-    returns
-    returns-2)
+    (tie.spec matched-due-requires is-matched-requires returns emptied-requires returns-2)

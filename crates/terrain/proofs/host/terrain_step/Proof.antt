@@ -1,63 +1,18 @@
--- `host::terrain_step` meets its contract: words that no engine has are refused; a step with nothing to do changes its count alone; any other is the engine's own call.
+-- `host::terrain_step` meets its contract: the words' own call, its answer as a record.
+use mathlib.Core.Path.{_∙_}
 use borrow.Author.Needs.{needs}
-use Rattle.terrain.specs.Host.{step}
-use Rattle.words.specs.Words.{engineOf}
-use borrow.Author.Tests.{not-true, not-false}
-use mathlib.Core.Path.{sym, _∙_}
-use denote.Ref.{now}
-use Rattle.engine.proofs.PlanLaws.{rest-step}
-use Rattle.words.proofs.CountLaws.{counted-words, accepted-long}
+use Rattle.terrain.proofs.HostLaws.{step-told, step-words}
 use Rattle.terrain.proofs.host.terrain_step.Statement.{statement}
 use Rattle.terrain.proofs.host.terrain_step.Tie as tie
-
-read-requires : tie.Need-read-requires
-read-requires c κs = search needs
-
-told-requires : tie.Need-told-requires
-told-requires c κs = search needs
-
-returns : tie.Need-returns
-unfolding step
-returns c = (rw (sym (c .before .before .before .read .ensures .0) ∙ not-true _ (c .before .if1 .taken), c .told .ensures), rw (sym (c .before .before .before .read .ensures .0) ∙ not-true _ (c .before .if1 .taken)))
-
-rests-requires : tie.Need-rests-requires
-rests-requires c κs = search needs
-
-count-step-requires : tie.Need-count-step-requires
-count-step-requires c κs = accepted-long (c .before .before .before .before .before .before .before .before .before .args .engine .now) (sym (c .before .before .before .before .before .before .read .ensures .0) ∙ not-false _ (c .before .before .before .before .if1 .left))
-
-told-requires-2 : tie.Need-told-requires-2
-told-requires-2 c κs = search needs
-
-returns-2 : tie.Need-returns-2
-unfolding step
-returns-2 c =
-    let ws = c .before .before .before .before .before .before .before .before .before .before .before .args .engine .now in
-    let ok = sym (c .before .before .before .before .before .before .before .before .read .ensures .0) ∙ not-false _ (c .before .before .before .before .before .before .if1 .left) in
-    let rest = rest-step (engineOf ws) (now (c .before .before .before .before .before .before .before .before .before .before .before .args .arena)) (rw (c .before .before .before .before .before .before .before .before .read .ensures .1) at (sym (c .before .before .before .before .rests .ensures) ∙ c .before .before .before .if2 .taken)) in
-    (rw (ok, c .told2 .ensures, rest), rw (ok, c .before .count-step .ensures, rest) (counted-words ws ok))
 
 step-requires : tie.Need-step-requires
 step-requires c κs = search needs
 
-stepped-requires : tie.Need-stepped-requires
-stepped-requires c κs = search needs
+status-requires : tie.Need-status-requires
+status-requires c κs = search needs
 
-returns-3 : tie.Need-returns-3
-unfolding step
-returns-3 c = (rw (sym (c .before .before .before .before .before .before .before .before .read .ensures .0) ∙ not-false _ (c .before .before .before .before .before .before .if1 .left), c .stepped .ensures .0, c .before .before .step .ensures, c .before .before .before .before .before .before .before .before .read .ensures .1), rw (sym (c .before .before .before .before .before .before .before .before .read .ensures .0) ∙ not-false _ (c .before .before .before .before .before .before .if1 .left), c .stepped .ensures .1, c .before .before .step .ensures, c .before .before .before .before .before .before .before .before .read .ensures .1))
+returns : tie.Need-returns
+returns c = (rw (c .status .ensures, c .before .step .ensures .0) (step-told _ _), c .before .step .ensures .1 ∙ step-words _ _)
 
 pub terrain-step-spec : {M : Type 1} → statement M
-terrain-step-spec =
-    tie.close
-    (tie.spec
-    read-requires
-    told-requires
-    returns
-    rests-requires
-    count-step-requires
-    told-requires-2
-    returns-2
-    step-requires
-    stepped-requires
-    returns-3)
+terrain-step-spec = tie.close (tie.spec step-requires status-requires returns)

@@ -1,15 +1,14 @@
--- `parts::leave` meets its contract: what the callee ensures, of the records it is given.
+-- `parts::leave` meets its contract: of accepted words, those with another cache in its place are the words of the engine with that cache.
+use mathlib.Core.Path.{_∙_}
+use Rattle.terrain.proofs.PartLaws.{cache-left}
 use Rattle.terrain.proofs.parts.leave.Statement.{statement}
 use Rattle.terrain.proofs.parts.leave.Tie as tie
 
-read-requires : tie.Need-read-requires
-read-requires c κs = tt
-
-write-requires : tie.Need-write-requires
-write-requires c κs = tt
+put-cache-requires : tie.Need-put-cache-requires
+put-cache-requires c κs = tt
 
 returns : tie.Need-returns
-returns c = rw (c .before .before .before .before .read .ensures .1) at (c .write .ensures)
+returns c = c .put-cache .ensures ∙ cache-left _ _ (c .before .before .pre)
 
 pub leave-spec : {M : Type 1} → statement M
-leave-spec = tie.close (tie.spec read-requires write-requires returns)
+leave-spec = tie.close (tie.spec put-cache-requires returns)

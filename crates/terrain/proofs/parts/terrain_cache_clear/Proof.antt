@@ -14,7 +14,7 @@ clear-requires : tie.Need-clear-requires
 clear-requires c κs = tt
 
 leave-requires : tie.Need-leave-requires
-leave-requires c κs = tt
+leave-requires c κs = sym (c .before .before .before .before .held .ensures .0) ∙ not-false _ (c .before .before .if1 .left)
 
 clearing-out-requires : tie.Need-clearing-out-requires
 clearing-out-requires c κs = tt

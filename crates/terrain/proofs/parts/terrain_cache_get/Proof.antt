@@ -23,7 +23,7 @@ get-requires : tie.Need-get-requires
 get-requires c κs = tt
 
 leave-requires : tie.Need-leave-requires
-leave-requires c κs = tt
+leave-requires c κs = sym (c .before .before .before .before .before .before .held .ensures .0) ∙ not-false _ (c .before .before .before .before .if1 .left)
 
 lookup-out-requires : tie.Need-lookup-out-requires
 lookup-out-requires c κs = tt

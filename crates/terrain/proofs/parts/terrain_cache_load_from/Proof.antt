@@ -24,7 +24,7 @@ load-from-requires : tie.Need-load-from-requires
 load-from-requires c κs = tt
 
 leave-requires : tie.Need-leave-requires
-leave-requires c κs = tt
+leave-requires c κs = sym (c .before .before .before .before .before .before .before .before .before .held .ensures .0) ∙ not-false _ (c .before .before .before .before .before .before .before .if1 .left)
 
 progress-out-requires : tie.Need-progress-out-requires
 progress-out-requires c κs = tt

@@ -49,7 +49,7 @@ update-requires : tie.Need-update-requires
 update-requires c κs = tt
 
 leave-requires : tie.Need-leave-requires
-leave-requires c κs = tt
+leave-requires c κs = sym (c .before .before .before .before .before .before .before .before .before .held .ensures .0) ∙ not-false _ (c .before .before .before .before .before .before .before .if3 .left)
 
 put-matcher-requires : tie.Need-put-matcher-requires
 put-matcher-requires c κs = tt

@@ -34,7 +34,7 @@ predict-requires : tie.Need-predict-requires
 predict-requires c κs = tt
 
 leave-requires : tie.Need-leave-requires
-leave-requires c κs = tt
+leave-requires c κs = sym (c .before .before .before .before .before .before .before .before .held .ensures .0) ∙ not-false _ (c .before .before .before .before .before .before .if2 .left)
 
 predicted-out-requires : tie.Need-predicted-out-requires
 predicted-out-requires c κs = tt

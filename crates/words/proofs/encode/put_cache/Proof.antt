@@ -10,45 +10,17 @@ put-pages-requires c κs = search needs
 put-ring-requires : tie.Need-put-ring-requires
 put-ring-requires c κs = search needs
 
-loading-requires : tie.Need-loading-requires
-loading-requires c κs = search needs
+put-loading-requires : tie.Need-put-loading-requires
+put-loading-requires c κs = search needs
 
-slice-aggregate-put : tie.Need-slice-aggregate-put
-slice-aggregate-put c = search needs
+put-pending-requires : tie.Need-put-pending-requires
+put-pending-requires c κs = search needs
 
-put-requires : tie.Need-put-requires
-put-requires c κs = search needs
-
-pending-requires : tie.Need-pending-requires
-pending-requires c κs = search needs
-
-slice-aggregate-put-2 : tie.Need-slice-aggregate-put-2
-slice-aggregate-put-2 c = search needs
-
-put-requires-2 : tie.Need-put-requires-2
-put-requires-2 c κs = search needs
-
-slice-aggregate-put-3 : tie.Need-slice-aggregate-put-3
-slice-aggregate-put-3 c = search needs
-
-put-requires-3 : tie.Need-put-requires-3
-put-requires-3 c κs = search needs
+put-word-requires : tie.Need-put-word-requires
+put-word-requires c κs = search needs
 
 returns : tie.Need-returns
-returns c = (rw (c .put3 .ensures .0, c .before .before .before .put2 .ensures .0, c .before .before .before .before .before .before .pending .ensures, c .before .before .before .before .before .before .before .put .ensures .0, c .before .before .before .before .before .before .before .before .before .before .loading .ensures, c .before .before .before .before .before .before .before .before .before .before .before .put-ring .ensures .0, c .before .before .before .before .before .before .before .before .before .before .before .before .before .before .put-pages .ensures .0) (cache-put (c .before .before .before .before .before .before .before .before .before .before .before .before .before .before .before .before .before .args .c) (c .before .before .before .before .before .before .before .before .before .before .before .before .before .before .before .before .before .args .out .now) (c .before .before .before .before .before .before .before .before .before .before .before .before .before .before .before .before .before .pre)), c .put3 .ensures .1)
+returns c = (rw (c .put-word .ensures .0, c .before .before .put-pending .ensures .0, c .before .before .before .before .put-loading .ensures .0, c .before .before .before .before .before .before .put-ring .ensures .0, c .before .before .before .before .before .before .before .before .before .put-pages .ensures .0) (cache-put (c .before .before .before .before .before .before .before .before .before .before .before .before .args .c) (c .before .before .before .before .before .before .before .before .before .before .before .before .args .out .now) (c .before .before .before .before .before .before .before .before .before .before .before .before .pre)), c .put-word .ensures .1)
 
 pub put-cache-spec : {M : Type 1} → statement M
-put-cache-spec =
-    tie.close
-    (tie.spec
-    put-pages-requires
-    put-ring-requires
-    loading-requires
-    slice-aggregate-put
-    put-requires
-    pending-requires
-    slice-aggregate-put-2
-    put-requires-2
-    slice-aggregate-put-3
-    put-requires-3
-    returns)
+put-cache-spec = tie.close (tie.spec put-pages-requires put-ring-requires put-loading-requires put-pending-requires put-word-requires returns)

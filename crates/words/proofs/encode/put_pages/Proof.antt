@@ -20,7 +20,9 @@ put-requires : tie.Need-put-requires
 put-requires c κs = search needs
 
 returns : tie.Need-returns
-returns c = (rw (c .put .ensures .0, c .before .before .before .size .ensures, c .before .before .before .before .put-used .ensures .0, c .before .before .before .before .before .before .put-slots .ensures .0) (pages-put (c .before .before .before .before .before .before .before .before .args .g) (c .before .before .before .before .before .before .before .before .args .out .now) (c .before .before .before .before .before .before .before .before .pre)), c .put .ensures .1)
+returns c =
+    let start = c .before .before .before .before .before .before .before .before .before .before in
+    (rw (c .put .ensures .0, c .before .before .before .size .ensures, c .before .before .before .before .put-used .ensures .0, c .before .before .before .before .before .before .before .before .put-slots .ensures .0) (pages-put (start .args .t1) (start .args .out .now) (start .pre)), c .put .ensures .1)
 
 pub put-pages-spec : {M : Type 1} → statement M
 put-pages-spec =

@@ -13,20 +13,16 @@ slice-aggregate-put c = search needs
 put-requires : tie.Need-put-requires
 put-requires c κs = search needs
 
-header-requires : tie.Need-header-requires
-header-requires c κs = search needs
-
-slice-aggregate-put-2 : tie.Need-slice-aggregate-put-2
-slice-aggregate-put-2 c = search needs
-
-put-requires-2 : tie.Need-put-requires-2
-put-requires-2 c κs = search needs
+put-header-requires : tie.Need-put-header-requires
+put-header-requires c κs = search needs
 
 put-cache-requires : tie.Need-put-cache-requires
 put-cache-requires c κs = search needs
 
 returns : tie.Need-returns
-returns c = (rw (c .put-cache .ensures .0, c .before .before .before .put2 .ensures .0, c .before .before .before .before .before .before .header .ensures, c .before .before .before .before .before .before .before .before .put .ensures .0, c .before .before .before .before .before .before .before .before .before .before .before .phase .ensures) (shared-put (c .before .before .before .before .before .before .before .before .before .before .before .before .args .s) (c .before .before .before .before .before .before .before .before .before .before .before .before .args .out .now) (c .before .before .before .before .before .before .before .before .before .before .before .before .pre)), c .put-cache .ensures .1)
+returns c =
+    let start = c .before .before .before .before .before .before .before .before .before .before in
+    (rw (c .put-cache .ensures .0, c .before .before .before .put-header .ensures .0, c .before .before .before .before .before .before .put .ensures .0, c .before .before .before .before .before .before .before .before .before .phase .ensures) (shared-put (start .args .s) (start .args .out .now) (start .pre)), c .put-cache .ensures .1)
 
 pub put-shared-spec : {M : Type 1} → statement M
 put-shared-spec =
@@ -35,8 +31,6 @@ put-shared-spec =
     phase-requires
     slice-aggregate-put
     put-requires
-    header-requires
-    slice-aggregate-put-2
-    put-requires-2
+    put-header-requires
     put-cache-requires
     returns)

@@ -14,19 +14,19 @@ use Rattle.words.proofs.encode.put_used.Statement.{statement}
 use Rattle.words.proofs.encode.put_used.Tie as tie
 
 abbrev Inv-loop : tie.InvT-loop
-Inv-loop out₀ g i₀ out i = (i ≤ 96) × ((length out ≡ 1150) × (out ≡ upTo (λ (o : List ℕ) (j : ℕ). put (303 + j) (getD (g .used) j 0 ∷ []) o) out₀ i))
+Inv-loop used out₀ i₀ out i = (i ≤ 96) × ((length out ≡ 1150) × (out ≡ upTo (λ (o : List ℕ) (j : ℕ). put (303 + j) (getD used j 0 ∷ []) o) out₀ i))
 
 abbrev μ-loop : tie.MeasureT-loop
-μ-loop out₀ g i₀ out i = 96 - i
+μ-loop used out₀ i₀ out i = 96 - i
 
 loop-holds : tie.Need-loop-holds Inv-loop μ-loop
 loop-holds c = (search needs, (c .pre, sym (up-start _ _)))
 
-mul-t7 : tie.Need-mul-t7 Inv-loop μ-loop
-mul-t7 c = search needs
+mul-t6 : tie.Need-mul-t6 Inv-loop μ-loop
+mul-t6 c = search needs
 
-element-copy-out-t10 : tie.Need-element-copy-out-t10 Inv-loop μ-loop
-element-copy-out-t10 c = search needs
+element-copy-out-t9 : tie.Need-element-copy-out-t9 Inv-loop μ-loop
+element-copy-out-t9 c = search needs
 
 add-put : tie.Need-add-put Inv-loop μ-loop
 add-put c = search needs
@@ -57,8 +57,8 @@ put-used-spec =
     Inv-loop
     μ-loop
     loop-holds
-    mul-t7
-    element-copy-out-t10
+    mul-t6
+    element-copy-out-t9
     add-put
     slice-aggregate-put
     put-requires

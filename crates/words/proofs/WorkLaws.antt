@@ -1,0 +1,255 @@
+-- What a match and a road leave on words. What is read from words is what their engine has (`cache-in`, .., `horizon-in`); the parts that change, each put at its place, give the words of the
+-- engine that is left (`asked-words`, .., `published-words`); and the engine's own definitions by what the code tests (`matched-found`, .., `road-rematches`). The idea: accepted words are those of
+-- their engine, and a piece put at its place gives the words of the engine with that part (`SetLaws`).
+use Prim.Native.Nat.{ℕ, _+_}
+use mathlib.Core.Path.{_≡_, refl, sym, ap, _∙_}
+use mathlib.Core.Bool.{Bool, true, false, cond, true≢false}
+use mathlib.Core.Logic.{_⊎_, ⊎-elim}
+use mathlib.Core.List.{List, [], _∷_}
+use native.Mathlib.Omega.{arith}
+use denote.Enum.Declared.{tagOf}
+use lib.IntN.{ℤ}
+use lib.ListN.{getD}
+use Rattle.pack.specs.declared.TileKey.{TileKey}
+use Rattle.cache.specs.Lookups.{after}
+use Rattle.cache.specs.Uses.{withUses}
+use Rattle.cache.specs.declared.Aging.{Aging}
+use Rattle.cache.specs.declared.Cache.{Cache}
+use Rattle.matcher.specs.declared.Current.{Current}
+use Rattle.matcher.specs.declared.Current.the-variants as Current
+use Rattle.matcher.specs.declared.Made.{Made}
+use Rattle.matcher.specs.declared.Matched.{Matched}
+use Rattle.matcher.specs.declared.Matcher.{Matcher}
+use Rattle.matcher.specs.declared.Outcome.{Outcome}
+use Rattle.matcher.specs.declared.Outcome.the-variants as Outcome
+use Rattle.matcher.specs.declared.Updated.{Updated}
+use Rattle.matcher.proofs.Outcome as Outcomes
+use Rattle.predict.specs.Predict.{After}
+use Rattle.predict.specs.declared.End.the-variants as End
+use Rattle.predict.specs.declared.Outcome as RoadOutcome
+use Rattle.predict.specs.declared.Predicted.{Predicted}
+use Rattle.predict.specs.declared.Prediction.{Prediction}
+use Rattle.predict.proofs.Outcome as RoadOutcomes
+use Rattle.engine.specs.Plans.{matchMade, matchedDue, askingDue, roadFails, roadNumber}
+use Rattle.engine.specs.Publish.{withMatch}
+use Rattle.engine.specs.State.{refused}
+use Rattle.engine.specs.Work.{asking, counted, ended, emptied, isMatched, mayAsk, matched, matchedBy, matchAsks, matchDone, matchEndedBy, published, rematch, roadDone, withMatcher, withDue, withAhead, withHeights}
+use Rattle.engine.specs.declared.Ahead.{Ahead}
+use Rattle.engine.specs.declared.Due.{Due}
+use Rattle.engine.specs.declared.Engine.{Engine}
+use Rattle.engine.specs.declared.Fix.{Fix}
+use Rattle.engine.specs.declared.Follower.{Follower}
+use Rattle.engine.specs.declared.Status.the-variants as Status
+use Rattle.engine.proofs.StepNeeds.{road-refused, road-ended, road-left}
+use Rattle.words.specs.Put.{put}
+use Rattle.words.specs.Words.{from, floatOf, headerBy, pagesOf, cacheOf, sharedOf, headingOf, sightOf, currentBy, matcherOf, dueOf, aheadOf, followerOf, engineOf, usedWords, cacheWords, matcherWords, dueWords, aheadWords, words, accepted}
+use Rattle.words.specs.Worked as Worked
+use Rattle.words.proofs.SetLaws.{cached, aged, clocked, matchedAs, dueAs, aheadAs, counting, cache-put-in, used-put, clock-put, matcher-put-in, due-put-in, ahead-put-in, steps-put}
+use Rattle.words.proofs.WordsLaws.{words-engine}
+
+-- by cases of which the types are known from what is given
+pub either {ℓ ℓ′ ℓ″} : {A : Type ℓ} {B : Type ℓ′} {C : Type ℓ″} → A ⊎ B → (A → C) → (B → C) → C
+either given one other = ⊎-elim one other given
+
+-- ---- what is read
+
+module _ (ws : List ℕ) where
+  pub cache-in : cacheOf ws 15 ≡ engineOf ws .shared .cache
+  unfolding engineOf sharedOf
+  cache-in = refl
+
+  pub header-in : headerBy (from ws 2) ≡ engineOf ws .shared .header
+  unfolding engineOf sharedOf
+  header-in = refl
+
+  pub count-in : getD ws 399 0 ≡ engineOf ws .shared .cache .pages .count
+  unfolding engineOf sharedOf cacheOf pagesOf
+  count-in = refl
+
+  pub heading-in : headingOf (getD ws 577 0) (getD ws 578 0) ≡ engineOf ws .follower .sight .heading
+  unfolding engineOf followerOf sightOf
+  heading-in = refl
+
+  pub matcher-in : matcherOf ws 581 ≡ engineOf ws .follower .matcher
+  unfolding engineOf followerOf
+  matcher-in = refl
+
+  pub due-in : dueOf ws 603 ≡ engineOf ws .follower .due
+  unfolding engineOf followerOf
+  due-in = refl
+
+  pub ahead-in : aheadOf ws 611 ≡ engineOf ws .follower .ahead
+  unfolding engineOf followerOf
+  ahead-in = refl
+
+  pub generation-in : getD ws 611 0 ≡ engineOf ws .follower .ahead .generation
+  unfolding engineOf followerOf aheadOf
+  generation-in = refl
+
+  pub published-in : currentBy (from ws 614) ≡ engineOf ws .follower .ahead .matched
+  unfolding engineOf followerOf aheadOf
+  published-in = refl
+
+  pub horizon-in : floatOf (getD ws 1148 0) ≡ engineOf ws .follower .«horizon_m»
+  unfolding engineOf followerOf
+  horizon-in = refl
+
+  steps-in : getD ws 1149 0 ≡ engineOf ws .follower .steps
+  unfolding engineOf followerOf
+  steps-in = refl
+
+-- ---- what is put
+
+-- a piece put into the words of an engine
+onto : (at : ℕ) (p : List ℕ) {ws xs ys : List ℕ} → ws ≡ xs → put at p xs ≡ ys → put at p ws ≡ ys
+onto at p before law = ap (put at p) before ∙ law
+
+module _ (ws : List ℕ) (h : accepted ws ≡ true) (n : ℕ) (more : n ≡ after (getD ws 1149 0)) where
+  abbrev here : Engine
+  here = engineOf ws
+
+  -- the step counted last
+  counts : {xs : List ℕ} (e : Engine) → xs ≡ words e → put 1149 (n ∷ []) xs ≡ words (counting e (after (here .follower .steps)))
+  counts {xs} e before =
+      ap (λ (k : ℕ). put 1149 (k ∷ []) xs) (more ∙ ap after (steps-in ws))
+      ∙ onto 1149 (after (here .follower .steps) ∷ []) before (steps-put e (after (here .follower .steps)))
+
+  abbrev agedBy : Aging → Engine
+  agedBy a = clocked (aged here (a .used)) (a .clock)
+
+  abbrev usesPut : Aging → List ℕ
+  usesPut a = put 400 (a .clock ∷ []) (put 303 (usedWords (a .used)) ws)
+
+  uses-words : (a : Aging) → usesPut a ≡ words (agedBy a)
+  uses-words a =
+      onto 400 (a .clock ∷ []) (onto 303 (usedWords (a .used)) (sym (words-engine ws h)) (used-put here (a .used))) (clock-put (aged here (a .used)) (a .clock))
+
+  pub asked-words : (a : Aging) (d : Due) → put 1149 (n ∷ []) (put 603 (dueWords d) (usesPut a)) ≡ words (Worked.asked here a d)
+  asked-words a d = counts (dueAs (agedBy a) d) (onto 603 (dueWords d) (uses-words a) (due-put-in (agedBy a) d))
+
+  abbrev foundPut : Aging → Matcher → Due → List ℕ
+  foundPut a m d = put 603 (dueWords d) (put 581 (matcherWords m) (usesPut a))
+
+  found-put : (a : Aging) (m : Matcher) (d : Due) → foundPut a m d ≡ words (dueAs (matchedAs (agedBy a) m) d)
+  found-put a m d =
+      onto 603 (dueWords d) (onto 581 (matcherWords m) (uses-words a) (matcher-put-in (agedBy a) m)) (due-put-in (matchedAs (agedBy a) m) d)
+
+  pub found-words : (a : Aging) (m : Matcher) (d : Due) → put 1149 (n ∷ []) (foundPut a m d) ≡ words (Worked.found here a m d)
+  found-words a m d = counts (dueAs (matchedAs (agedBy a) m) d) (found-put a m d)
+
+  pub lost-words : (a : Aging) (m : Matcher) (d : Due) (at : ℕ)
+      → put 1149 (n ∷ []) (put 611 (aheadWords (emptied (here .follower .ahead) at End.Uncertain)) (foundPut a m d)) ≡ words (Worked.lost here a m d at)
+  lost-words a m d at =
+      let e : Engine = dueAs (matchedAs (agedBy a) m) d in
+      let empty : Ahead = emptied (here .follower .ahead) at End.Uncertain in
+      counts (aheadAs e empty) (onto 611 (aheadWords empty) (found-put a m d) (ahead-put-in e empty))
+
+  -- ---- a road
+
+  cache-words : (c : Cache) → put 15 (cacheWords c) ws ≡ words (cached here c)
+  cache-words c = onto 15 (cacheWords c) (sym (words-engine ws h)) (cache-put-in here c)
+
+  road-put : (c : Cache) (d : Due) → put 603 (dueWords d) (put 15 (cacheWords c) ws) ≡ words (dueAs (cached here c) d)
+  road-put c d = onto 603 (dueWords d) (cache-words c) (due-put-in (cached here c) d)
+
+  pub road-asked-words : (c : Cache) (d : Due) → put 1149 (n ∷ []) (put 603 (dueWords d) (put 15 (cacheWords c) ws)) ≡ words (Worked.roadAsked here c d)
+  road-asked-words c d = counts (dueAs (cached here c) d) (road-put c d)
+
+  pub rematched-words : (c : Cache) (m : Matcher) (d : Due)
+      → put 1149 (n ∷ []) (put 603 (dueWords d) (put 581 (matcherWords m) (put 15 (cacheWords c) ws)))
+      ≡ words (Worked.leaves here c (withDue (withMatcher (counted (here .follower)) m) d))
+  rematched-words c m d =
+      let e : Engine = matchedAs (cached here c) m in
+      counts (dueAs e d) (onto 603 (dueWords d) (onto 581 (matcherWords m) (cache-words c) (matcher-put-in (cached here c) m)) (due-put-in e d))
+
+  pub published-words : (c : Cache) (d : Due) (road : Ahead)
+      → put 1149 (n ∷ []) (put 611 (aheadWords road) (put 603 (dueWords d) (put 15 (cacheWords c) ws)))
+      ≡ words (Worked.leaves here c (withAhead (withDue (counted (here .follower)) d) road))
+  published-words c d road =
+      let e : Engine = dueAs (cached here c) d in
+      counts (aheadAs e road) (onto 611 (aheadWords road) (road-put c d) (ahead-put-in e road))
+
+-- ---- how a match ends
+
+abbrev dueFor : Current → Follower → Fix → Due
+dueFor o f fix = matchedDue (f .due) o (f .ahead .matched) (fix .«at_ms»)
+
+module _ (f : Follower) (m : Matcher) (fix : Fix) where
+  by-found : (o : Current) → isMatched o ≡ true → matchedBy o f m fix ≡ withDue (withMatcher f m) (dueFor o f fix)
+  by-found Current.Nothing q = absurd (true≢false (sym q))
+  by-found (Current.Is found) q = refl
+
+  by-none : (o : Current) → isMatched o ≡ false
+      → matchedBy o f m fix ≡ withDue (withAhead (withMatcher f m) (emptied (f .ahead) (fix .«at_ms») End.Uncertain)) (dueFor o f fix)
+  by-none Current.Nothing q = refl
+  by-none (Current.Is found) q = absurd (true≢false q)
+
+  -- with a match
+  pub matched-found : isMatched (m .current) ≡ true → matched f m fix ≡ withDue (withMatcher f m) (dueFor (m .current) f fix)
+  unfolding matched
+  matched-found q = by-found (m .current) q
+
+  -- without one
+  pub matched-lost : isMatched (m .current) ≡ false
+      → matched f m fix ≡ withDue (withAhead (withMatcher f m) (emptied (f .ahead) (fix .«at_ms») End.Uncertain)) (dueFor (m .current) f fix)
+  unfolding matched
+  matched-lost q = by-none (m .current) q
+
+  -- and none is published
+  pub matched-still : isMatched (m .current) ≡ false → isMatched (f .ahead .matched) ≡ false → matched f m fix ≡ withDue (withMatcher f m) (dueFor (m .current) f fix)
+  matched-still q none = matched-lost q ∙ rw none
+
+abbrev outcomeTag : Outcome → ℕ
+outcomeTag o = tagOf Outcomes.the-type o
+
+made-by : (o : Outcome) → (outcomeTag o ≡ 0) ⊎ (outcomeTag o ≡ 1) → (e : Engine) (f : Follower) (fix : Fix) (u : Updated)
+    → matchEndedBy o e f fix u ≡ ended e (u .cache) (matched f (u .matcher) fix) Status.Working
+made-by (Outcome.Found m) h e f fix u = refl
+made-by Outcome.Nothing h e f fix u = refl
+made-by (Outcome.Need key) h e f fix u = absurd (⊎-elim (λ z. omega arith) (λ z. omega arith) h)
+made-by (Outcome.Refused number) h e f fix u = absurd (⊎-elim (λ z. omega arith) (λ z. omega arith) h)
+
+-- with a match or without one
+pub match-made : (e : Engine) (fix : Fix) (u : Made) → (outcomeTag (u .answer) ≡ 0) ⊎ (outcomeTag (u .answer) ≡ 1)
+    → matchMade e fix u ≡ ended e (withUses (e .shared .cache) (u .uses)) (matched (counted (e .follower)) (u .matcher) fix) Status.Working
+match-made e fix u h =
+    made-by (u .answer) h e (counted (e .follower)) fix (record { answer = u .answer; matcher = u .matcher; cache = withUses (e .shared .cache) (u .uses) })
+
+-- for want of a tile: what is due, by the one test
+pub asks-due : (f : Follower) (pages : ℕ) (key : TileKey) → matchAsks f pages key ≡ withDue f (askingDue (f .due) pages key)
+asks-due f pages key = by (mayAsk (f .due) pages) (asking (f .due) key (f .due .reloads + 1)) (matchDone (f .due) (f .due .road))
+  where
+    by : (b : Bool) (x y : Due) → cond b (withDue f x) (withDue f y) ≡ withDue f (cond b x y)
+    by true x y = refl
+    by false x y = refl
+
+-- ---- a road
+
+-- a road published over heights
+pub road-published : (f : Follower) (samples behind : List ℤ) (fix : Fix) (m : Matched) (p : Prediction)
+    → published f (withHeights (f .ahead) samples behind) fix m p
+    ≡ withAhead (withDue f (roadDone (f .due) (fix .«at_ms»))) (Worked.roadOf (f .ahead .generation) (fix .«at_ms») m p samples behind)
+unfolding published withMatch
+road-published f samples behind fix m p = refl
+
+abbrev roadTag : RoadOutcome.Outcome → ℕ
+roadTag o = tagOf RoadOutcomes.the-type o
+
+module _ (e : Engine) (fix : Fix) (m : Matched) (p : Predicted) (samples behind : List ℤ) where
+  abbrev worked : After
+  worked = record { predicted = p; samples = samples; behind = behind }
+
+  abbrev next : Follower
+  next = counted (e .follower)
+
+  -- one that refuses the step
+  pub road-refuses : roadFails (p .answer) ≡ true → Worked.roadEnded e fix m p samples behind ≡ refused e (roadNumber (p .answer))
+  road-refuses fails = road-refused (p .answer) fails e next fix m worked
+
+  -- one that has the fix matched again
+  pub road-rematches : roadFails (p .answer) ≡ false → (roadTag (p .answer) ≡ 2) ⊎ (roadTag (p .answer) ≡ 3)
+      → Worked.roadEnded e fix m p samples behind ≡ ended e (p .cache) (rematch next) Status.Working
+  road-rematches stays h =
+      road-ended (p .answer) stays e next fix m worked
+      ∙ ap (λ (f : Follower). ended e (p .cache) f Status.Working)
+      (road-left (p .answer) h next (withHeights (e .follower .ahead) samples behind) (p .cache .pages .count) fix m)

@@ -1,0 +1,54 @@
+-- Which fetch a step leaves open: this restates private code (`steps.rt`). `OpenLaws` says that a step which opens or repeats one does nothing else.
+use Prim.Native.Nat.{ℕ}
+use mathlib.Core.Bool.{Bool, _&&_}
+use mathlib.Core.List.{List}
+use Rattle.pack.specs.declared.TileKey.{TileKey}
+use Rattle.cache.specs.Lookups.{nextStep}
+use Rattle.cache.specs.declared.Cache.{Cache}
+use Rattle.cache.specs.declared.Pending.{Pending}
+use Rattle.cache.specs.declared.Pending.the-variants as Pending
+use Rattle.cache.specs.declared.next.Next.{Next}
+use Rattle.cache.specs.declared.next.Next.the-variants as Next
+use Rattle.engine.specs.Plans.{planOf}
+use Rattle.engine.specs.State.{engineOk}
+use Rattle.engine.specs.Steps.{opened}
+use Rattle.engine.specs.declared.Engine.{Engine}
+use Rattle.engine.specs.declared.plan.Plan.{Plan}
+use Rattle.engine.specs.declared.plan.Plan.the-variants as Plan
+use Rattle.words.specs.Words.{accepted, engineOf}
+
+-- words of an engine that number 12 leaves alone
+unfoldable pub tested : List ℕ → ℕ → Bool
+tested ws size = accepted ws && engineOk (engineOf ws) size
+
+-- towards a tile: its entry or a chunk, none where the cache settles it without a read
+abbrev pub opensNext : Next → TileKey → Pending
+opensNext Next.Entry key = Pending.Entry key
+opensNext (Next.Chunk l) key = Pending.Chunk
+opensNext (Next.Ready i) key = Pending.Nothing
+opensNext Next.Missing key = Pending.Nothing
+opensNext Next.NoPages key = Pending.Nothing
+
+abbrev pub opensPlan : Plan → Cache → Pending
+opensPlan Plan.Header c = Pending.Header
+opensPlan (Plan.Need key) c = opensNext (nextStep c key) key
+opensPlan Plan.Rest c = Pending.Nothing
+opensPlan Plan.NoPack c = Pending.Nothing
+opensPlan (Plan.Match fix) c = Pending.Nothing
+opensPlan (Plan.Road fix found) c = Pending.Nothing
+opensPlan Plan.Roadless c = Pending.Nothing
+opensPlan (Plan.Off fix) c = Pending.Nothing
+
+-- the fetch that is open, else the one that the plan opens
+abbrev pub opensBy : Pending → Engine → Pending
+opensBy Pending.Nothing e = opensPlan (planOf e) (e .shared .cache)
+opensBy Pending.Header e = Pending.Header
+opensBy (Pending.Entry key) e = Pending.Entry key
+opensBy Pending.Chunk e = Pending.Chunk
+
+unfoldable pub opens : Engine → Pending
+opens e = opensBy (e .shared .cache .pending) e
+
+-- the engine with a fetch open
+abbrev pub openedAs : Engine → Pending → Engine
+openedAs e pending = opened e pending .engine

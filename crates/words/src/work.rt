@@ -1,0 +1,278 @@
+// A match and a road on words: what they read is taken out first, and then the words that change are put. Of the cache a match changes clock and ages alone.
+use crate::decode;
+use crate::encode;
+use cache::Aging;
+use cache::Cache;
+use engine::Ahead;
+use engine::Current;
+use engine::Due;
+use engine::Fix;
+use engine::Matched;
+use engine::Status;
+use geo::Point;
+use matcher::Made;
+use matcher::Matcher;
+use predict::End;
+use predict::Outcome;
+use predict::Predicted;
+use predict::Prediction;
+ghost use mathlib.Core.Bool.{true};
+ghost use mathlib.Core.Path.{_≡_};
+ghost use Rattle.pack.specs.Grid.{inGrid};
+ghost use Rattle.engine.specs.Plans as Plans;
+ghost use Rattle.engine.specs.Work as Work;
+ghost use Rattle.words.specs.Words as Words;
+ghost use Rattle.words.specs.Worked as Worked;
+
+// ---- a match
+
+// Clock and ages, the step counted, and what is due.
+fn match_asks(ws: &mut [u32; crate::WORDS], uses: Aging, due: Due)
+    requires { ⌜ Words.accepted (now ws) ≡ true ⌝ }
+    ensures { λ r. ⌜ now (ws .exit) ≡ Words.words (Worked.asked (Words.engineOf (now (ws .entry))) uses due) ⌝ }
+{
+    let n = std::num::wrapping_add_u32(ws[1149], 1);
+    encode::put_uses(uses, ws);
+    encode::put_due(due, ws);
+    encode::put_word(ws, 1149, n);
+}
+
+// And the matcher.
+fn match_found(ws: &mut [u32; crate::WORDS], uses: Aging, m: Matcher, due: Due)
+    requires { ⌜ Words.accepted (now ws) ≡ true ⌝ }
+    ensures { λ r. ⌜ now (ws .exit) ≡ Words.words (Worked.found (Words.engineOf (now (ws .entry))) uses m due) ⌝ }
+{
+    let n = std::num::wrapping_add_u32(ws[1149], 1);
+    encode::put_uses(uses, ws);
+    encode::put_matcher(m, ws);
+    encode::put_due(due, ws);
+    encode::put_word(ws, 1149, n);
+}
+
+// And the published road, which goes.
+fn match_lost(ws: &mut [u32; crate::WORDS], uses: Aging, m: Matcher, due: Due, at_ms: u64)
+    requires { ⌜ Words.accepted (now ws) ≡ true ⌝ }
+    ensures { λ r. ⌜ now (ws .exit) ≡ Words.words (Worked.lost (Words.engineOf (now (ws .entry))) uses m due «at_ms») ⌝ }
+{
+    let n = std::num::wrapping_add_u32(ws[1149], 1);
+    let a = decode::ahead(&*ws);
+    let empty = engine::work::emptied(a, at_ms, End::Uncertain);
+    encode::put_uses(uses, ws);
+    encode::put_matcher(m, ws);
+    encode::put_due(due, ws);
+    encode::put_ahead(empty, ws);
+    encode::put_word(ws, 1149, n);
+}
+
+// The match is made; without one a road that is published goes.
+fn match_made(ws: &mut [u32; crate::WORDS], fix: Fix, uses: Aging, m: Matcher)
+    requires { ⌜ Words.accepted (now ws) ≡ true ⌝ }
+    ensures { λ r. ⌜ now (ws .exit) ≡ Words.words (Worked.made (Words.engineOf (now (ws .entry))) fix uses m) ⌝ }
+{
+    let due = decode::due(&*ws);
+    let published = decode::current(&*ws, 614);
+    let current = m.current;
+    let next = engine::work::matched_due(due, current, published, fix.at_ms);
+    if engine::work::is_matched(current) || !engine::work::is_matched(published) {
+        match_found(ws, uses, m, next);
+        return;
+    }
+    match_lost(ws, uses, m, next, fix.at_ms);
+}
+
+// How a step that matched ends.
+fn match_ended(ws: &mut [u32; crate::WORDS], fix: Fix, u: Made) -> Status
+    requires { ⌜ Words.accepted (now ws) ≡ true ⌝ }
+    ensures { λ r. ⌜ r ≡ Plans.matchMade (Words.engineOf (now (ws .entry))) fix u .answer ⌝ }
+    ensures { λ r. ⌜ now (ws .exit) ≡ Words.words (Plans.matchMade (Words.engineOf (now (ws .entry))) fix u .engine) ⌝ }
+{
+    let answer = u.answer;
+    let uses = u.uses;
+    let m = u.matcher;
+    match answer {
+        matcher::Outcome::Refused(number) => Status::Refused(number),
+        matcher::Outcome::Found(_) | matcher::Outcome::Nothing => {
+            match_made(ws, fix, uses, m);
+            Status::Working
+        }
+        matcher::Outcome::Need(key) => {
+            let due = decode::due(&*ws);
+            let pages = decode::size(ws[399]);
+            let asked = engine::work::asking_due(due, pages, key);
+            match_asks(ws, uses, asked);
+            engine::work::match_tells(due, pages, answer)
+        }
+    }
+}
+
+// The newest fix matched.
+pub(crate) fn match_step(ws: &mut [u32; crate::WORDS], arena: &[u8], fix: Fix) -> Status
+    requires { ⌜ Words.accepted (now ws) ≡ true ⌝ }
+    ensures { λ r. ⌜ r ≡ Work.matchStep (Words.engineOf (now (ws .entry))) (now (arena .entry)) (Work.counted (Words.engineOf (now (ws .entry)) .follower)) fix .answer ⌝ }
+    ensures { λ r. ⌜ now (ws .exit) ≡ Words.words (Work.matchStep (Words.engineOf (now (ws .entry))) (now (arena .entry)) (Work.counted (Words.engineOf (now (ws .entry)) .follower)) fix .engine) ⌝ }
+{
+    let m = decode::matcher(&*ws);
+    let c = decode::cache(&*ws);
+    let header = decode::header(&*ws);
+    let heading = decode::heading(ws[577], ws[578]);
+    let point = Point {
+        lat: fix.lat,
+        lon: fix.lon,
+    };
+    let u = matcher::gather::made(m, c, arena, header, point, heading);
+    match_ended(ws, fix, u)
+}
+
+// ---- a road
+
+// The cache, the step counted, and what is due.
+fn road_asks(ws: &mut [u32; crate::WORDS], c: Cache, due: Due)
+    requires { ⌜ Words.accepted (now ws) ≡ true ⌝ }
+    ensures { λ r. ⌜ now (ws .exit) ≡ Words.words (Worked.roadAsked (Words.engineOf (now (ws .entry))) c due) ⌝ }
+{
+    let n = std::num::wrapping_add_u32(ws[1149], 1);
+    encode::put_cache(c, ws);
+    encode::put_due(due, ws);
+    encode::put_word(ws, 1149, n);
+}
+
+// And a matcher, which is matched again.
+fn road_rematch(ws: &mut [u32; crate::WORDS], c: Cache)
+    requires { ⌜ Words.accepted (now ws) ≡ true ⌝ }
+    ensures { λ r. ⌜ now (ws .exit) ≡ Words.words (Worked.rematched (Words.engineOf (now (ws .entry))) c) ⌝ }
+{
+    let n = std::num::wrapping_add_u32(ws[1149], 1);
+    let mut due = decode::due(&*ws);
+    due.matching = true;
+    let none = Matcher::reset();
+    encode::put_cache(c, ws);
+    encode::put_matcher(none, ws);
+    encode::put_due(due, ws);
+    encode::put_word(ws, 1149, n);
+}
+
+// The road of a match, over the heights given.
+fn road_of(
+    generation: u32,
+    at_ms: u64,
+    found: Matched,
+    p: Prediction,
+    samples: [i16; predict::MAX_SAMPLES],
+    behind: [i16; predict::BEHIND_SAMPLES],
+) -> Ahead
+    ensures { λ r. ⌜ r ≡ Worked.roadOf generation «at_ms» found p samples behind ⌝ }
+{
+    let end = p.end;
+    Ahead {
+        generation: std::num::wrapping_add_u32(generation, 1),
+        at_ms,
+        matched: Current::Is(found),
+        start_z_dm: found.z_dm,
+        samples,
+        len: p.len,
+        behind,
+        behind_len: p.behind,
+        behind_m: p.behind_m,
+        end,
+        end_m: p.end_m,
+        confidence: p.confidence,
+    }
+}
+
+// And the road, which is published at the fix's time.
+fn road_publish(ws: &mut [u32; crate::WORDS], c: Cache, at_ms: u64, road: Ahead)
+    requires { ⌜ Words.accepted (now ws) ≡ true ⌝ }
+    ensures { λ r. ⌜ now (ws .exit) ≡ Words.words (Worked.published (Words.engineOf (now (ws .entry))) c «at_ms» road) ⌝ }
+{
+    let n = std::num::wrapping_add_u32(ws[1149], 1);
+    let due = decode::due(&*ws);
+    let done = engine::work::road_done(due, at_ms);
+    encode::put_cache(c, ws);
+    encode::put_due(done, ws);
+    encode::put_ahead(road, ws);
+    encode::put_word(ws, 1149, n);
+}
+
+// A road needs a tile first; past the limit the road is Memory.
+fn road_needs(ws: &mut [u32; crate::WORDS], c: Cache, fix: Fix, found: Matched, key: pack::TileKey)
+    requires { ⌜ Words.accepted (now ws) ≡ true ⌝ }
+    ensures { λ r. ⌜ now (ws .exit) ≡ Words.words (Worked.roadNeeds (Words.engineOf (now (ws .entry))) c fix found key) ⌝ }
+{
+    let due = decode::due(&*ws);
+    let g = c.pages;
+    if engine::work::may_ask(due, g.count) {
+        let asked = engine::work::asking(due, key, due.reloads + 1);
+        road_asks(ws, c, asked);
+        return;
+    }
+    let a = decode::ahead(&*ws);
+    let samples = a.samples;
+    let behind = a.behind;
+    let none = engine::work::no_road();
+    let road = road_of(a.generation, fix.at_ms, found, none, samples, behind);
+    road_publish(ws, c, fix.at_ms, road);
+}
+
+// How a step that worked out a road ends.
+fn road_ended(
+    ws: &mut [u32; crate::WORDS],
+    fix: Fix,
+    found: Matched,
+    p: Predicted,
+    samples: [i16; predict::MAX_SAMPLES],
+    behind: [i16; predict::BEHIND_SAMPLES],
+) -> Status
+    requires { ⌜ Words.accepted (now ws) ≡ true ⌝ }
+    ensures { λ r. ⌜ r ≡ Worked.roadEnded (Words.engineOf (now (ws .entry))) fix found p samples behind .answer ⌝ }
+    ensures { λ r. ⌜ now (ws .exit) ≡ Words.words (Worked.roadEnded (Words.engineOf (now (ws .entry))) fix found p samples behind .engine) ⌝ }
+{
+    let answer = p.answer;
+    if engine::work::road_fails(answer) {
+        return Status::Refused(engine::work::road_number(answer));
+    }
+    let c = p.cache;
+    match answer {
+        Outcome::Road(r) => {
+            let road = road_of(ws[611], fix.at_ms, found, r, samples, behind);
+            road_publish(ws, c, fix.at_ms, road);
+            Status::Working
+        }
+        Outcome::Need(key) => {
+            road_needs(ws, c, fix, found, key);
+            Status::Working
+        }
+        Outcome::Rematch | Outcome::Refused(_) => {
+            road_rematch(ws, c);
+            Status::Working
+        }
+    }
+}
+
+// The road ahead of a match, worked out over heights of 0.
+pub(crate) fn road_step(
+    ws: &mut [u32; crate::WORDS],
+    arena: &[u8],
+    fix: Fix,
+    found: Matched,
+) -> Status
+    requires { ⌜ Words.accepted (now ws) ≡ true ⌝ }
+    requires { ⌜ inGrid (Words.engineOf (now ws) .shared .header) (found .tile .key) ≡ true ⌝ }
+    ensures { λ r. ⌜ r ≡ Work.roadStep (Words.engineOf (now (ws .entry))) (now (arena .entry)) (Work.counted (Words.engineOf (now (ws .entry)) .follower)) fix found .answer ⌝ }
+    ensures { λ r. ⌜ now (ws .exit) ≡ Words.words (Work.roadStep (Words.engineOf (now (ws .entry))) (now (arena .entry)) (Work.counted (Words.engineOf (now (ws .entry)) .follower)) fix found .engine) ⌝ }
+{
+    let c = decode::cache(&*ws);
+    let header = decode::header(&*ws);
+    let horizon_m = decode::float(ws[1148]);
+    let mut samples = [0i16; predict::MAX_SAMPLES];
+    let mut behind = [0i16; predict::BEHIND_SAMPLES];
+    let p = predict::road::predicted(
+        c,
+        arena,
+        header,
+        found,
+        horizon_m,
+        &mut samples,
+        &mut behind,
+    );
+    road_ended(ws, fix, found, p, samples, behind)
+}
