@@ -1,6 +1,7 @@
 -- Lookups: they change clock and ages alone (`got-aged`, `looked-aged`), and no lookup and no next step reads those (`touched-look`,
 -- `touched-next`), so that all lookups of one call agree, in whatever order they come (`looked-look`). What `get` answers is the look in
--- pages (`got-ready`, `got-missing`). The idea: `touched` has the record outside, so that what a lookup reads is the old by computation.
+-- pages (`got-ready`, `got-missing`), and the late check of what the lookup landed on (`checked-landed`). The idea: `touched` has the record
+-- outside, so that what a lookup reads is the old by computation.
 use Prim.Native.Nat.{ℕ, _+_, _*_, _≤_}
 use mathlib.Core.Path.{_≡_, refl, sym, _∙_}
 use mathlib.Core.Bool.{Bool, true, false, _&&_, cond}
@@ -18,7 +19,7 @@ use Rattle.cache.specs.declared.Lookup.{Lookup}
 use Rattle.cache.specs.declared.Lookup.the-variants as Lookup
 use Rattle.cache.specs.declared.look.Landing.{Landing}
 use Rattle.cache.specs.declared.look.Landing.the-variants as Landing
-use Rattle.cache.specs.Lookups.{landsOn, runBytes, passes, lenAt, touched, gotReady, gotAt, got, nextAt, nextStep}
+use Rattle.cache.specs.Lookups.{landsOn, runBytes, passes, lenAt, touched, gotReady, gotAt, got, landedAt, landed, checked, nextAt, nextStep}
 use Rattle.cache.specs.Keys.{readyAt}
 use Rattle.cache.specs.Direct.{Look, ready, missing, absent, stale, lookAt, look, looked, Aged}
 use Rattle.cache.specs.Uses.{usesOf, usedAt, withUses}
@@ -110,6 +111,21 @@ module _ (arena : List ℕ) (size : ℕ) where
       → got c arena size key .cache ≡ touched c i
   unfolding got
   got-touched c key i e p = rw (e, p)
+
+  -- ---- in two steps: what a lookup lands on, then its late check
+
+  ready-checked : (ok : Bool) (c : Cache) (i : ℕ) → cond ok (Lookup.Ready i (lenAt c i)) (Lookup.Refused 12) ≡ gotReady ok c i .answer
+  ready-checked true c i = refl
+  ready-checked false c i = refl
+
+  at-checked : (l : Landing) (c : Cache) (key : TileKey) → checked (landedAt l c) arena size key ≡ gotAt l c arena size key .answer
+  at-checked Landing.Missing c key = refl
+  at-checked Landing.Nothing c key = refl
+  at-checked (Landing.At i) c key = ready-checked (passes arena i (lenAt c i) key size) c i
+
+  pub checked-landed : (c : Cache) (key : TileKey) → checked (landed c key) arena size key ≡ got c arena size key .answer
+  unfolding landed got
+  checked-landed c key = at-checked (landsOn c key) c key
 
   -- ---- what `get` answers, in bytes
 

@@ -12,6 +12,7 @@ use lib.Dec.{eqb}
 use lib.ListN.{length, getD, set, replicate, length-set, length-replicate}
 use lib.Seq.{getD-set-same, getD-set-other, ext-getD}
 use Rattle.pack.specs.declared.TileKey.{TileKey}
+use Rattle.cache.specs.declared.Cache.{Cache}
 use Rattle.cache.specs.declared.Pages.{Pages}
 use Rattle.cache.specs.declared.Ring.{Ring}
 use Rattle.cache.specs.declared.Slot.{Slot}
@@ -21,7 +22,8 @@ use Rattle.cache.specs.Runs.{slotAt}
 use Rattle.cache.specs.Keys.{holds, keyAt, isReady}
 use Rattle.cache.specs.Lookups.{after}
 use Rattle.cache.proofs.Below.{same-or}
-use Rattle.cache.specs.Ages.{rowOf, colOf, readyKey, pageIn, pagesIn, placeIn, ringIn, agesTo, marked}
+use Rattle.cache.specs.Ages.{rowOf, colOf, readyKey, pageIn, pagesIn, placeIn, ringIn, agesTo, usesFrom, aged, marked}
+use Rattle.cache.specs.Uses.{withUses}
 
 -- ---- one page or place more
 
@@ -293,6 +295,11 @@ ages-are looks used size same =
     let k : i < 96 = omega (arith, h, ages-length looks 96) in
     let j : 96 ≤ 96 = omega arith in
     ages-at looks 96 i j k ∙ same i k)
+
+-- with their clock they are put back beside the cache, or into it
+pub with-uses-from : (c : Cache) (looks : List ℕ) → withUses c (usesFrom looks) ≡ aged c looks
+unfolding aged
+with-uses-from c looks = refl
 
 -- ---- a run marked
 

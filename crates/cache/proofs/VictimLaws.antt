@@ -140,11 +140,11 @@ unfolding bestOf
 best-same f h zero e = rw (e 0 (omega arith))
 best-same f h (suc n) e = rw (e (suc n) (omega arith), best-same f h n (λ (i : ℕ) (k : i ≤ n). e i (omega arith)))
 
-youngest-in : (g : Pages) (l : List ℕ) (start n : ℕ) → start + n ≤ 96 → Aged g l 96 → youngestIn l n start ≡ youngest g n start
+youngest-in : (g : Pages) (l : List ℕ) (start n : ℕ) → start + n ≤ g .count → Aged g l (g .count) → youngestIn l n start ≡ youngest g n start
 youngest-in g l start n b f = least-same (λ (i : ℕ). getD l (start + i) 0) (λ (i : ℕ). age g (start + i)) n (λ (i : ℕ) (h : i < n). f (start + i) (omega arith))
 
 -- the best over the list of ages is the victim
 pub victim-in : (g : Pages) (l : List ℕ) (pages i : ℕ) (b : Best) → pages ≤ g .count → g .count ≤ 96 → i ≡ g .count - pages
-    → Aged g l 96 → b ≡ bestOf (youngestIn l pages) i → Found.At (b .at) ≡ victim g pages
+    → Aged g l (g .count) → b ≡ bestOf (youngestIn l pages) i → Found.At (b .at) ≡ victim g pages
 victim-in g l pages i b h k e f q =
     rw (victim-there g pages k h, ← e, ← best-same (youngestIn l pages) (youngest g pages) i (λ (j : ℕ) (m : j ≤ i). youngest-in g l j pages (omega arith) f), ← q)

@@ -12,6 +12,7 @@ use mathlib.Core.List.{List, []}
 use lib.Dec.{eqb, leb, ltb}
 use lib.ListN.{length, getD, set, replicate}
 use Rattle.pack.specs.declared.TileKey.{TileKey}
+use Rattle.cache.specs.declared.Aging.{Aging}
 use Rattle.cache.specs.declared.Cache.{Cache}
 use Rattle.cache.specs.declared.Pages.{Pages}
 use Rattle.cache.specs.declared.Ring.{Ring}
@@ -75,6 +76,9 @@ agesTo looks (suc n) = set (agesTo looks n) n (getD looks n 0)
 
 abbrev pub agesOf : List ℕ → List ℕ
 agesOf looks = agesTo looks 96
+
+abbrev pub usesFrom : List ℕ → Aging
+usesFrom looks = record { clock = getD looks 608 0; used = agesOf looks }
 
 -- the cache with that clock and those ages
 unfoldable pub aged : Cache → List ℕ → Cache

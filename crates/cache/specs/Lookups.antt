@@ -84,6 +84,22 @@ gotAt (Landing.At i) c arena size key = gotReady (passes arena i (lenAt c i) key
 unfoldable pub got : Cache → List ℕ → ℕ → TileKey → Got
 got c arena size key = gotAt (landsOn c key) c arena size key
 
+-- ---- in two steps: this restates private code. What a lookup lands on, and the late check of it; together they are what `got` answers
+
+abbrev pub landedAt : Landing → Cache → Lookup
+landedAt Landing.Missing c = Lookup.Missing
+landedAt Landing.Nothing c = Lookup.Absent
+landedAt (Landing.At i) c = Lookup.Ready i (lenAt c i)
+
+unfoldable pub landed : Cache → TileKey → Lookup
+landed c key = landedAt (landsOn c key) c
+
+abbrev pub checked : Lookup → List ℕ → ℕ → TileKey → Lookup
+checked (Lookup.Ready first len) arena size key = cond (passes arena first len key size) (Lookup.Ready first len) (Lookup.Refused 12)
+checked Lookup.Missing arena size key = Lookup.Missing
+checked Lookup.Absent arena size key = Lookup.Absent
+checked (Lookup.Refused number) arena size key = Lookup.Refused number
+
 -- ---- pages
 
 -- pages of a ready tile, one for anything else; the ring is not asked

@@ -1,6 +1,7 @@
 // The lookups of one call that makes many. What they read and change is taken out of the cache once, as numbers that are lent from lookup to
 // lookup, with a mark for each run that was checked: so no lookup copies the state, a call checks each run that it lands on once, and a late
 // 12 gives back the cache by itself.
+use crate::Aging;
 use crate::Cache;
 use crate::Lookup;
 use crate::MaybeKey;
@@ -124,6 +125,17 @@ fn ages_from(looks: &[u32; LOOKUPS]) -> [u32; crate::MAX_PAGES]
         i += 1;
     }
     used
+}
+
+// The clock and the ages that lookups left.
+pub fn uses_from(looks: &[u32; LOOKUPS]) -> Aging
+    ensures { λ r. ⌜ r ≡ Ages.usesFrom (now (looks .entry)) ⌝ }
+{
+    let used = ages_from(looks);
+    Aging {
+        clock: looks[608],
+        used,
+    }
 }
 
 // The cache with the clock and the ages that lookups left.

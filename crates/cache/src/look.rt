@@ -122,9 +122,9 @@ pub(crate) fn got(c: Cache, arena: &[u8], size: u32, key: TileKey) -> Got
     }
 }
 
-// What a lookup answers, with clock and ages left to the caller (`uses`), so that no state is copied.
-pub fn found(c: Cache, arena: &[u8], size: u32, key: TileKey) -> Lookup
-    ensures { λ r. ⌜ r ≡ Lookups.got c (now (arena .entry)) size key .answer ⌝ }
+// What a lookup lands on, with the length of the run, which is not checked yet.
+pub fn landed(c: Cache, key: TileKey) -> Lookup
+    ensures { λ r. ⌜ r ≡ Lookups.landed c key ⌝ }
 {
     match lands_on(c, key) {
         Landing::Missing => Lookup::Missing,
@@ -132,9 +132,22 @@ pub fn found(c: Cache, arena: &[u8], size: u32, key: TileKey) -> Lookup
         Landing::At(i) => {
             let g = c.pages;
             let s = crate::runs::slot_at(g, i);
-            let len = s.len as usize;
-            if passes(arena, i, len, key, size) {
-                return Lookup::Ready(i, len);
+            Lookup::Ready(i, s.len as usize)
+        }
+    }
+}
+
+// The late check of what a lookup landed on: a run that no longer passes is refused.
+pub fn checked(landed: Lookup, arena: &[u8], size: u32, key: TileKey) -> Lookup
+    ensures { λ r. ⌜ r ≡ Lookups.checked landed (now (arena .entry)) size key ⌝ }
+{
+    match landed {
+        Lookup::Missing => Lookup::Missing,
+        Lookup::Absent => Lookup::Absent,
+        Lookup::Refused(number) => Lookup::Refused(number),
+        Lookup::Ready(first, len) => {
+            if passes(arena, first, len, key, size) {
+                return Lookup::Ready(first, len);
             }
             Lookup::Refused(12)
         }

@@ -74,14 +74,15 @@ fn better(b: Best, at: usize, age: u32) -> Best
     b
 }
 
-// How long ago the run that each page is of was used.
+// How long ago the run that each page is of was used, of those below the count.
 fn ages_of(g: Pages) -> Ages
-    ensures { λ r. ⌜ Victim.Aged g (r .v) 96 ⌝ }
+    requires { ⌜ g .count ≤ 96 ⌝ }
+    ensures { λ r. ⌜ Victim.Aged g (r .v) (g .count) ⌝ }
 {
     let v = [0u32; crate::MAX_PAGES];
     let mut d = Ages { v };
     let mut i = 0;
-    while i < crate::MAX_PAGES {
+    while i < g.count {
         let s = g.slots[i];
         let h = crate::evict::head_of(s, i);
         let at = place_of(h);

@@ -10,10 +10,10 @@ use Rattle.cache.proofs.victim.ages_of.Statement.{statement}
 use Rattle.cache.proofs.victim.ages_of.Tie as tie
 
 abbrev Inv-loop : tie.InvT-loop
-Inv-loop g d₀ i₀ d i = (i ≤ 96) × ((length (d .v) ≡ 96) × Aged g (d .v) i)
+Inv-loop g d₀ i₀ d i = (i ≤ g .count) × ((length (d .v) ≡ 96) × Aged g (d .v) i)
 
 abbrev μ-loop : tie.MeasureT-loop
-μ-loop g d₀ i₀ d i = 96 - i
+μ-loop g d₀ i₀ d i = g .count - i
 
 loop-holds : tie.Need-loop-holds Inv-loop μ-loop
 loop-holds c = (omega arith, (length-replicate {A = ℕ} 96 0, λ (i : ℕ) (h : i < 0). absurd (omega arith)))
@@ -76,7 +76,7 @@ loop-again c =
     )
 
 returns : tie.Need-returns Inv-loop μ-loop
-returns c = let e : c .before .loop .i ≡ 96 = omega arith in rw e at (c .before .loop .inv .1 .1)
+returns c = let e : c .before .loop .i ≡ c .before .before .args .t1 .count = omega arith in rw e at (c .before .loop .inv .1 .1)
 
 pub ages-of-spec : {M : Type 1} → statement M
 ages-of-spec =

@@ -25,7 +25,7 @@ returns-2 c =
     sym (victim-none (start .args .g) (start .args .pages) (c .if2 .taken))
 
 ages-of-requires : tie.Need-ages-of-requires Inv-loop μ-loop
-ages-of-requires c κs = tt
+ages-of-requires c κs = omega arith
 
 youngest-requires : tie.Need-youngest-requires Inv-loop μ-loop
 youngest-requires c κs = omega arith
