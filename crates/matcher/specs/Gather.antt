@@ -5,7 +5,7 @@ use Prim.Native.Nat.{ℕ, _+_, _*_}
 use mathlib.Core.Bool.{Bool, cond}
 use mathlib.Core.List.{List, [], _∷_, _++_}
 use lib.Dec.{leb}
-use lib.ListN.{length}
+use lib.ListN.{length, getD}
 use Rattle.pack.specs.declared.TileKey.{TileKey}
 use Rattle.pack.specs.declared.Header.{Header}
 use Rattle.cache.specs.declared.MaybeKey.{MaybeKey}
@@ -15,7 +15,7 @@ use Rattle.cache.specs.declared.Aging.{Aging}
 use Rattle.cache.specs.declared.Cache.{Cache}
 use Rattle.cache.specs.declared.Lookup.{Lookup}
 use Rattle.cache.specs.declared.Lookup.the-variants as Lookup
-use Rattle.cache.specs.Lookups.{runBytes}
+use Rattle.cache.specs.Lookups.{runBytes, landed, checked}
 use Rattle.cache.specs.Direct.{Look, ready, missing, absent, stale, look, looked}
 use Rattle.cache.specs.Uses.{usesOf, usedAt}
 use Rattle.num.specs.Fold.{upTo}
@@ -26,6 +26,8 @@ use Rattle.matcher.specs.declared.Query.{Query}
 use Rattle.matcher.specs.declared.Current.{Current}
 use Rattle.matcher.specs.declared.Current.the-variants as Current
 use Rattle.matcher.specs.declared.Heading.{Heading}
+use Rattle.matcher.specs.declared.Landed.{Landed}
+use Rattle.matcher.specs.declared.Landings.{Landings}
 use Rattle.matcher.specs.declared.Made.{Made}
 use Rattle.matcher.specs.declared.Matcher.{Matcher}
 use Rattle.matcher.specs.declared.NearKeys.{NearKeys}
@@ -140,14 +142,46 @@ unfoldable pub finished : Matcher → Kept → Aging → Heading → Made
 finished m kept uses heading =
     let next = matched m kept heading in record { answer = outcome (next .current); matcher = next; uses = uses }
 
-abbrev pub endedBy : Ending → Matcher → Cache → Heading → Gathered → Made
-endedBy Ending.All m c heading g = finished m (g .kept) (g .uses) heading
-endedBy (Ending.Need key) m c heading g = record { answer = Outcome.Need key; matcher = m; uses = g .uses }
-endedBy Ending.Stale m c heading g = record { answer = Outcome.Refused 12; matcher = m; uses = usesOf c }
+-- `from` has clock and ages before the first lookup
+abbrev pub endedBy : Ending → Matcher → Aging → Heading → Gathered → Made
+endedBy Ending.All m from heading g = finished m (g .kept) (g .uses) heading
+endedBy (Ending.Need key) m from heading g = record { answer = Outcome.Need key; matcher = m; uses = g .uses }
+endedBy Ending.Stale m from heading g = record { answer = Outcome.Refused 12; matcher = m; uses = from }
 
 -- what a match makes of what was gathered
-abbrev pub ended : Matcher → Cache → Heading → Gathered → Made
-ended m c heading g = endedBy (g .end) m c heading g
+abbrev pub ended : Matcher → Aging → Heading → Gathered → Made
+ended m from heading g = endedBy (g .end) m from heading g
+
+-- ---- from what the lookups land on, which a caller that keeps the cache in a form of its own has found
+
+abbrev pub land : MaybeKey → Cache → Landed
+land MaybeKey.Nothing c = record { lookup = Lookup.Missing }
+land (MaybeKey.Key key) c = record { lookup = landed c key }
+
+unfoldable pub landings : Cache → NearKeys → Landings
+landings c near = record { v = land (keyAt near 0) c ∷ land (keyAt near 1) c ∷ land (keyAt near 2) c ∷ land (keyAt near 3) c ∷ [] }
+
+-- past the fourth stands the record of first variants, as the checker reads an array; no step asks there
+abbrev pub landedAt : Landings → ℕ → Lookup
+landedAt at i = getD (at .v) i (record { lookup = Lookup.Ready 0 0 }) .lookup
+
+abbrev pub gatherKey : MaybeKey → Lookup → Gathered → List ℕ → Query → Gathered
+gatherKey MaybeKey.Nothing l g arena q = g
+gatherKey (MaybeKey.Key key) l g arena q = gatheredWith g (checked l arena (q .header .tile) key) arena q key
+
+-- nothing more once they ended
+abbrev pub gatherStep : Ending → MaybeKey → Lookup → Gathered → List ℕ → Query → Gathered
+gatherStep Ending.All k l g arena q = gatherKey k l g arena q
+gatherStep (Ending.Need key) k l g arena q = g
+gatherStep Ending.Stale k l g arena q = g
+
+-- the first n tiles around the fix
+unfoldable pub gatheredTo : Landings → Aging → List ℕ → Query → NearKeys → ℕ → Gathered
+gatheredTo at from arena q near n =
+    upTo (λ (g : Gathered) (i : ℕ). gatherStep (g .end) (keyAt near i) (landedAt at i) g arena q) (soFar noneKept from) n
+
+unfoldable pub madeAt : Matcher → Landings → Aging → List ℕ → Header → Point → Heading → NearKeys → Made
+madeAt m at from arena h fix heading near = ended m from heading (gatheredTo at from arena (queryOf m h fix heading) near 4)
 
 -- a match with clock and ages in place of the cache
 abbrev pub madeOf : Updated → Made

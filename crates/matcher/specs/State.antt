@@ -34,9 +34,13 @@ abbrev pub keyOk : Current → Header → Bool
 keyOk Current.Nothing h = true
 keyOk (Current.Is m) h = inGrid h (m .tile .key)
 
+-- and those of one beside a header
+abbrev pub matcherOk : Matcher → Header → Bool
+matcherOk m h = countsOk m && keyOk (m .current) h
+
 -- and those of a call that is given cache, header and an arena of `size` bytes beside it
 unfoldable pub callOk : Matcher → Cache → Header → ℕ → Bool
-callOk m c h size = cacheOk c h size && (countsOk m && keyOk (m .current) h)
+callOk m c h size = cacheOk c h size && matcherOk m h
 
 abbrev pub headingOk : Heading → Bool
 headingOk Heading.Nothing = true

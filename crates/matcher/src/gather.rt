@@ -2,8 +2,11 @@
 use crate::Current;
 use crate::Heading;
 use crate::Kept;
+use crate::Landed;
+use crate::Landings;
 use crate::Made;
 use crate::Matcher;
+use crate::NearKey;
 use crate::NearKeys;
 use crate::Outcome;
 use crate::Query;
@@ -65,23 +68,53 @@ fn finished(m: Matcher, kept: Kept, uses: Aging, heading: Heading) -> Made
     }
 }
 
-// The match over the tiles around a fix. Candidates and ages go from tile to tile by themselves, so that no step copies all that was gathered; a tile
-// that is not loaded ends the match with its key, a run that no longer passes with 12 and clock and ages as they were.
-fn gather(m: Matcher, c: Cache, arena: &[u8], q: Query, near: NearKeys) -> Made
-    ensures { λ r. ⌜ r ≡ Gather.ended m c (q .heading) (Gather.gathered c (now (arena .entry)) q near) ⌝ }
+// What the lookup of one of the tiles around a fix lands on.
+fn land(c: Cache, place: NearKey) -> Landed
+    ensures { λ r. ⌜ r ≡ Gather.land (place .key) c ⌝ }
+{
+    let key = place.key;
+    match key {
+        MaybeKey::Nothing => Landed {
+            lookup: Lookup::Missing,
+        },
+        MaybeKey::Key(k) => {
+            let lookup = cache::look::landed(c, k);
+            Landed { lookup }
+        }
+    }
+}
+
+fn landings(c: Cache, near: NearKeys) -> Landings
+    ensures { λ r. ⌜ r ≡ Gather.landings c near ⌝ }
+{
+    let first = land(c, near.keys[0]);
+    let second = land(c, near.keys[1]);
+    let third = land(c, near.keys[2]);
+    let fourth = land(c, near.keys[3]);
+    let v = [first, second, third, fourth];
+    Landings { v }
+}
+
+// The match over the tiles around a fix, from what their lookups land on. Candidates and ages go from tile to tile by themselves, so that no step
+// copies all that was gathered; a tile that is not loaded ends the match with its key, a run that no longer passes with 12 and clock and ages as
+// they were.
+fn gather(m: Matcher, at: Landings, from: Aging, arena: &[u8], q: Query, near: NearKeys) -> Made
+    ensures { λ r. ⌜ r ≡ Gather.ended m from (q .heading) (Gather.gatheredTo at from (now (arena .entry)) q near 4) ⌝ }
 {
     let header = q.header;
     let mut kept = crate::keep::none_kept();
-    let mut uses = cache::uses::uses_of(c);
+    let mut uses = from;
     let mut i = 0;
     while i < 4 {
         let place = near.keys[i];
         let key = place.key;
+        let here = at.v[i];
+        let lookup = here.lookup;
         i += 1;
         let MaybeKey::Key(k) = key else {
             continue;
         };
-        match cache::look::found(c, arena, header.tile, k) {
+        match cache::look::checked(lookup, arena, header.tile, k) {
             Lookup::Missing => {
                 continue;
             }
@@ -96,7 +129,7 @@ fn gather(m: Matcher, c: Cache, arena: &[u8], q: Query, near: NearKeys) -> Made
                 return Made {
                     answer: Outcome::Refused(12),
                     matcher: m,
-                    uses: cache::uses::uses_of(c),
+                    uses: from,
                 };
             }
             Lookup::Ready(first, len) => {
@@ -107,6 +140,30 @@ fn gather(m: Matcher, c: Cache, arena: &[u8], q: Query, near: NearKeys) -> Made
     }
     let heading = q.heading;
     finished(m, kept, uses, heading)
+}
+
+// A match of a point and a heading that have passed, for a caller that knows what the lookups of the tiles around the point land on, and clock and
+// ages before them.
+pub fn made_at(
+    m: Matcher,
+    at: Landings,
+    from: Aging,
+    arena: &[u8],
+    header: Header,
+    fix: Point,
+    heading: Heading,
+    near: NearKeys,
+) -> Made
+    ensures { λ r. ⌜ r ≡ Gather.madeAt m at from (now (arena .entry)) header fix heading near ⌝ }
+{
+    let current = m.current;
+    let q = Query {
+        header,
+        fix,
+        heading,
+        current,
+    };
+    gather(m, at, from, arena, q, near)
 }
 
 // A match of a point and a heading that have passed, in a state that has been tested; what it does to clock and ages beside the cache.
@@ -120,15 +177,10 @@ pub fn made(
 ) -> Made
     ensures { λ r. ⌜ r ≡ Gather.madeOf (Gather.updated m c (now (arena .entry)) header fix heading) ⌝ }
 {
-    let current = m.current;
-    let q = Query {
-        header,
-        fix,
-        heading,
-        current,
-    };
     let near = crate::near::near_of(header, fix);
-    gather(m, c, arena, q, near)
+    let at = landings(c, near);
+    let from = cache::uses::uses_of(c);
+    made_at(m, at, from, arena, header, fix, heading, near)
 }
 
 // The match with the cache that it leaves.

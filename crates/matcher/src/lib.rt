@@ -19,6 +19,7 @@ pub mod state;
 
 use cache::Aging;
 use cache::Cache;
+use cache::Lookup;
 use cache::MaybeKey;
 use geo::Metres;
 use geo::Point;
@@ -163,6 +164,16 @@ pub struct NearKey {
 pub struct NearKeys {
     pub keys: [NearKey; 4],
     pub len: usize,
+}
+
+// What the lookup of one of them lands on, before its late check; Missing where there is no tile.
+pub struct Landed {
+    pub lookup: Lookup,
+}
+
+// Of each of the four.
+pub struct Landings {
+    pub v: [Landed; 4],
 }
 
 pub enum Answer {

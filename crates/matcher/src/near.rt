@@ -98,7 +98,7 @@ fn around(header: Header, fix: Point, key: TileKey) -> NearKeys
 }
 
 // The tiles around a point, none where it lies off the grid.
-pub(crate) fn near_of(header: Header, fix: Point) -> NearKeys
+pub fn near_of(header: Header, fix: Point) -> NearKeys
     ensures { λ r. ⌜ r ≡ Near.nearOf header fix ⌝ }
 {
     match pack::grid::key_of(header, fix.lat, fix.lon) {

@@ -63,6 +63,17 @@ fn key_ok(current: Current, header: Header) -> bool
     }
 }
 
+// The causes of number 12 in the matcher of a call that is given a header.
+pub fn matcher_ok(m: Matcher, header: Header) -> bool
+    ensures { λ r. ⌜ r ≡ State.matcherOk m header ⌝ }
+{
+    if !counts_ok(m) {
+        return false;
+    }
+    let current = m.current;
+    key_ok(current, header)
+}
+
 // The causes of number 12 in a call that is given matcher, cache, header and an arena of `size` bytes.
 pub(crate) fn call_ok(m: Matcher, c: Cache, header: Header, size: usize) -> bool
     ensures { λ r. ⌜ r ≡ State.callOk m c header size ⌝ }
@@ -70,11 +81,7 @@ pub(crate) fn call_ok(m: Matcher, c: Cache, header: Header, size: usize) -> bool
     if !cache::state::cache_ok(c, header, size) {
         return false;
     }
-    if !counts_ok(m) {
-        return false;
-    }
-    let current = m.current;
-    key_ok(current, header)
+    matcher_ok(m, header)
 }
 
 // Whether a heading is none, or a number within 360 degrees either way.
