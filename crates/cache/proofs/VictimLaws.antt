@@ -18,7 +18,7 @@ use Rattle.cache.specs.declared.victim.Found.{Found}
 use Rattle.cache.specs.declared.victim.Found.the-variants as Found
 use Rattle.cache.specs.Runs.{emptySlot, slotAt, kindAt}
 use Rattle.cache.specs.Evict.{headOf}
-use Rattle.cache.specs.Victim.{slotAge, headAge, age, lesser, leastOf, youngest, better, bestOf, victim, First, Chosen, ageAt, Aged, youngestIn}
+use Rattle.cache.specs.Victim.{slotAge, headAge, age, lesser, leastOf, youngest, better, bestOf, victim, First, Chosen, ageAt, Aged, youngestIn, oldest}
 use Rattle.cache.proofs.Below.{same-or}
 
 -- ---- turns
@@ -143,8 +143,14 @@ best-same f h (suc n) e = rw (e (suc n) (omega arith), best-same f h n (λ (i : 
 youngest-in : (g : Pages) (l : List ℕ) (start n : ℕ) → start + n ≤ g .count → Aged g l (g .count) → youngestIn l n start ≡ youngest g n start
 youngest-in g l start n b f = least-same (λ (i : ℕ). getD l (start + i) 0) (λ (i : ℕ). age g (start + i)) n (λ (i : ℕ) (h : i < n). f (start + i) (omega arith))
 
--- the best over the list of ages is the victim
-pub victim-in : (g : Pages) (l : List ℕ) (pages i : ℕ) (b : Best) → pages ≤ g .count → g .count ≤ 96 → i ≡ g .count - pages
-    → Aged g l (g .count) → b ≡ bestOf (youngestIn l pages) i → Found.At (b .at) ≡ victim g pages
-victim-in g l pages i b h k e f q =
-    rw (victim-there g pages k h, ← e, ← best-same (youngestIn l pages) (youngest g pages) i (λ (j : ℕ) (m : j ≤ i). youngest-in g l j pages (omega arith) f), ← q)
+-- the oldest by the list of ages is the victim
+pub oldest-is : (g : Pages) (l : List ℕ) → Aged g l (g .count) → (pages : ℕ) → oldest l (g .count) pages ≡ victim g pages
+oldest-is g l f pages = by (ltb 96 (g .count)) (ltb (g .count) pages) refl
+  where
+    by : (t u : Bool) → ltb (g .count) pages ≡ u
+        → cond t Found.Nothing (cond u Found.Nothing (Found.At (bestOf (youngestIn l pages) (g .count - pages) .at)))
+        ≡ cond t Found.Nothing (cond u Found.Nothing (Found.At (bestOf (youngest g pages) (g .count - pages) .at)))
+    by true u p = refl
+    by false true p = refl
+    by false false p =
+        rw (best-same (youngestIn l pages) (youngest g pages) (g .count - pages) (λ (j : ℕ) (m : j ≤ g .count - pages). youngest-in g l j pages (omega (arith, ltb-false (g .count) pages p)) f))

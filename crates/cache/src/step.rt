@@ -187,7 +187,7 @@ fn done(c: Cache) -> Loaded
 }
 
 // A directory entry as an array.
-fn entry_bytes(bytes: &[u8]) -> [u8; 8]
+pub fn entry_bytes(bytes: &[u8]) -> [u8; 8]
     ensures { λ r. ⌜ r ≡ Loads.entryBytes (now (bytes .entry)) ⌝ }
 {
     [

@@ -23,7 +23,7 @@ struct Ages {
 }
 
 // What the clock has moved since `then`, wrapping.
-fn since(now: u32, then: u32) -> u32
+pub fn since(now: u32, then: u32) -> u32
     ensures { λ r. ⌜ r ≡ Victim.since now then ⌝ }
 {
     if now < then {
@@ -109,27 +109,37 @@ fn youngest(v: &[u32; crate::MAX_PAGES], start: usize, n: usize) -> u32
     low
 }
 
-// The first of the `pages` consecutive pages whose most recently used tile is the least recently used; empty pages count as oldest.
+// By the age of each page below the count: the first of the `pages` consecutive pages whose most recently used tile is the least recently used.
 // None where the count is less than that, or more than there are slots.
+pub fn oldest(v: &[u32; crate::MAX_PAGES], count: usize, pages: usize) -> Found
+    ensures { λ r. ⌜ r ≡ Victim.oldest (now (v .entry)) count pages ⌝ }
+{
+    if crate::MAX_PAGES < count {
+        return Found::Nothing;
+    }
+    if count < pages {
+        return Found::Nothing;
+    }
+    let last = count - pages;
+    let first = youngest(v, 0, pages);
+    let mut b = Best { at: 0, age: first };
+    let mut i = 0;
+    while i < last {
+        i += 1;
+        let a = youngest(v, i, pages);
+        b = better(b, i, a);
+    }
+    Found::At(b.at)
+}
+
+// The run of pages to replace; empty pages count as oldest.
 pub(crate) fn victim(g: Pages, pages: usize) -> Found
     ensures { λ r. ⌜ r ≡ Victim.victim g pages ⌝ }
 {
     if crate::MAX_PAGES < g.count {
         return Found::Nothing;
     }
-    if g.count < pages {
-        return Found::Nothing;
-    }
-    let last = g.count - pages;
     let ages = ages_of(g);
     let v = ages.v;
-    let first = youngest(&v, 0, pages);
-    let mut b = Best { at: 0, age: first };
-    let mut i = 0;
-    while i < last {
-        i += 1;
-        let a = youngest(&v, i, pages);
-        b = better(b, i, a);
-    }
-    Found::At(b.at)
+    oldest(&v, g.count, pages)
 }
