@@ -1,8 +1,7 @@
--- What the code answers, at its lookups in the cache, is the definition's answer at the cache's look (`code-predicts`). The idea: the road is
+-- What the code answers, at its lookups in the cache, is the definition's answer at the cache's look (`looks-predict`). The idea: the road is
 -- the same by both readers, and the clock and the ages that the code carries are those that the keys found leave.
 use Prim.Native.Nat.{ℕ}
 use mathlib.Core.Path.{_≡_, sym, _∙_}
-use mathlib.Core.Bool.{Bool}
 use mathlib.Core.List.{List, []}
 use lib.IntN.{ℤ}
 use lib.Ieee.{Float}
@@ -14,9 +13,8 @@ use Rattle.cache.specs.Ages.{lookupsOf}
 use Rattle.cache.specs.Reader.{plain, inLooks}
 use Rattle.cache.specs.Stands.{Sized, Stands}
 use Rattle.cache.proofs.ReaderLaws.{stands-start, stands-at, stands-found}
-use Rattle.matcher.specs.declared.Forward.the-variants as Forward
 use Rattle.matcher.specs.declared.Matched.{Matched}
-use Rattle.predict.specs.Predict.{Forecast, startOver, forecastOver, predictOver, After, cacheAfter, predictedIn, afterOf, fromStart}
+use Rattle.predict.specs.Predict.{Forecast, forecastOver, predictOver, After, cacheAfter, predictedIn, afterOf, fromLooks}
 use Rattle.predict.proofs.RoadLaws.{AlikeForecast, forecast-simulates}
 
 -- the code's lookups give the road over the cache's look, with the clock and ages that its keys leave
@@ -48,15 +46,6 @@ module _ (c : Cache) (sized : Sized c) (arena : List ℕ) (h : Header) (m : Matc
   alike-after : (f : Forecast (List ℕ)) (g : Forecast (List TileKey)) → AlikeForecast (Stands c arena (h .tile)) f g → afterOf c f ≡ lookedAfter g
   alike-after f g a = rw (a .answer, a .samples, a .behind, ← a .carried .same)
 
-  forecast-predicts : afterOf c (forecastOver (inLooks arena (h .tile)) (c .pages .count) h m horizon (lookupsOf c) samples behind)
-      ≡ predictedIn c arena h m horizon samples behind
-  unfolding predictedIn
-  forecast-predicts = alike-after _ _ (forecast-in-cache c sized arena (c .pages .count) h m horizon samples behind)
-
-  pub code-predicts : (forward : Bool) → m .forward ≡ Forward.Is forward
-      → fromStart c arena h m forward horizon samples behind ≡ predictedIn c arena h m horizon samples behind
-  unfolding fromStart forecastOver
-  code-predicts forward told =
-      let directed : afterOf c (startOver (inLooks arena (h .tile)) (c .pages .count) h m forward horizon (lookupsOf c) samples behind)
-      ≡ afterOf c (forecastOver (inLooks arena (h .tile)) (c .pages .count) h m horizon (lookupsOf c) samples behind) = rw told in
-      directed ∙ forecast-predicts
+  pub looks-predict : afterOf c (fromLooks (lookupsOf c) arena (c .pages .count) h m horizon samples behind) ≡ predictedIn c arena h m horizon samples behind
+  unfolding fromLooks predictedIn
+  looks-predict = alike-after _ _ (forecast-in-cache c sized arena (c .pages .count) h m horizon samples behind)

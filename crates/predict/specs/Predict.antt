@@ -220,6 +220,6 @@ startedLook stale looks arena n h m forward horizon samples behind = nothing (in
 unfoldable pub startedBy : List ℕ → List ℕ → ℕ → Header → Lookup → Matched → Bool → Float → List ℤ → List ℤ → Forecast (List ℕ)
 startedBy looks arena n h answer m forward horizon samples behind = startedLook (inBytes answer arena) looks arena n h m forward horizon samples behind
 
-unfoldable pub fromStart : Cache → List ℕ → Header → Matched → Bool → Float → List ℤ → List ℤ → After
-fromStart c arena h m forward horizon samples behind =
-    afterOf c (startOver (inLooks arena (h .tile)) (c .pages .count) h m forward horizon (lookupsOf c) samples behind)
+-- over the numbers that lookups go by, for a caller that has them
+unfoldable pub fromLooks : List ℕ → List ℕ → ℕ → Header → Matched → Float → List ℤ → List ℤ → Forecast (List ℕ)
+fromLooks looks arena n h m horizon samples behind = forecastOver (inLooks arena (h .tile)) n h m horizon looks samples behind

@@ -34,8 +34,8 @@ pub(crate) fn refused(c: Cache, number: u32) -> Predicted
 }
 
 // Without a direction there is no road.
-fn no_direction(c: Cache) -> Predicted
-    ensures { λ r. ⌜ r ≡ Predict.noDirection c ⌝ }
+fn no_direction() -> Outcome
+    ensures { λ r. ⌜ r ≡ Predict.uncertain ⌝ }
 {
     let p = Prediction {
         len: 0,
@@ -45,10 +45,7 @@ fn no_direction(c: Cache) -> Predicted
         end_m: 0.0,
         confidence: 0,
     };
-    Predicted {
-        answer: Outcome::Road(p),
-        cache: c,
-    }
+    Outcome::Road(p)
 }
 
 fn prediction(f: Followed, end: End, b: Behind) -> Prediction
@@ -293,37 +290,42 @@ fn started_by(
     }
 }
 
-// The start's tile, by a lookup.
-fn from_start(
-    c: Cache,
+// The road ahead of a start whose key lies in the grid, over the numbers that lookups go by.
+pub fn from_looks(
+    looks: &mut [u32; cache::ages::LOOKUPS],
+    pages: usize,
     arena: &[u8],
     header: Header,
     start: Matched,
-    forward: bool,
     horizon_m: f32,
     samples: &mut [i16],
     behind: &mut [i16],
-) -> Predicted
-    ensures { λ r. ⌜ r ≡ Predict.fromStart c (now (arena .entry)) header start forward «horizon_m» (now (samples .entry)) (now (behind .entry)) .predicted ⌝ }
-    ensures { λ r. ⌜ now (samples .exit) ≡ Predict.fromStart c (now (arena .entry)) header start forward «horizon_m» (now (samples .entry)) (now (behind .entry)) .samples ⌝ }
-    ensures { λ r. ⌜ now (behind .exit) ≡ Predict.fromStart c (now (arena .entry)) header start forward «horizon_m» (now (samples .entry)) (now (behind .entry)) .behind ⌝ }
+) -> Outcome
+    ensures { λ r. ⌜ r ≡ Predict.fromLooks (now (looks .entry)) (now (arena .entry)) pages header start «horizon_m» (now (samples .entry)) (now (behind .entry)) .answer ⌝ }
+    ensures { λ r. ⌜ now (looks .exit) ≡ Predict.fromLooks (now (looks .entry)) (now (arena .entry)) pages header start «horizon_m» (now (samples .entry)) (now (behind .entry)) .carried ⌝ }
+    ensures { λ r. ⌜ now (samples .exit) ≡ Predict.fromLooks (now (looks .entry)) (now (arena .entry)) pages header start «horizon_m» (now (samples .entry)) (now (behind .entry)) .samples ⌝ }
+    ensures { λ r. ⌜ now (behind .exit) ≡ Predict.fromLooks (now (looks .entry)) (now (arena .entry)) pages header start «horizon_m» (now (samples .entry)) (now (behind .entry)) .behind ⌝ }
 {
-    let id = start.tile;
-    let mut looks = cache::ages::lookups_of(c);
-    let found = cache::ages::look_up(&mut looks, arena, header.tile, id.key);
-    let answer = started_by(
-        arena,
-        header,
-        c.pages.count,
-        found,
-        start,
-        forward,
-        horizon_m,
-        &mut looks,
-        samples,
-        behind,
-    );
-    closed(c, &looks, answer)
+    let forward = start.forward;
+    match forward {
+        Forward::Unknown => no_direction(),
+        Forward::Is(along) => {
+            let id = start.tile;
+            let found = cache::ages::look_up(looks, arena, header.tile, id.key);
+            started_by(
+                arena,
+                header,
+                pages,
+                found,
+                start,
+                along,
+                horizon_m,
+                looks,
+                samples,
+                behind,
+            )
+        }
+    }
 }
 
 // The road ahead of a start whose key lies in the grid.
@@ -340,13 +342,18 @@ fn directed(
     ensures { λ r. ⌜ now (samples .exit) ≡ Predict.predictedIn c (now (arena .entry)) header start «horizon_m» (now (samples .entry)) (now (behind .entry)) .samples ⌝ }
     ensures { λ r. ⌜ now (behind .exit) ≡ Predict.predictedIn c (now (arena .entry)) header start «horizon_m» (now (samples .entry)) (now (behind .entry)) .behind ⌝ }
 {
-    let forward = start.forward;
-    match forward {
-        Forward::Unknown => no_direction(c),
-        Forward::Is(along) => {
-            from_start(c, arena, header, start, along, horizon_m, samples, behind)
-        }
-    }
+    let mut looks = cache::ages::lookups_of(c);
+    let answer = from_looks(
+        &mut looks,
+        c.pages.count,
+        arena,
+        header,
+        start,
+        horizon_m,
+        samples,
+        behind,
+    );
+    closed(c, &looks, answer)
 }
 
 // `predict` past number 12's test, for a caller that has made it: 9 for the start's key.

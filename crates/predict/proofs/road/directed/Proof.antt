@@ -1,32 +1,22 @@
--- `predict::road::directed` meets its contract: each return by whether the direction is known.
-use mathlib.Core.Path.{sym, _∙_}
+-- `predict::road::directed` meets its contract: what the code answers over the numbers, closed, is the definition's answer (`looks-predict`).
+use mathlib.Core.Path.{sym, ap, _∙_}
 use lib.ListN.{length-map}
 use denote.Ref.{now}
 use borrow.Author.Needs.{needs}
-use Rattle.cache.specs.Direct.{looked}
 use Rattle.cache.specs.Stands.{Sized}
-use Rattle.predict.specs.Predict.{forecastOver, predictedIn}
-use Rattle.predict.proofs.InCache.{code-predicts}
+use Rattle.predict.specs.Predict.{After}
+use Rattle.predict.proofs.InCache.{looks-predict}
 use Rattle.predict.proofs.road.directed.Statement.{statement}
 use Rattle.predict.proofs.road.directed.Tie as tie
 
-enum-told : tie.Need-enum-told
-enum-told c = search needs
+lookups-of-requires : tie.Need-lookups-of-requires
+lookups-of-requires c κs = tt
 
-no-direction-requires : tie.Need-no-direction-requires
-no-direction-requires c κs = tt
+from-looks-requires : tie.Need-from-looks-requires
+from-looks-requires c κs = tt
 
-enum-known-forward : tie.Need-enum-known-forward
-enum-known-forward c = search needs
-
-from-start-requires : tie.Need-from-start-requires
-from-start-requires c κs = tt
-
-returns : tie.Need-returns
-unfolding predictedIn forecastOver looked
-returns c =
-    let told = c .before .enum-told .given .1 in
-    (rw (c .no-direction .ensures, told), (rw told, rw told))
+closed-requires : tie.Need-closed-requires
+closed-requires c κs = tt
 
 same-length : tie.Need-same-length
 same-length c = search needs
@@ -34,29 +24,22 @@ same-length c = search needs
 same-length-2 : tie.Need-same-length-2
 same-length-2 c = search needs
 
-returns-2 : tie.Need-returns-2
-returns-2 c =
-    let road = c .before .before in
-    let told = road .before .before .before .before in
-    let start = told .before .before .before in
+returns : tie.Need-returns
+returns c =
+    let road = c .before .before .before .before in
+    let numbers = road .before .before .before .before in
+    let start = numbers .before .before in
     let args = start .args in
     let sized : Sized (args .c) =
     record {
       slots = sym (length-map (args .c .pages .slots) _) ∙ start .good .0 .1 .1 .0 .1 .1 .0 .1 .0 .1;
       used = sym (length-map (args .c .pages .used) _) ∙ start .good .0 .1 .1 .0 .1 .1 .1 .0 .1 .0 .1;
     } in
-    rw (code-predicts (args .c) sized (now (args .arena)) (args .header) (args .start) (args .horizon-m) _ _ _ (told .forward .given .1))
-    at (road .from-start .ensures)
+    let whole = looks-predict (args .c) sized (now (args .arena)) (args .header) (args .start) (args .horizon-m) (now (args .samples)) (now (args .behind)) in
+    let answered = rw (numbers .lookups-of .ensures) at (road .from-looks .ensures) in (
+      rw (c .closed .ensures, answered .0, answered .1 .0) (ap (λ (a : After). a .predicted) whole),
+      (answered .1 .1 .0 ∙ ap (λ (a : After). a .samples) whole, answered .1 .1 .1 ∙ ap (λ (a : After). a .behind) whole),
+    )
 
 pub directed-spec : {M : Type 1} → statement M
-directed-spec =
-    tie.close
-    (tie.spec
-    enum-told
-    no-direction-requires
-    enum-known-forward
-    from-start-requires
-    returns
-    same-length
-    same-length-2
-    returns-2)
+directed-spec = tie.close (tie.spec lookups-of-requires from-looks-requires closed-requires same-length same-length-2 returns)
