@@ -1,8 +1,8 @@
-//! Nanoseconds a step, the port beside the unaltered Rust: idle, the header, a chunk, a tile's last
-//! chunk, a match, a road. Each step runs many times from one state: the port's by `repeat_engine`,
-//! the Rust's on a copy of the engine. What repeating costs by itself, a record of no kind and the
-//! copy alone, is taken off. Passes of both take turns, and medians count, of the thread's own time. A
-//! step is `step_from`.
+//! Nanoseconds a step, the port beside the unaltered Rust: idle, the header, an entry, a chunk, a
+//! tile's last chunk, a match, a road, off the map; and a fix. Each call runs many times from one
+//! state: the port's by `repeat_engine`, the Rust's on a copy of the engine. What repeating costs by
+//! itself, a record of no kind and the copy alone, is taken off. Passes of both take turns, and
+//! medians count, of the thread's own time. A step is `step_from`.
 use super::script::*;
 use super::{Case, joined};
 use crate::cache::script::{Record, record};
@@ -20,7 +20,7 @@ pub const WEST: i32 = 8_000_000;
 /// No kind of record.
 const NO_KIND: u32 = 8;
 
-/// A call before the step that is timed.
+/// A call: one before the timed one, or that one.
 #[derive(Clone, Copy)]
 enum Call {
     Reset,
@@ -59,8 +59,9 @@ struct Bench<'n> {
     name: &'static str,
     network: &'n Network,
     pages: usize,
-    /// The calls from the setup to the step.
+    /// The calls from the setup to the one that is timed.
     calls: Vec<Call>,
+    timed: Call,
 }
 
 /// Two fixes, and steps until a road is published.
@@ -84,15 +85,15 @@ impl Bench<'_> {
         }
     }
 
-    /// The setup and the calls, then a record of this kind.
-    fn case(&self, last: u32) -> Case {
+    /// The setup and the calls, then a last record.
+    fn case(&self, last: Record) -> Case {
         let arena = vec![0; self.pages * PAGE_BYTES];
         Case::new(vec![self.network.pack.bytes.clone()], arena, |writer| {
             for call in setup().chain(self.calls.iter().copied()) {
                 let record = self.record(call);
                 writer.put(record[0], &record[1..]);
             }
-            writer.put(last, &[]);
+            writer.put(last[0], &last[1..]);
         })
     }
 
@@ -108,21 +109,21 @@ impl Bench<'_> {
         }
     }
 
-    /// Copies of the engine, each with the step or without.
+    /// Copies of the engine, each with the timed call or without.
     fn copies(&self, engine: &Lookahead, is_there: bool) {
         for _ in 0..TIMES {
             // SAFETY: of engine and copy, which lend the same arena, only the copy is used while it
             // lives, and an engine owns nothing that is dropped.
             let mut copy = ManuallyDrop::new(unsafe { ptr::read(black_box(engine)) });
             if is_there {
-                self.run(&mut copy, Call::Step);
+                self.run(&mut copy, self.timed);
             }
             black_box(&mut copy);
         }
     }
 
     fn beside(&self) -> Tally {
-        let (full, empty) = (self.case(STEP_FROM), self.case(NO_KIND));
+        let (full, empty) = (self.case(self.record(self.timed)), self.case(record(NO_KIND, &[])));
         let mut tally = Tally::new(self.name);
         full.count(&mut tally, self.name);
         let (packs, mut lent) = (joined(&full.packs), full.arena.clone());
@@ -166,15 +167,23 @@ pub fn run() -> Vec<Tally> {
     let road = highway(grid, 200.0, 0, &mut Random(4));
     // A tile of three chunks and a short one in one page, and one of 24 chunks.
     let (small, large) = (vertices(1_300), vertices(8_000));
-    let bench = |name, network, pages, calls| Bench { name, network, pages, calls }.beside();
+    let timed = |name, network, pages, calls, timed| {
+        Bench { name, network, pages, calls, timed }.beside()
+    };
+    let bench = |name, network, pages, calls| timed(name, network, pages, calls, Call::Step);
     vec![
         bench("step, idle", &road, 2, vec![]),
         bench("step, header", &road, 2, vec![Call::Reset]),
+        bench("step, entry", &small, 1, steps(2)),
         bench("step, chunk", &small, 1, steps(3)),
         bench("step, last of 4 chunks", &small, 1, steps(6)),
         bench("step, last of 24 chunks", &large, 6, steps(26)),
         // The fix's time stands still, so that no road is due.
         bench("step, match", &road, 2, vec![Call::Fix(9_400, 1_000)]),
         bench("step, road", &road, 2, vec![Call::Fix(9_400, 4_000), Call::Step]),
+        // The grid ends 40,000 east; the second step finds nothing published any more.
+        bench("step, leaving the map", &road, 2, vec![Call::Fix(60_000, 4_000)]),
+        bench("step, off the map", &road, 2, vec![Call::Fix(60_000, 4_000), Call::Step]),
+        timed("fix", &road, 2, vec![], Call::Fix(9_400, 4_000)),
     ]
 }
