@@ -21,6 +21,7 @@ use Rattle.cache.specs.declared.Slot.{Slot}
 use Rattle.cache.specs.Runs.{slotAt}
 use Rattle.cache.specs.declared.look.Landing.{Landing}
 use Rattle.cache.specs.declared.look.Landing.the-variants as Landing
+use Rattle.cache.specs.Ages.{bytesOf}
 use Rattle.cache.specs.Lookups.{landsOn, runBytes, passes, lenAt, checked, gotReady, gotAt, got}
 use Rattle.cache.specs.Direct.{lookAt, look, looked, Aged}
 use Rattle.cache.specs.Uses.{usesOf, usedAt, withUses}
@@ -51,7 +52,6 @@ use Rattle.matcher.specs.Gather.{
   updated,
   gatheredOf,
   gathered,
-  bytesOf,
   gatheredWith,
   soFar,
   finished,

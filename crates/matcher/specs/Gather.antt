@@ -1,11 +1,10 @@
 -- A match over a lookup: `matcher.rs`, `update`. The tiles around the fix are looked up in order; each that is found is searched; one that is
 -- not loaded ends the match with its key, and one that no longer passes with 12. `updateOver` knows no cache: the direct engine shares it.
 -- `updated` is it at the cache's look, with what the lookups did to clock and ages.
-use Prim.Native.Nat.{ℕ, _+_, _*_}
+use Prim.Native.Nat.{ℕ}
 use mathlib.Core.Bool.{Bool, cond}
 use mathlib.Core.List.{List, [], _∷_, _++_}
-use lib.Dec.{leb}
-use lib.ListN.{length, getD}
+use lib.ListN.{getD}
 use Rattle.pack.specs.declared.TileKey.{TileKey}
 use Rattle.pack.specs.declared.Header.{Header}
 use Rattle.cache.specs.declared.MaybeKey.{MaybeKey}
@@ -15,7 +14,8 @@ use Rattle.cache.specs.declared.Aging.{Aging}
 use Rattle.cache.specs.declared.Cache.{Cache}
 use Rattle.cache.specs.declared.Lookup.{Lookup}
 use Rattle.cache.specs.declared.Lookup.the-variants as Lookup
-use Rattle.cache.specs.Lookups.{runBytes, landed, checked}
+use Rattle.cache.specs.Ages.{bytesOf}
+use Rattle.cache.specs.Lookups.{landed, checked}
 use Rattle.cache.specs.Direct.{Look, ready, missing, absent, stale, look, looked}
 use Rattle.cache.specs.Uses.{usesOf, usedAt}
 use Rattle.num.specs.Fold.{upTo}
@@ -122,10 +122,6 @@ gatheredOf c arena size r = record { kept = r .kept; uses = usesOf (looked c are
 
 unfoldable pub gathered : Cache → List ℕ → Query → NearKeys → Gathered
 gathered c arena q near = gatheredOf c arena (q .header .tile) (runTo (look c arena (q .header .tile)) near q 4)
-
--- the bytes of a run; none where it would pass the arena's end, which a run that a lookup answered never does
-unfoldable pub bytesOf : List ℕ → ℕ → ℕ → List ℕ
-bytesOf arena first len = cond (leb (first * 8192 + len) (length arena)) (runBytes arena first len) []
 
 abbrev pub gatheredWith : Gathered → Lookup → List ℕ → Query → TileKey → Gathered
 gatheredWith g (Lookup.Ready first len) arena q key =

@@ -31,20 +31,6 @@ pub enum Ending {
     Stale,
 }
 
-// The bytes of a run that a lookup answered; none where it lies outside the arena.
-fn run_bytes(arena: &[u8], first: usize, len: usize) -> &[u8]
-    ensures { λ r. ⌜ now r ≡ Gather.bytesOf (now (arena .entry)) first len ⌝ }
-{
-    if arena.len() / cache::PAGE_BYTES < first {
-        return &arena[..0];
-    }
-    let at = first * cache::PAGE_BYTES;
-    if arena.len() - at < len {
-        return &arena[..0];
-    }
-    &arena[at..at + len]
-}
-
 // What a match answers once it is finished.
 fn outcome(current: Current) -> Outcome
     ensures { λ r. ⌜ r ≡ Gather.outcome current ⌝ }
@@ -133,7 +119,7 @@ fn gather(m: Matcher, at: Landings, from: Aging, arena: &[u8], q: Query, near: N
                 };
             }
             Lookup::Ready(first, len) => {
-                kept = crate::search(kept, q, run_bytes(arena, first, len));
+                kept = crate::search(kept, q, cache::ages::run_bytes(arena, first, len));
                 uses = cache::uses::used_at(uses, first);
             }
         }
