@@ -1,6 +1,6 @@
 -- Laws of the samples, for their proofs.
--- SampleLiterals: the figures that the code writes as literals. Signed: a difference of two i32 fits 64 bits. SampleTurns: the turns of `pushed`. Lent: what
--- the walks of `push` and `push_on` share.
+-- SampleLiterals: the figures that the code writes as literals. Signed: a difference of two i32 fits 64 bits. SampleTurns: the turns of `sloped` and
+-- `level`, and that `pushed` writes what they do. Lent: what the walks of `push` and `push_on` share.
 mod Lent
 pub mod SampleLiterals
 pub mod Signed

@@ -21,7 +21,7 @@ use Rattle.cache.specs.declared.Cache.{Cache}
 use Rattle.cache.specs.State.{cacheOk}
 use Rattle.cache.specs.Direct.{Look, ready, missing, absent, stale, look, looked}
 use Rattle.cache.specs.declared.Lookup.{Lookup}
-use Rattle.cache.specs.Ages.{lookupsOf, aged}
+use Rattle.cache.specs.Ages.{aged}
 use Rattle.cache.specs.Reader.{Reader, plain, inBytes, inLooks}
 use Rattle.matcher.specs.declared.Forward.{Forward}
 use Rattle.matcher.specs.declared.Forward.the-variants as Forward

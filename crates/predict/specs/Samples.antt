@@ -42,3 +42,22 @@ pushFrom (suc room) m d z len hs =
 
 abbrev pub pushed : Mark → List ℤ → Float → ℤ → Pushed
 pushed m hs d z = pushFrom (length hs - m .len) m d z (m .len) hs
+
+-- ---- the same in one pass over what a height is of its distance: this restates private code, and `SampleTurns` has that it is `pushFrom`
+
+-- how many samples are written, and they
+pub record Filled : Type 0 where
+  pub len : ℕ
+  pub heights : List ℤ
+
+unfoldable pub filled : (Float → ℤ) → ℕ → Float → ℕ → List ℤ → Filled
+filled f zero d len hs = record { len = len; heights = hs }
+filled f (suc room) d len hs =
+    cond (lt d (sampleAt len)) (record { len = len; heights = hs }) (filled f room d (len + 1) (set hs len (f (sampleAt len))))
+
+abbrev pub held : Float → ℤ
+held value = toSigned 15 (clamp value (neg (whole 32768)) (whole 32767))
+
+-- on the straight line from a road point at `from`, of the height `base`, over `span` metres
+abbrev pub slope : Float → Float → Float → Float → Float → ℤ
+slope base rise from span at = held (add binary32 base (div binary32 (mul binary32 rise (sub binary32 at from)) span))

@@ -1,6 +1,9 @@
 // An elevation every 20 m of road: `Sampler` of the Rust's predict.rs, with the mark and the heights lent side by side.
 use crate::Mark;
+ghost use Prim.Native.Nat.{_-_};
 ghost use mathlib.Core.Path.{_≡_};
+ghost use lib.Ieee.{Float};
+ghost use lib.ListN.{length};
 ghost use Rattle.predict.specs.Samples as Samples;
 
 // The distance of a sample.
@@ -10,17 +13,53 @@ pub(crate) fn sample_at(i: usize) -> f32
     num::convert::f32_of_usize(i) * 20.0
 }
 
-// The height at a distance between the last road point and the next, held to 16 bits.
-fn height_at(m: Mark, at: f32, distance: f32, z: i32) -> i16
-    ensures { λ r. ⌜ r ≡ Samples.heightAt m at distance z ⌝ }
+// A height held to 16 bits.
+fn held(value: f32) -> i16
+    ensures { λ r. ⌜ r ≡ Samples.held value ⌝ }
 {
-    let span = distance - m.distance;
-    if span > 0.0 {
-        let rise = num::convert::f32_of_i64((z as i64) - (m.z as i64));
-        let value = num::convert::f32_of_i32(m.z) + rise * (at - m.distance) / span;
-        return num::cast::i16_of_f32(num::order::clamp(value, -32768.0, 32767.0));
+    num::cast::i16_of_f32(num::order::clamp(value, -32768.0, 32767.0))
+}
+
+// The samples on the straight line from one road point to the next, `span` metres on.
+fn sloped(
+    first: usize,
+    heights: &mut [i16],
+    distance: f32,
+    base: f32,
+    rise: f32,
+    from: f32,
+    span: f32,
+) -> usize
+    ensures { λ r. ⌜ r ≡ Samples.filled (Samples.slope base rise from span) (length (now (heights .entry)) - first) distance first (now (heights .entry)) .len ⌝ }
+    ensures { λ r. ⌜ now (heights .exit) ≡ Samples.filled (Samples.slope base rise from span) (length (now (heights .entry)) - first) distance first (now (heights .entry)) .heights ⌝ }
+{
+    let mut len = first;
+    while len < heights.len() {
+        let at = sample_at(len);
+        if at > distance {
+            return len;
+        }
+        heights[len] = held(base + rise * (at - from) / span);
+        len += 1;
     }
-    num::cast::i16_of_f32(num::order::clamp(num::convert::f32_of_i32(z), -32768.0, 32767.0))
+    len
+}
+
+// The samples of a road point that lies where the last one does.
+fn level(first: usize, heights: &mut [i16], distance: f32, height: i16) -> usize
+    ensures { λ r. ⌜ r ≡ Samples.filled (λ (_ : Float). height) (length (now (heights .entry)) - first) distance first (now (heights .entry)) .len ⌝ }
+    ensures { λ r. ⌜ now (heights .exit) ≡ Samples.filled (λ (_ : Float). height) (length (now (heights .entry)) - first) distance first (now (heights .entry)) .heights ⌝ }
+{
+    let mut len = first;
+    while len < heights.len() {
+        let at = sample_at(len);
+        if at > distance {
+            return len;
+        }
+        heights[len] = height;
+        len += 1;
+    }
+    len
 }
 
 // The samples up to a road point written, as far as there is room, and the mark that stands at it: `push` on values.
@@ -28,15 +67,14 @@ fn pushed(m: Mark, heights: &mut [i16], distance: f32, z: i32) -> Mark
     ensures { λ r. ⌜ r ≡ Samples.pushed m (now (heights .entry)) distance z .mark ⌝ }
     ensures { λ r. ⌜ now (heights .exit) ≡ Samples.pushed m (now (heights .entry)) distance z .heights ⌝ }
 {
-    let mut len = m.len;
-    while len < heights.len() {
-        let at = sample_at(len);
-        if at > distance {
-            return Mark { len, distance, z };
-        }
-        heights[len] = height_at(m, at, distance, z);
-        len += 1;
+    let span = distance - m.distance;
+    if span > 0.0 {
+        let rise = num::convert::f32_of_i64((z as i64) - (m.z as i64));
+        let base = num::convert::f32_of_i32(m.z);
+        let len = sloped(m.len, heights, distance, base, rise, m.distance, span);
+        return Mark { len, distance, z };
     }
+    let len = level(m.len, heights, distance, held(num::convert::f32_of_i32(z)));
     Mark { len, distance, z }
 }
 

@@ -1,102 +1,97 @@
--- `predict::samples::pushed` meets its contract. The loop's invariant: what is written from here on ends as what is written from the start.
+-- `predict::samples::pushed` meets its contract: by whether the road point lies beyond the last one. A difference of two i32 fits 64 bits, and the
+-- literal is read as a whole number.
 use Prim.Native.Nat.{_-_}
-use mathlib.Core.Path.{_≡_, refl, sym, ap, _∙_}
-use native.Mathlib.Omega.{arith}
-use lib.ListN.{length, length-set}
-use mir.Facts.{toZ-ofZ}
+use mathlib.Core.Path.{sym, ap, _∙_}
+use lib.ListN.{length}
+use denote.Ref.{now}
 use mir.Syntax.{w16, w32}
-use mir.Val.{ofZ, toZ}
+use mir.Facts.{toZ-ofZ}
 use borrow.Author.Needs.{needs}
-use Rattle.predict.specs.Samples.{Pushed, heightAt, sampleAt, pushFrom, pushed}
-use Rattle.predict.proofs.Signed.{got}
-use Rattle.predict.proofs.SampleTurns.{push-out, push-stop, push-on}
+use Rattle.predict.specs.Samples.{Pushed}
+use Rattle.predict.proofs.Signed.{sf, got, widens, gap-fits, gap-is}
+use Rattle.predict.proofs.SampleLiterals.{literal-0}
+use Rattle.predict.proofs.SampleTurns.{push-slope, push-level}
 use Rattle.predict.proofs.samples.pushed.Statement.{statement}
 use Rattle.predict.proofs.samples.pushed.Tie as tie
 
-abbrev Inv-loop : tie.InvT-loop
-Inv-loop m heights₀ distance z len₀ heights len =
-    (length heights ≡ length heights₀)
-    × (pushFrom (length heights - len) m distance (toZ w32 z) len heights ≡ pushed m heights₀ distance (toZ w32 z))
+cast-f32-of-i64 : tie.Need-cast-f32-of-i64
+cast-f32-of-i64 c = widens (c .before .before .fits .z)
 
-abbrev μ-loop : tie.MeasureT-loop
-μ-loop m heights₀ distance z len₀ heights len = length heights₀ - len
+cast-f32-of-i64-2 : tie.Need-cast-f32-of-i64-2
+cast-f32-of-i64-2 c = widens (sf w32 (c .before .before .before .before .args .m .z) (c .struct-told .given .1 .1 .0 .1))
 
-loop-holds : tie.Need-loop-holds Inv-loop μ-loop
-loop-holds c = (refl, refl)
-
-sample-at-requires : tie.Need-sample-at-requires Inv-loop μ-loop
-sample-at-requires c κs = tt
-
-same-length : tie.Need-same-length Inv-loop μ-loop
-same-length c = omega arith
-
-returns : tie.Need-returns Inv-loop μ-loop
-returns c =
+sub-f32-of-i64 : tie.Need-sub-f32-of-i64
+sub-f32-of-i64 c =
     let start = c .before .before .before .before in
+    gap-fits (start .fits .z) (sf w32 (start .args .m .z) (c .struct-told .given .1 .1 .0 .1))
+
+f32-of-i64-requires : tie.Need-f32-of-i64-requires
+f32-of-i64-requires c κs = tt
+
+f32-of-i32-requires : tie.Need-f32-of-i32-requires
+f32-of-i32-requires c κs = tt
+
+sloped-requires : tie.Need-sloped-requires
+sloped-requires c κs = tt
+
+same-length : tie.Need-same-length
+same-length c = search needs
+
+returns : tie.Need-returns
+returns c =
+    let rise = c .before .before .before .before .before in
+    let beyond = rise .before .before .before in
+    let start = beyond .before .before in
     let args = start .args in
-    let l = c .before .before .before .loop in
-    let past = rw (c .before .sample-at .ensures) at (c .if1 .taken) in
-    let stop = push-stop (args .m) (args .distance) (toZ w32 (ofZ w32 (args .z))) _ (l .len) (l .heights) past in
-    let e = rw (toZ-ofZ (start .fits .z)) at (sym stop ∙ l .inv .1) in
-    rw (toZ-ofZ (start .fits .z)) (ap (λ (p : Pushed). p .mark) e, ap (λ (p : Pushed). p .heights) e)
-
-height-at-requires : tie.Need-height-at-requires Inv-loop μ-loop
-height-at-requires c κs = tt
-
-mul-t7 : tie.Need-mul-t7 Inv-loop μ-loop
-mul-t7 c = search needs
-
-slice-set-from-heights : tie.Need-slice-set-from-heights Inv-loop μ-loop
-slice-set-from-heights c = search needs
-
-add-len : tie.Need-add-len Inv-loop μ-loop
-add-len c = search needs
-
-loop-less : tie.Need-loop-less Inv-loop μ-loop
-loop-less c = omega (arith, c .before .before .before .before .loop .inv .0)
-
-loop-again : tie.Need-loop-again Inv-loop μ-loop
-loop-again c =
-    let args = c .before .before .before .before .before .args in
-    let l = c .before .before .before .before .loop in
-    let z = toZ w32 (ofZ w32 (args .z)) in
-    let sample = c .before .before in (
-      omega (arith, l .inv .0, length-set (l .heights) (l .len) (toZ w16 (ofZ w16 (c .height-at .result)))),
-      rw (got w16 (c .height-at .ok), c .height-at .ensures, sample .sample-at .ensures)
-          (push-on (args .m) (args .distance) z _ _ (l .len) (l .heights)
-          (omega (arith, length-set (l .heights) (l .len) (heightAt (args .m) (sampleAt (l .len)) (args .distance) z)))
-          (rw (← sample .sample-at .ensures) (c .before .if1 .left))
-          ∙ l .inv .1),
+    let hs = now (args .heights) in
+    let from = sf w32 (args .m .z) (rise .before .struct-told .given .1 .1 .0 .1) in
+    let written =
+    rw (c .before .before .before .f32-of-i32 .ensures, rise .f32-of-i64 .ensures, gap-is (start .fits .z) from, toZ-ofZ from) at (c .before .sloped .ensures) in
+    let e = push-slope (args .m) (args .distance) (args .z) (rw literal-0 at (beyond .if1 .taken)) (length hs - args .m .len) (args .m .len) hs in (
+      rw (toZ-ofZ (start .fits .z), written .0) (ap (λ (p : Pushed). p .mark) (sym e)),
+      written .1 ∙ ap (λ (p : Pushed). p .heights) (sym e),
     )
 
-same-length-2 : tie.Need-same-length-2 Inv-loop μ-loop
-same-length-2 c = omega arith
+f32-of-i32-requires-2 : tie.Need-f32-of-i32-requires-2
+f32-of-i32-requires-2 c κs = tt
 
-returns-2 : tie.Need-returns-2 Inv-loop μ-loop
+held-requires : tie.Need-held-requires
+held-requires c κs = tt
+
+level-requires : tie.Need-level-requires
+level-requires c κs = tt
+
+same-length-2 : tie.Need-same-length-2
+same-length-2 c = search needs
+
+returns-2 : tie.Need-returns-2
 returns-2 c =
-    let start = c .before .before in
+    let height = c .before .before in
+    let there = height .before .before .before in
+    let start = there .before .before in
     let args = start .args in
-    let l = c .before .loop in
-    let e =
-    rw (toZ-ofZ (start .fits .z)) at
-    (sym (push-out (args .m) (args .distance) (toZ w32 (ofZ w32 (args .z))) _ (l .len) (l .heights) (omega arith)) ∙ l .inv .1) in
-    rw (toZ-ofZ (start .fits .z)) (ap (λ (p : Pushed). p .mark) e, ap (λ (p : Pushed). p .heights) e)
+    let hs = now (args .heights) in
+    let written =
+    rw (got w16 (height .held .ok), height .held .ensures, height .before .f32-of-i322 .ensures, toZ-ofZ (start .fits .z)) at (c .before .level .ensures) in
+    let e = push-level (args .m) (args .distance) (args .z) (rw literal-0 at (there .if1 .left)) (length hs - args .m .len) (args .m .len) hs in (
+      rw (toZ-ofZ (start .fits .z), written .0) (ap (λ (p : Pushed). p .mark) (sym e)),
+      written .1 ∙ ap (λ (p : Pushed). p .heights) (sym e),
+    )
 
 pub pushed-spec : {M : Type 1} → statement M
 pushed-spec =
     tie.close
     (tie.spec
-    Inv-loop
-    μ-loop
-    loop-holds
-    sample-at-requires
+    cast-f32-of-i64
+    cast-f32-of-i64-2
+    sub-f32-of-i64
+    f32-of-i64-requires
+    f32-of-i32-requires
+    sloped-requires
     same-length
     returns
-    height-at-requires
-    mul-t7
-    slice-set-from-heights
-    add-len
-    loop-less
-    loop-again
+    f32-of-i32-requires-2
+    held-requires
+    level-requires
     same-length-2
     returns-2)
