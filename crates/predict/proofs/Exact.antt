@@ -41,13 +41,12 @@ use Rattle.cache.specs.Direct.{Look, ready, missing, absent, stale}
 use Rattle.cache.specs.Reader.{Reader}
 use Rattle.cache.specs.declared.victim.Found.the-variants as Found
 use Rattle.matcher.specs.declared.Heading.the-variants as Heading
-use Rattle.predict.specs.declared.Passed.{Passed}
 use Rattle.predict.specs.declared.History.{History}
 use Rattle.predict.specs.declared.Track.{Track}
 use Rattle.predict.specs.declared.Trip.{Trip}
 use Rattle.predict.specs.declared.outgoing.Leg.{Leg}
 use Rattle.predict.specs.Outgoing.{lastOf}
-use Rattle.predict.specs.Incoming.{first, push, shifted, noPoint, passedAt, backPart, backBy}
+use Rattle.predict.specs.Incoming.{first, shifted, kept, push, pointAt, distanceAt, backPart, backBy}
 use Rattle.predict.specs.Vertex.{Along, nodeAt, stepOf, reached, passed, advanced, vertexStep, vertices, toEnd}
 use Rattle.predict.specs.declared.End.the-variants as End
 use Rattle.predict.specs.declared.Ending.{Ending}
@@ -234,71 +233,67 @@ module _ (h : Header) (bs : List ℕ) (bytes : (i : ℕ) → getD bs i 0 < 256) 
 
 -- ---- the points passed
 
--- every element of a list has Q
-abbrev Every : (Passed → Type 0) → List Passed → Type 0
-Every Q [] = Unit
-Every Q (x ∷ xs) = Q x × Every Q xs
+-- every element of a list is near
+abbrev EachNear : List ℤ → Type 0
+EachNear [] = Unit
+EachNear (z ∷ zs) = Near z × EachNear zs
 
-module _ (Q : Passed → Type 0) where
-  every-at : (l : List Passed) (i : ℕ) (d : Passed) → Every Q l → Q d → Q (getD l i d)
-  every-at [] i d all none = none
-  every-at (x ∷ xs) zero d all none = all .0
-  every-at (x ∷ xs) (suc i) d all none = every-at xs i d (all .1) none
+zero-near : Near (pos 0)
+zero-near = record { most = omega arith; least = omega arith }
 
-  every-same : (n : ℕ) (x : Passed) → Q x → Every Q (replicate n x)
-  every-same zero x q = tt
-  every-same (suc n) x q = (q, every-same n x q)
+at-near : (l : List ℤ) (i : ℕ) → EachNear l → Near (getD l i (pos 0))
+at-near [] i all = zero-near
+at-near (z ∷ zs) zero all = all .0
+at-near (z ∷ zs) (suc i) all = at-near zs i (all .1)
 
-  every-set : (l : List Passed) (i : ℕ) (x : Passed) → Every Q l → Q x → Every Q (set l i x)
-  every-set [] i x all q = tt
-  every-set (y ∷ ys) zero x all q = (q, all .1)
-  every-set (y ∷ ys) (suc i) x all q = (all .0, every-set ys i x (all .1) q)
+same-near : (n : ℕ) (z : ℤ) → Near z → EachNear (replicate n z)
+same-near zero z near = tt
+same-near (suc n) z near = (near, same-near n z near)
 
-  every-take : (n : ℕ) (l : List Passed) → Every Q l → Every Q (take n l)
-  every-take zero l all = tt
-  every-take (suc n) [] all = tt
-  every-take (suc n) (x ∷ xs) all = (all .0, every-take n xs (all .1))
+set-near : (l : List ℤ) (i : ℕ) (z : ℤ) → EachNear l → Near z → EachNear (set l i z)
+set-near [] i z all near = tt
+set-near (y ∷ ys) zero z all near = (near, all .1)
+set-near (y ∷ ys) (suc i) z all near = (all .0, set-near ys i z (all .1) near)
 
-  every-drop : (n : ℕ) (l : List Passed) → Every Q l → Every Q (drop n l)
-  every-drop zero l all = all
-  every-drop (suc n) [] all = tt
-  every-drop (suc n) (x ∷ xs) all = every-drop n xs (all .1)
+take-near : (n : ℕ) (l : List ℤ) → EachNear l → EachNear (take n l)
+take-near zero l all = tt
+take-near (suc n) [] all = tt
+take-near (suc n) (z ∷ zs) all = (all .0, take-near n zs (all .1))
 
-  every-append : (a b : List Passed) → Every Q a → Every Q b → Every Q (a ++ b)
-  every-append [] b p q = q
-  every-append (x ∷ xs) b p q = (p .0, every-append xs b (p .1) q)
+drop-near : (n : ℕ) (l : List ℤ) → EachNear l → EachNear (drop n l)
+drop-near zero l all = all
+drop-near (suc n) [] all = tt
+drop-near (suc n) (z ∷ zs) all = drop-near n zs (all .1)
+
+append-near : (a b : List ℤ) → EachNear a → EachNear b → EachNear (a ++ b)
+append-near [] b p q = q
+append-near (z ∷ zs) b p q = (p .0, append-near zs b (p .1) q)
+
+kept-near : (l : List ℤ) (n : ℕ) (z : ℤ) → EachNear l → Near z → EachNear (kept l n z)
+unfolding kept shifted
+kept-near l n z all near = by (ltb n 16)
+  where
+    by : (t : Bool) → EachNear (cond t (set l n z) (set (drop 1 (take 16 l) ++ drop 15 l) 15 z))
+    by true = set-near l n z all near
+    by false =
+        set-near (drop 1 (take 16 l) ++ drop 15 l) 15 z
+        (append-near (drop 1 (take 16 l)) (drop 15 l) (drop-near 1 (take 16 l) (take-near 16 l all)) (drop-near 15 l all))
+        near
 
 -- a history of places of the grid
 abbrev pub AllNear : History → Type 0
-AllNear h = Every (λ (p : Passed). NearBy (p .point)) (h .v)
-
-no-point-near : NearBy noPoint
-no-point-near = record { lat = record { most = omega arith; least = omega arith }; lon = record { most = omega arith; least = omega arith } }
+AllNear h = EachNear (h .lats) × EachNear (h .lons)
 
 pub first-near : (p : Point) → NearBy p → AllNear (first p)
-first-near p near = every-same (λ (x : Passed). NearBy (x .point)) 16 (record { point = p; distance = whole 0 }) near
+first-near p near = (same-near 16 (p .lat) (near .lat), same-near 16 (p .lon) (near .lon))
 
 pub push-near : (h : History) (p : Point) (distance : Float) → AllNear h → NearBy p → AllNear (push h p distance)
-unfolding push shifted
-push-near h p distance all near = by (ltb (h .len) 16)
-  where
-    Q : Passed → Type 0
-    Q x = NearBy (x .point)
+unfolding push
+push-near h p distance all near =
+    (kept-near (h .lats) (h .len) (p .lat) (all .0) (near .lat), kept-near (h .lons) (h .len) (p .lon) (all .1) (near .lon))
 
-    one : Passed
-    one = record { point = p; distance = distance }
-
-    by : (t : Bool)
-        → AllNear (cond {A = History} t (record { v = set (h .v) (h .len) one; len = h .len + 1 })
-        (record { v = set (drop 1 (take 16 (h .v)) ++ drop 15 (h .v)) 15 one; len = h .len }))
-    by true = every-set Q (h .v) (h .len) one all near
-    by false =
-        every-set Q (drop 1 (take 16 (h .v)) ++ drop 15 (h .v)) 15 one
-        (every-append Q (drop 1 (take 16 (h .v))) (drop 15 (h .v)) (every-drop Q 1 (take 16 (h .v)) (every-take Q 16 (h .v) all)) (every-drop Q 15 (h .v) all))
-        near
-
-passed-near : (h : History) (i : ℕ) → AllNear h → NearBy (passedAt h i .point)
-passed-near h i all = every-at (λ (x : Passed). NearBy (x .point)) (h .v) i (record { point = noPoint; distance = whole 0 }) all no-point-near
+passed-near : (h : History) (i : ℕ) → AllNear h → NearBy (pointAt h i)
+passed-near h i all = record { lat = at-near (h .lats) i (all .0); lon = at-near (h .lons) i (all .1) }
 
 zero-part : IsPart (whole 0)
 unfolding ofInt le lt eq
@@ -317,10 +312,10 @@ back-part from to distance = by (lt from to)
 -- the point 25 m back along the road
 pub back-exact : (h : History) (i : ℕ) (distance : Float) → AllNear h
     → backBy (Found.At i) h distance
-    ≡ plainBetween (passedAt h i .point) (passedAt h (i + 1) .point) (backPart (passedAt h i .distance) (passedAt h (i + 1) .distance) distance)
+    ≡ plainBetween (pointAt h i) (pointAt h (i + 1)) (backPart (distanceAt h i) (distanceAt h (i + 1)) distance)
 back-exact h i distance all =
-    between-exact (passedAt h i .point) (passedAt h (i + 1) .point) (backPart (passedAt h i .distance) (passedAt h (i + 1) .distance) distance)
-    (passed-near h i all) (passed-near h (i + 1) all) (back-part (passedAt h i .distance) (passedAt h (i + 1) .distance) distance)
+    between-exact (pointAt h i) (pointAt h (i + 1)) (backPart (distanceAt h i) (distanceAt h (i + 1)) distance)
+    (passed-near h i all) (passed-near h (i + 1) all) (back-part (distanceAt h i) (distanceAt h (i + 1)) distance)
 
 -- ---- along an edge of a tile of the grid
 

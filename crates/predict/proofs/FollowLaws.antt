@@ -1,4 +1,4 @@
--- The turns of the edge loop of `follow`. One edge is the definition's: where the walk ends on it (`step-ended`), at its horizon
+-- The turns of the edge loop of `edges`. One edge is the definition's: where the walk ends on it (`step-ended`), at its horizon
 -- (`step-over`) and at its junction (`step-on`), by the points of the leg (`points-on`, `points-over`). A walk that ended is the whole
 -- (`walk-whole`). The idea: an edge that a walk goes on along was answered with bytes, and the points stay as they are once the road is over.
 use Prim.Native.Nat.{ℕ, _+_, _-_, _<_, _≤_}
@@ -7,6 +7,7 @@ use mathlib.Core.Bool.{Bool, true, false, cond, true≢false}
 use mathlib.Core.List.{List}
 use native.Mathlib.Omega.{arith}
 use lib.IntN.{ℤ}
+use lib.Ieee.{Float}
 use Rattle.tile.specs.Layout as Layout
 use Rattle.tile.specs.declared.Head.{Head}
 use Rattle.cache.specs.declared.Lookup.{Lookup}
@@ -17,18 +18,16 @@ use Rattle.cache.specs.Reader.{Reader, inBytes, inLooks}
 use Rattle.predict.specs.declared.outgoing.Leg.{Leg}
 use Rattle.predict.specs.declared.Track.{Track}
 use Rattle.predict.specs.declared.Trip.{Trip}
-use Rattle.predict.specs.Vertex.{Along, advanced, vertices, toEnd}
-use Rattle.predict.proofs.VertexLaws.{vertices-start, vertices-on, vertices-over}
+use Rattle.predict.specs.Vertex.{Along, advanced, vertices, toEnd, trackOf}
+use Rattle.predict.proofs.VertexLaws.{alongOf, vertices-start, vertices-on, vertices-over}
 use Rattle.predict.specs.declared.Walk.{Walk}
 use Rattle.predict.specs.Walk.{withEnding, reached, Onto, enterLook, carriedBy, Stride, Run, goesOn, legOf, along}
 use Rattle.predict.specs.Walk.{runOf, crossedRun, reachedRun, drivenTo, driven, edgeLook, edgeStep, walkTo}
-use Rattle.predict.specs.Walk.{firstOf, lenOf, Entering, enteringOf, enter, crossed, follow, followed}
+use Rattle.predict.specs.Walk.{firstOf, lenOf, Entering, enteringOf, enter, crossed, follow, followed, went}
 use Rattle.predict.specs.declared.Followed.{Followed}
+use Rattle.predict.specs.declared.Went.{Went}
 use Rattle.predict.proofs.Looks.{look-carried}
 use Rattle.predict.proofs.WalkLaws.{walk-turn, walk-stays}
-
-abbrev pub alongOf : Track → List ℤ → Along
-alongOf t hs = record { track = t; heights = hs }
 
 -- ---- the points of a leg
 
@@ -38,13 +37,12 @@ module _ (trip : Trip) (leg : Leg) (bs : List ℕ) (lonUm from : ℕ) (a : Along
 
   -- point i, where the road isn't over
   pub points-on : (i : ℕ) (t : Track) (hs : List ℤ) → from ≤ i → t .over ≡ false → alongOf t hs ≡ vertices trip leg bs lonUm from a (i - from)
-      → (u : Track) (ks : List ℤ) → u ≡ advanced trip leg bs lonUm t i hs .track → ks ≡ advanced trip leg bs lonUm t i hs .heights
-      → alongOf u ks ≡ vertices trip leg bs lonUm from a (i + 1 - from)
-  points-on i t hs h on e u ks moves fills =
+      → (b : Along) → b ≡ advanced trip leg bs lonUm t i hs → b ≡ vertices trip leg bs lonUm from a (i + 1 - from)
+  points-on i t hs h on e b moves =
       let same : from + (i - from) ≡ i = omega arith in
       let next : i + 1 - from ≡ i - from + 1 = omega arith in
-      let turn = vertices-on trip leg bs lonUm from a (i - from) (ap (λ (b : Along). b .track .over) (sym e) ∙ on) in
-      rw (moves, fills, next) (sym (rw (same, ← e) at turn))
+      let turn = vertices-on trip leg bs lonUm from a (i - from) (ap (λ (x : Along). x .track .over) (sym e) ∙ on) in
+      rw (moves, next) (sym (rw (same, ← e) at turn))
 
   -- and once it is
   pub points-over : (b : Along) (k n : ℕ) → b ≡ vertices trip leg bs lonUm from a k → b .track .over ≡ true → k ≤ n
@@ -161,21 +159,53 @@ module _ (arena : List ℕ) (trip : Trip) (budget : ℕ) where
     walk-whole ends h =
         walk-on ∙ sym (walk-stays rd trip budget start (n + 1) 2000 (ap (λ (r : Run (List ℕ)). goesOn (r .walk .ending)) (sym walk-on) ∙ ends) (omega arith))
 
-  -- what the code gives back
-  pub follow-is : (o : Onto) (k : Track) (looks : List ℕ) (hs : List ℤ) (y : Run (List ℕ)) → y ≡ walkTo rd trip budget (runOf o k looks hs) 2000
-      → (_≡_ {A = Followed} (record { walk = y .walk; track = y .track }) (followed (follow looks (o .visited) (o .met) arena trip budget (o .walk) k hs)))
+  -- what the code gives back, and leaves in the lists that it is lent
+  pub edges-is : (o : Onto) (k : Track) (looks : List ℕ) (hs : List ℤ) (y : Run (List ℕ)) → y ≡ walkTo rd trip budget (runOf o k looks hs) 2000
+      → (went y ≡ went (follow looks (o .visited) (o .met) arena trip budget (o .walk) k hs))
       × ((y .carried ≡ follow looks (o .visited) (o .met) arena trip budget (o .walk) k hs .carried)
       × ((y .visited ≡ follow looks (o .visited) (o .met) arena trip budget (o .walk) k hs .visited)
       × ((y .met ≡ follow looks (o .visited) (o .met) arena trip budget (o .walk) k hs .met)
-      × (y .heights ≡ follow looks (o .visited) (o .met) arena trip budget (o .walk) k hs .heights))))
+      × ((y .heights ≡ follow looks (o .visited) (o .met) arena trip budget (o .walk) k hs .heights)
+      × ((y .track .history .lats ≡ follow looks (o .visited) (o .met) arena trip budget (o .walk) k hs .track .history .lats)
+      × ((y .track .history .lons ≡ follow looks (o .visited) (o .met) arena trip budget (o .walk) k hs .track .history .lons)
+      × (y .track .history .distances ≡ follow looks (o .visited) (o .met) arena trip budget (o .walk) k hs .track .history .distances)))))))
   unfolding follow
-  follow-is o k looks hs y e = (
-    ap followed e,
+  edges-is o k looks hs y e = (
+    ap went e,
     (
       ap (λ (r : Run (List ℕ)). r .carried) e,
-      (ap (λ (r : Run (List ℕ)). r .visited) e, (ap (λ (r : Run (List ℕ)). r .met) e, ap (λ (r : Run (List ℕ)). r .heights) e)),
+      (
+        ap (λ (r : Run (List ℕ)). r .visited) e,
+        (
+          ap (λ (r : Run (List ℕ)). r .met) e,
+          (
+            ap (λ (r : Run (List ℕ)). r .heights) e,
+            (
+              ap (λ (r : Run (List ℕ)). r .track .history .lats) e,
+              (ap (λ (r : Run (List ℕ)). r .track .history .lons) e, ap (λ (r : Run (List ℕ)). r .track .history .distances) e),
+            ),
+          ),
+        ),
+      ),
     ),
   )
+
+-- the track made whole again
+pub followed-is : (y : Run (List ℕ)) (g : Went) (lats lons : List ℤ) (ds : List Float) → g ≡ went y
+    → lats ≡ y .track .history .lats
+    → lons ≡ y .track .history .lons
+    → ds ≡ y .track .history .distances
+    → _≡_ {A = Followed} (record { walk = g .walk; track = trackOf (g .course) lats lons ds }) (followed y)
+followed-is y g lats lons ds e p q r = λ i. record {
+  walk = e i .walk;
+  track = record {
+    here = e i .course .here;
+    distance = e i .course .distance;
+    mark = e i .course .mark;
+    history = record { lats = p i; lons = q i; distances = r i; len = e i .course .len };
+    over = e i .course .over;
+  };
+}
 
 pub reached-ends : (m v : Walk) → m ≡ reached v → goesOn (m .ending) ≡ false
 unfolding reached withEnding

@@ -10,8 +10,7 @@ pub mod SampleTurns
 pub mod CostLiterals
 pub mod WayLaws
 -- Laws of the track, for its proofs and for callers to cite.
--- TrackLaws: what stands past the points passed last, and the highest number that has a property, looked for downward. Shift: a list whose places
--- take the next one's. Turns: a loop whose step does nothing any more. SpotLaws: where the points of a leg stand. VertexLaws, BackLaws: the points of a leg one after the other, ahead and
+-- TrackLaws: the highest number that has a property, looked for downward. Shift: a list whose places take the next one's. Turns: a loop whose step does nothing any more. SpotLaws: where the points of a leg stand. VertexLaws, BackLaws: the points of a leg one after the other, ahead and
 -- back.
 pub mod TrackLaws
 pub mod Shift

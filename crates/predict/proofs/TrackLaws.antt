@@ -1,18 +1,12 @@
--- What stands past the points passed last; and the highest number below a bound that has a property, found from above: the end of the loop, its
--- hit and its turn, and that a number found lies below the bound. Each is one step of the recursion.
+-- The highest number below a bound that has a property, found from above: the end of the loop, its hit and its turn, and that a number found
+-- lies below the bound. Each is one step of the recursion.
 use Prim.Native.Nat.{ℕ, zero, suc, _+_, _<_}
 use mathlib.Core.Path.{_≡_, refl}
 use mathlib.Core.Bool.{Bool, true, false, cond}
 use native.Mathlib.Omega.{arith}
 use Rattle.cache.specs.declared.victim.Found.{Found}
 use Rattle.cache.specs.declared.victim.Found.the-variants as Found
-use Rattle.geo.specs.Flat.{whole}
-use Rattle.predict.specs.declared.Passed.{Passed}
-use Rattle.predict.specs.Incoming.{noPoint, highest}
-
--- what `passedAt` answers past the last place
-abbrev pub unpassed : Passed
-unpassed = record { point = noPoint; distance = whole 0 }
+use Rattle.predict.specs.Incoming.{highest}
 
 found-same : {i j : ℕ} → Found.At i ≡ Found.At j → i ≡ j
 found-same e = cc

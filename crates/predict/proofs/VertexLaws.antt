@@ -1,23 +1,26 @@
 -- The points of a leg one after the other, for a caller that follows a leg in its own loop: none is the start, one more is `advanced` as long
 -- as the road isn't over, and then nothing changes any more; and the heights keep their length. The idea: `vertices` is a loop by index, and
--- all that is ever done to the heights is a store.
+-- all that is ever done to the heights is a store. `Left` is what the code leaves of a track, and `advanced-reach` and `advanced-pass` are its two
+-- ways on.
 use Prim.Native.Nat.{ℕ, zero, suc, _+_, _-_, _<_, _≤_}
-use mathlib.Core.Path.{_≡_, refl, _∙_}
+use mathlib.Core.Path.{_≡_, refl, ap, _∙_}
 use mathlib.Core.Bool.{Bool, true, false, cond}
-use mathlib.Core.List.{List}
+use mathlib.Core.List.{List, []}
 use lib.IntN.{ℤ}
 use lib.Ieee.{Float, binary32, add, lt, le}
 use lib.ListN.{length, set, length-set}
 use Rattle.num.proofs.FoldLaws.{up-start, up-turn, up-keeps}
 use Rattle.geo.specs.declared.Point.{Point}
 use Rattle.geo.specs.Points as Points
+use Rattle.tile.specs.declared.Node.{Node}
+use Rattle.predict.specs.declared.Course.{Course}
 use Rattle.predict.specs.declared.Mark.{Mark}
 use Rattle.predict.specs.Samples.{Pushed, sampleAt, heightAt, stopped, pushFrom, pushed}
 use Rattle.predict.specs.declared.outgoing.Leg.{Leg}
 use Rattle.predict.specs.declared.Trip.{Trip}
 use Rattle.predict.specs.declared.Track.{Track}
 use Rattle.predict.specs.Start.{less}
-use Rattle.predict.specs.Vertex.{Along, nodeAt, stepOf, reached, passed, advancedTo, advanced, vertexStep, vertices}
+use Rattle.predict.specs.Vertex.{Along, nodeAt, stepOf, reached, passed, advancedTo, advanced, vertexStep, vertices, trackOf, courseOf}
 use Rattle.predict.proofs.Turns.{up-stays}
 
 -- ---- the heights keep their length
@@ -88,3 +91,60 @@ module _ (trip : Trip) (leg : Leg) (bs : List ℕ) (lonUm : ℕ) where
         up-keeps (vertexStep trip leg bs lonUm from) a (λ (b : Along). length (b .heights) ≡ length (a .heights)) n refl
         (λ (i : ℕ) (h : i < n) (b : Along) (e : length (b .heights) ≡ length (a .heights)).
         either-along (b .track .over) b _ _ e (advanced-length (b .track) (from + i) (b .heights) ∙ e))
+
+-- ---- as the code has a track: a course, and the three lists of its history beside it
+
+abbrev pub alongOf : Track → List ℤ → Along
+alongOf t hs = record { track = t; heights = hs }
+
+-- a course given back, the heights, latitudes, longitudes and distances left
+abbrev pub Left : Along → Course → List ℤ → List ℤ → List ℤ → List Float → Type 0
+Left a c hs lats lons ds =
+    (c ≡ courseOf (a .track))
+    × ((hs ≡ a .heights)
+    × ((lats ≡ a .track .history .lats) × ((lons ≡ a .track .history .lons) × (ds ≡ a .track .history .distances))))
+
+module _ (a : Along) (c : Course) (hs lats lons : List ℤ) (ds : List Float) where
+  pub left-whole : Left a c hs lats lons ds → alongOf (trackOf c lats lons ds) hs ≡ a
+  left-whole e = λ i. record {
+    track = record {
+      here = e .0 i .here;
+      distance = e .0 i .distance;
+      mark = e .0 i .mark;
+      history = record { lats = e .1 .1 .0 i; lons = e .1 .1 .1 .0 i; distances = e .1 .1 .1 .1 i; len = e .0 i .len };
+      over = e .0 i .over;
+    };
+    heights = e .1 .0 i;
+  }
+
+  pub left-parts : alongOf (trackOf c lats lons ds) hs ≡ a → Left a c hs lats lons ds
+  left-parts e = (
+    ap (λ (x : Along). courseOf (x .track)) e,
+    (
+      ap (λ (x : Along). x .heights) e,
+      (
+        ap (λ (x : Along). x .track .history .lats) e,
+        (ap (λ (x : Along). x .track .history .lons) e, ap (λ (x : Along). x .track .history .distances) e),
+      ),
+    ),
+  )
+
+-- point number i, as the code comes to it
+module _ (trip : Trip) (leg : Leg) (bs : List ℕ) (lonUm : ℕ) (t : Course) (lats lons : List ℤ) (ds : List Float) (i : ℕ) (hs : List ℤ)
+    {node : Node} {point : Point} {z : ℤ} {step : Float} (nodes : node ≡ nodeAt leg bs i)
+    (points : point ≡ Points.pointOf (leg .header) (leg .key) node) (heights : z ≡ less (Points.zDm node) (trip .«z_dm»))
+    (steps : step ≡ stepOf (t .here) point lonUm) (c : Course) (ks : List ℤ)
+  where
+    -- the horizon, up to which the history stays as it is
+    pub advanced-reach : le (trip .«horizon_m») (add binary32 (t .distance) step) ≡ true
+        → c ≡ courseOf (reached trip (trackOf t [] [] []) step z hs .track)
+        → ks ≡ reached trip (trackOf t [] [] []) step z hs .heights
+        → Left (advanced trip leg bs lonUm (trackOf t lats lons ds) i hs) c ks lats lons ds
+    unfolding advanced reached
+    advanced-reach far moves fills = rw (← nodes, ← points, ← heights, ← steps, far) (moves, (fills, (refl, (refl, refl))))
+
+    pub advanced-pass : (lats′ lons′ : List ℤ) (ds′ : List Float) → le (trip .«horizon_m») (add binary32 (t .distance) step) ≡ false
+        → Left (passed (trackOf t lats lons ds) (add binary32 (t .distance) step) point z hs) c ks lats′ lons′ ds′
+        → Left (advanced trip leg bs lonUm (trackOf t lats lons ds) i hs) c ks lats′ lons′ ds′
+    unfolding advanced
+    advanced-pass lats′ lons′ ds′ short left = rw (← nodes, ← points, ← heights, ← steps, short) left

@@ -13,33 +13,42 @@ use Rattle.cache.specs.declared.victim.Found.{Found}
 use Rattle.cache.specs.declared.victim.Found.the-variants as Found
 use Rattle.geo.specs.declared.Point.{Point}
 use Rattle.geo.specs.Flat.{whole, metresOf, lengthOf, bearingOf}
-use Rattle.predict.specs.declared.Passed.{Passed}
 use Rattle.predict.specs.declared.History.{History}
 use Rattle.predict.specs.Start.{between}
 
 -- HISTORY is 16; the rider's own place is the first point passed
 abbrev pub first : Point → History
-first point = record { v = replicate 16 (record { point = point; distance = whole 0 }); len = 1 }
+first point = record { lats = replicate 16 (point .lat); lons = replicate 16 (point .lon); distances = replicate 16 (whole 0); len = 1 }
 
--- `copy_within(1.., 0)`: each place takes the next one's point, and the last keeps its own
-unfoldable pub shifted : History → History
-shifted h = record { v = drop 1 (take 16 (h .v)) ++ drop 15 (h .v); len = h .len }
+-- `copy_within(1.., 0)`: each place takes the next one's, and the last keeps its own
+unfoldable pub shifted : {A : Type 0} → List A → List A
+shifted v = drop 1 (take 16 v) ++ drop 15 v
 
--- one point more; past the sixteenth the oldest goes
+-- one more behind n of them; past the sixteenth the oldest goes
+unfoldable pub kept : {A : Type 0} → List A → ℕ → A → List A
+kept v n x = cond (ltb n 16) (set v n x) (set (shifted v) 15 x)
+
+abbrev pub more : ℕ → ℕ
+more n = cond (ltb n 16) (n + 1) n
+
+-- one point more, latitude, longitude and distance each behind those kept
 unfoldable pub push : History → Point → Float → History
-push h point distance =
-    let p : Passed = record { point = point; distance = distance } in
-    cond (ltb (h .len) 16) (record { v = set (h .v) (h .len) p; len = h .len + 1 }) (record { v = set (shifted h .v) 15 p; len = h .len })
+push h point distance = record {
+  lats = kept (h .lats) (h .len) (point .lat);
+  lons = kept (h .lons) (h .len) (point .lon);
+  distances = kept (h .distances) (h .len) distance;
+  len = more (h .len);
+}
 
-abbrev pub noPoint : Point
-noPoint = record { lat = pos 0; lon = pos 0 }
+abbrev pub pointAt : History → ℕ → Point
+pointAt h i = record { lat = getD (h .lats) i (pos 0); lon = getD (h .lons) i (pos 0) }
 
-abbrev pub passedAt : History → ℕ → Passed
-passedAt h i = getD (h .v) i (record { point = noPoint; distance = whole 0 })
+abbrev pub distanceAt : History → ℕ → Float
+distanceAt h i = getD (h .distances) i (whole 0)
 
 -- HEADING_SPAN_M is 25
 abbrev pub isBack : History → Float → ℕ → Bool
-isBack h distance i = ltb i 16 && le (whole 25) (sub binary32 distance (passedAt h i .distance))
+isBack h distance i = ltb i 16 && le (whole 25) (sub binary32 distance (distanceAt h i))
 
 -- the highest number below n that has p
 unfoldable pub highest : (ℕ → Bool) → ℕ → Found
@@ -56,9 +65,9 @@ backPart from to distance =
     cond (lt from to) (clamp (div binary32 (sub binary32 (sub binary32 distance (whole 25)) from) (sub binary32 to from)) (whole 0) (whole 1)) (whole 0)
 
 abbrev pub backBy : Found → History → Float → Point
-backBy Found.Nothing h distance = passedAt h 0 .point
+backBy Found.Nothing h distance = pointAt h 0
 backBy (Found.At i) h distance =
-    between (passedAt h i .point) (passedAt h (i + 1) .point) (backPart (passedAt h i .distance) (passedAt h (i + 1) .distance) distance)
+    between (pointAt h i) (pointAt h (i + 1)) (backPart (distanceAt h i) (distanceAt h (i + 1)) distance)
 
 unfoldable pub backOf : History → Float → Point
 backOf h distance = backBy (backAt h distance) h distance

@@ -14,6 +14,7 @@ use Rattle.tile.specs.declared.Node.{Node}
 use Rattle.geo.specs.declared.Point.{Point}
 use Rattle.geo.specs.Points as Points
 use Rattle.geo.specs.Flat.{whole, metresOf, lengthOf}
+use Rattle.predict.specs.declared.Course.{Course}
 use Rattle.predict.specs.declared.Mark.{Mark}
 use Rattle.predict.specs.Samples.{pushed}
 use Rattle.predict.specs.declared.outgoing.Leg.{Leg}
@@ -85,3 +86,17 @@ vertices trip leg bs lonUm from a n = upTo (vertexStep trip leg bs lonUm from) a
 -- to the end of the leg
 abbrev pub toEnd : Trip → Leg → List ℕ → ℕ → ℕ → Along → Along
 toEnd trip leg bs lonUm from a = vertices trip leg bs lonUm from a (lastOf leg + 1 - from)
+
+-- ---- the code's: a track whose history stands beside it, as three lists that are lent
+
+abbrev pub trackOf : Course → List ℤ → List ℤ → List Float → Track
+trackOf c lats lons ds = record {
+  here = c .here;
+  distance = c .distance;
+  mark = c .mark;
+  history = record { lats = lats; lons = lons; distances = ds; len = c .len };
+  over = c .over;
+}
+
+abbrev pub courseOf : Track → Course
+courseOf t = record { here = t .here; distance = t .distance; mark = t .mark; len = t .history .len; over = t .over }

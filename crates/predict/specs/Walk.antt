@@ -31,7 +31,7 @@ use Rattle.predict.specs.Twins.{boundaryTwins}
 use Rattle.predict.specs.declared.Track.{Track}
 use Rattle.predict.specs.declared.Trip.{Trip}
 use Rattle.predict.specs.Incoming.{incoming}
-use Rattle.predict.specs.Vertex.{Along, toEnd}
+use Rattle.predict.specs.Vertex.{Along, toEnd, courseOf}
 use Rattle.predict.specs.declared.Arrival.{Arrival}
 use Rattle.predict.specs.declared.Crossing.{Crossing}
 use Rattle.predict.specs.declared.Decision.{Decision}
@@ -45,6 +45,7 @@ use Rattle.predict.specs.Cross.{Ways, crossOver, waysOf}
 use Rattle.predict.specs.Decide.{decide}
 use Rattle.predict.specs.declared.Walk.{Walk}
 use Rattle.predict.specs.declared.Followed.{Followed}
+use Rattle.predict.specs.declared.Went.{Went}
 use Rattle.predict.specs.declared.enter.Entered.{Entered}
 
 -- ---- a walk with one thing changed
@@ -335,3 +336,6 @@ follow looks v m arena trip budget w t hs =
 
 abbrev pub followed : Run (List ℕ) → Followed
 followed r = record { walk = r .walk; track = r .track }
+
+abbrev pub went : Run (List ℕ) → Went
+went r = record { walk = r .walk; course = courseOf (r .track) }

@@ -1,93 +1,115 @@
 // The points passed last, and the heading at the end of an edge that they give.
 use crate::History;
-use crate::Passed;
 use cache::victim::Found;
 use geo::Point;
 ghost use mathlib.Core.Path.{_≡_};
+ghost use mathlib.Core.List.{[]};
+ghost use lib.ListN.{length};
 ghost use Rattle.predict.specs.Incoming as Incoming;
 
 // The history of a road of which one point was passed.
 pub(crate) fn first(point: Point) -> History
     ensures { λ r. ⌜ r ≡ Incoming.first point ⌝ }
 {
-    let p = Passed {
-        point,
-        distance: 0.0,
-    };
-    let v = [p; 16];
-    History { v, len: 1 }
+    let lats = [point.lat; 16];
+    let lons = [point.lon; 16];
+    let distances = [0.0f32; 16];
+    History {
+        lats,
+        lons,
+        distances,
+        len: 1,
+    }
+}
+
+// Tells a proof that an array has its sixteen places, which is known of one by value alone. It does nothing, so that the copy is never made.
+fn sixteen(v: [i32; 16])
+    ensures { λ _. ⌜ length v ≡ 16 ⌝ }
+{
+}
+
+// The same of distances.
+fn sixteen_distances(v: [f32; 16])
+    ensures { λ _. ⌜ length v ≡ 16 ⌝ }
+{
 }
 
 // The oldest out, and the last place taken twice.
-fn shift(h: History) -> History
-    ensures { λ r. ⌜ r ≡ Incoming.shifted h ⌝ }
+fn shift(v: &mut [i32; 16])
+    ensures { λ _. ⌜ now (v .exit) ≡ Incoming.shifted (now (v .entry)) ⌝ }
 {
-    let mut d = h;
+    sixteen(*v);
     let mut i = 0;
     while i < 15 {
-        let p = d.v[i + 1];
-        d.v[i] = p;
+        v[i] = v[i + 1];
         i += 1;
     }
-    d
 }
 
-// One point more; past the sixteenth in the place of the oldest.
-pub(crate) fn push(h: History, point: Point, distance: f32) -> History
-    ensures { λ r. ⌜ r ≡ Incoming.push h point distance ⌝ }
+// The same of distances.
+fn shift_distances(v: &mut [f32; 16])
+    ensures { λ _. ⌜ now (v .exit) ≡ Incoming.shifted (now (v .entry)) ⌝ }
 {
-    let p = Passed { point, distance };
-    if h.len < 16 {
-        let mut d = h;
-        let at = d.len;
-        d.v[at] = p;
-        d.len = at + 1;
-        return d;
+    sixteen_distances(*v);
+    let mut i = 0;
+    while i < 15 {
+        v[i] = v[i + 1];
+        i += 1;
     }
-    let mut d = shift(h);
-    d.v[15] = p;
-    d
 }
 
-// Whether the point number `i` lies 25 m or more back along the road.
-fn is_back(h: History, i: usize, distance: f32) -> bool
-    ensures { λ r. ⌜ r ≡ Incoming.isBack h distance i ⌝ }
+// A latitude or longitude more behind `n` of them; past the sixteenth in the place of the oldest.
+pub(crate) fn keep(v: &mut [i32; 16], n: usize, x: i32)
+    ensures { λ _. ⌜ now (v .exit) ≡ Incoming.kept (now (v .entry)) n x ⌝ }
 {
-    if i < 16 {
-        let p = h.v[i];
-        return distance - p.distance >= 25.0;
+    if n < 16 {
+        v[n] = x;
+        return;
     }
-    false
+    shift(v);
+    v[15] = x;
+}
+
+// The same of a distance.
+pub(crate) fn keep_distance(v: &mut [f32; 16], n: usize, x: f32)
+    ensures { λ _. ⌜ now (v .exit) ≡ Incoming.kept (now (v .entry)) n x ⌝ }
+{
+    if n < 16 {
+        v[n] = x;
+        return;
+    }
+    shift_distances(v);
+    v[15] = x;
+}
+
+// How many they are then.
+pub(crate) fn more(n: usize) -> usize
+    ensures { λ r. ⌜ r ≡ Incoming.more n ⌝ }
+{
+    if n < 16 {
+        return n + 1;
+    }
+    n
 }
 
 // The latest point with one after it that lies 25 m or more back along the road.
-fn back_at(h: History, distance: f32) -> Found
-    ensures { λ r. ⌜ r ≡ Incoming.backAt h distance ⌝ }
+fn back_at(v: &[f32; 16], len: usize, distance: f32) -> Found
+    ensures { λ r. ⌜ r ≡ Incoming.backAt (record { lats = []; lons = []; distances = now (v .entry); len = len }) distance ⌝ }
 {
-    let n = h.len;
-    if n == 0 {
+    sixteen_distances(*v);
+    if len == 0 {
         return Found::Nothing;
     }
-    let mut i = n - 1;
+    let mut i = len - 1;
     while 0 < i {
         i -= 1;
-        if is_back(h, i, distance) {
-            return Found::At(i);
+        if i < 16 {
+            if distance - v[i] >= 25.0 {
+                return Found::At(i);
+            }
         }
     }
     Found::Nothing
-}
-
-fn passed_at(h: History, i: usize) -> Passed
-    ensures { λ r. ⌜ r ≡ Incoming.passedAt h i ⌝ }
-{
-    if i < 16 {
-        return h.v[i];
-    }
-    Passed {
-        point: Point { lat: 0, lon: 0 },
-        distance: 0.0,
-    }
 }
 
 // How far along the way from one point to the next the road 25 m back lies.
@@ -101,32 +123,63 @@ fn back_part(from: f32, to: f32, distance: f32) -> f32
     0.0
 }
 
-// The road 25 m back, on the segment that spans it; else the oldest point kept.
-fn back_of(h: History, distance: f32) -> Point
-    ensures { λ r. ⌜ r ≡ Incoming.backOf h distance ⌝ }
+fn point_at(lats: &[i32; 16], lons: &[i32; 16], i: usize) -> Point
+    ensures { λ r. ⌜ r ≡ Incoming.pointAt (record { lats = now (lats .entry); lons = now (lons .entry); distances = []; len = 0 }) i ⌝ }
 {
-    match back_at(h, distance) {
-        Found::Nothing => {
-            let oldest = passed_at(h, 0);
-            oldest.point
-        }
+    sixteen(*lats);
+    sixteen(*lons);
+    if i < 16 {
+        return Point { lat: lats[i], lon: lons[i] };
+    }
+    Point { lat: 0, lon: 0 }
+}
+
+fn distance_at(distances: &[f32; 16], i: usize) -> f32
+    ensures { λ r. ⌜ r ≡ Incoming.distanceAt (record { lats = []; lons = []; distances = now (distances .entry); len = 0 }) i ⌝ }
+{
+    sixteen_distances(*distances);
+    if i < 16 {
+        return distances[i];
+    }
+    0.0
+}
+
+// The road 25 m back, on the segment that spans it; else the oldest point kept.
+fn back_of(
+    lats: &[i32; 16],
+    lons: &[i32; 16],
+    distances: &[f32; 16],
+    len: usize,
+    distance: f32,
+) -> Point
+    ensures { λ r. ⌜ r ≡ Incoming.backOf (record { lats = now (lats .entry); lons = now (lons .entry); distances = now (distances .entry); len = len }) distance ⌝ }
+{
+    match back_at(distances, len, distance) {
+        Found::Nothing => point_at(lats, lons, 0),
         Found::At(i) => {
-            let a = passed_at(h, i);
-            let b = passed_at(h, i + 1);
             crate::start::between(
-                a.point,
-                b.point,
-                back_part(a.distance, b.distance, distance),
+                point_at(lats, lons, i),
+                point_at(lats, lons, i + 1),
+                back_part(distance_at(distances, i), distance_at(distances, i + 1), distance),
             )
         }
     }
 }
 
 // The heading at the end of an edge; where nothing was passed, the one of the approach.
-pub(crate) fn incoming(h: History, here: Point, distance: f32, lon_um: u32, approach: f32) -> f32
-    ensures { λ r. ⌜ r ≡ Incoming.incoming h here distance «lon_um» approach ⌝ }
+pub(crate) fn incoming(
+    lats: &[i32; 16],
+    lons: &[i32; 16],
+    distances: &[f32; 16],
+    len: usize,
+    here: Point,
+    distance: f32,
+    lon_um: u32,
+    approach: f32,
+) -> f32
+    ensures { λ r. ⌜ r ≡ Incoming.incoming (record { lats = now (lats .entry); lons = now (lons .entry); distances = now (distances .entry); len = len }) here distance «lon_um» approach ⌝ }
 {
-    let back = back_of(h, distance);
+    let back = back_of(lats, lons, distances, len, distance);
     let east = crate::spots::east(here.lon, back.lon, lon_um);
     let north = crate::spots::north(here.lat, back.lat);
     if geo::flat::length(east, north) > 0.0 {

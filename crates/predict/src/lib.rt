@@ -69,16 +69,21 @@ pub struct Trip {
     pub z_dm: i32,
 }
 
-// A point passed, and how far along the road it lies.
-pub(crate) struct Passed {
-    pub point: Point,
-    pub distance: f32,
+// The points passed last, at most sixteen, the oldest first, and how many they are: latitudes, longitudes, distances.
+pub(crate) struct History {
+    pub lats: [i32; 16],
+    pub lons: [i32; 16],
+    pub distances: [f32; 16],
+    pub len: usize,
 }
 
-// The points passed last, at most sixteen, the oldest first, and how many they are.
-pub(crate) struct History {
-    pub v: [Passed; 16],
+// A track but for its history, whose arrays are lent beside it.
+pub(crate) struct Course {
+    pub here: Point,
+    pub distance: f32,
+    pub mark: Mark,
     pub len: usize,
+    pub over: bool,
 }
 
 // How far the road has been followed. It is over at the horizon, or with the last sample.
@@ -159,6 +164,12 @@ pub struct Walk {
 pub(crate) struct Followed {
     pub walk: Walk,
     pub track: Track,
+}
+
+// The same, its history beside it.
+pub(crate) struct Went {
+    pub walk: Walk,
+    pub course: Course,
 }
 
 // Samples for 10 km, both ends included.

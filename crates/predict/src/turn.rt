@@ -1,9 +1,9 @@
 // From the end of an edge onto the next one.
 use crate::Arrival;
+use crate::Course;
 use crate::Crossing;
 use crate::Decision;
 use crate::Ending;
-use crate::Track;
 use crate::Walk;
 use crate::cost::Bound;
 use crate::cost::Road;
@@ -13,6 +13,7 @@ use matcher::Heading;
 use pack::Header;
 use tile::Edge;
 ghost use mathlib.Core.Path.{_≡_};
+ghost use Rattle.predict.specs.Vertex as Vertex;
 ghost use Rattle.predict.specs.Walk as Walks;
 
 // The walk with another heading of entry and of approach.
@@ -64,12 +65,18 @@ fn bound_of(entry: Heading, incoming: f32) -> Bound
 }
 
 // The heading at the end of the edge.
-fn incoming_of(t: Track, approach: f32, lon_um: u32) -> f32
-    ensures { λ r. ⌜ r ≡ Walks.incomingOf t approach «lon_um» ⌝ }
+fn incoming_of(
+    t: Course,
+    approach: f32,
+    lon_um: u32,
+    lats: &[i32; 16],
+    lons: &[i32; 16],
+    distances: &[f32; 16],
+) -> f32
+    ensures { λ r. ⌜ r ≡ Walks.incomingOf (Vertex.trackOf t (now (lats .entry)) (now (lons .entry)) (now (distances .entry))) approach «lon_um» ⌝ }
 {
-    let history = t.history;
     let here = t.here;
-    crate::incoming::incoming(history, here, t.distance, lon_um, approach)
+    crate::incoming::incoming(lats, lons, distances, t.len, here, t.distance, lon_um, approach)
 }
 
 // The junction's node.
@@ -181,19 +188,22 @@ fn onward(
 // The junction at the end of the walk's edge.
 pub(crate) fn crossed(
     w: Walk,
-    t: Track,
+    t: Course,
     arena: &[u8],
     header: Header,
     looks: &mut [u32; cache::ages::LOOKUPS],
     visited: &[u32; crate::VISITED],
     bytes: &[u8],
     leg: Leg,
+    lats: &[i32; 16],
+    lons: &[i32; 16],
+    distances: &[f32; 16],
 ) -> Walk
-    ensures { λ r. ⌜ r ≡ Walks.crossed (now (looks .entry)) (now (visited .entry)) (now (arena .entry)) header w t (now (bytes .entry)) leg .walk ⌝ }
-    ensures { λ r. ⌜ now (looks .exit) ≡ Walks.crossed (now (looks .entry)) (now (visited .entry)) (now (arena .entry)) header w t (now (bytes .entry)) leg .carried ⌝ }
+    ensures { λ r. ⌜ r ≡ Walks.crossed (now (looks .entry)) (now (visited .entry)) (now (arena .entry)) header w (Vertex.trackOf t (now (lats .entry)) (now (lons .entry)) (now (distances .entry))) (now (bytes .entry)) leg .walk ⌝ }
+    ensures { λ r. ⌜ now (looks .exit) ≡ Walks.crossed (now (looks .entry)) (now (visited .entry)) (now (arena .entry)) header w (Vertex.trackOf t (now (lats .entry)) (now (lons .entry)) (now (distances .entry))) (now (bytes .entry)) leg .carried ⌝ }
 {
     let head = tile::read::head(bytes);
-    let incoming = incoming_of(t, w.approach, head.lon_um);
+    let incoming = incoming_of(t, w.approach, head.lon_um, lats, lons, distances);
     let d = turned(w, leg.edge, incoming);
     let way = d.way;
     let road = d.road;

@@ -1,10 +1,11 @@
 // One point more along an edge: its sample, and whether the horizon lies before it.
+use crate::Course;
 use crate::Mark;
-use crate::Track;
 use crate::Trip;
 use crate::outgoing::Leg;
 use geo::Point;
 ghost use mathlib.Core.Path.{_≡_};
+ghost use mathlib.Core.List.{[]};
 ghost use Prim.Native.Nat.{_^_, _<_};
 ghost use Rattle.predict.specs.Vertex as Vertex;
 ghost use Rattle.predict.specs.Spots as Spots;
@@ -36,10 +37,10 @@ fn height_there(m: Mark, z: i32, t: f32) -> i32
     num::cast::i32_of_f32(num::convert::f32_of_i32(m.z) + rise * t)
 }
 
-// The horizon lies before the next point: the road stops exactly there.
-fn reach(trip: Trip, t: Track, step: f32, z: i32, heights: &mut [i16]) -> Track
-    ensures { λ r. ⌜ r ≡ Vertex.reached trip t step z (now (heights .entry)) .track ⌝ }
-    ensures { λ r. ⌜ now (heights .exit) ≡ Vertex.reached trip t step z (now (heights .entry)) .heights ⌝ }
+// The horizon lies before the next point: the road stops exactly there. It reads and changes no history.
+fn reach(trip: Trip, t: Course, step: f32, z: i32, heights: &mut [i16]) -> Course
+    ensures { λ r. ⌜ r ≡ Vertex.courseOf (Vertex.reached trip (Vertex.trackOf t [] [] []) step z (now (heights .entry)) .track) ⌝ }
+    ensures { λ r. ⌜ now (heights .exit) ≡ Vertex.reached trip (Vertex.trackOf t [] [] []) step z (now (heights .entry)) .heights ⌝ }
 {
     let horizon = trip.horizon_m;
     let part = part_of(horizon - t.distance, step);
@@ -47,30 +48,44 @@ fn reach(trip: Trip, t: Track, step: f32, z: i32, heights: &mut [i16]) -> Track
     let there = height_there(old, z, part);
     let mark = crate::samples::push_on(old, heights, horizon, there);
     let here = t.here;
-    let history = t.history;
-    Track {
+    Course {
         here,
         distance: horizon,
         mark,
-        history,
+        len: t.len,
         over: true,
     }
 }
 
 // On to the next point.
-fn pass(t: Track, distance: f32, point: Point, z: i32, heights: &mut [i16]) -> Track
-    ensures { λ r. ⌜ r ≡ Vertex.passed t distance point z (now (heights .entry)) .track ⌝ }
-    ensures { λ r. ⌜ now (heights .exit) ≡ Vertex.passed t distance point z (now (heights .entry)) .heights ⌝ }
+fn pass(
+    t: Course,
+    distance: f32,
+    point: Point,
+    z: i32,
+    heights: &mut [i16],
+    lats: &mut [i32; 16],
+    lons: &mut [i32; 16],
+    distances: &mut [f32; 16],
+) -> Course
+    ensures { λ r. ⌜ r ≡ Vertex.courseOf (Vertex.passed (Vertex.trackOf t (now (lats .entry)) (now (lons .entry)) (now (distances .entry))) distance point z (now (heights .entry)) .track) ⌝ }
+    ensures { λ r. ⌜ now (heights .exit) ≡ Vertex.passed (Vertex.trackOf t (now (lats .entry)) (now (lons .entry)) (now (distances .entry))) distance point z (now (heights .entry)) .heights ⌝ }
+    ensures { λ r. ⌜ now (lats .exit) ≡ Vertex.passed (Vertex.trackOf t (now (lats .entry)) (now (lons .entry)) (now (distances .entry))) distance point z (now (heights .entry)) .track .history .lats ⌝ }
+    ensures { λ r. ⌜ now (lons .exit) ≡ Vertex.passed (Vertex.trackOf t (now (lats .entry)) (now (lons .entry)) (now (distances .entry))) distance point z (now (heights .entry)) .track .history .lons ⌝ }
+    ensures { λ r. ⌜ now (distances .exit) ≡ Vertex.passed (Vertex.trackOf t (now (lats .entry)) (now (lons .entry)) (now (distances .entry))) distance point z (now (heights .entry)) .track .history .distances ⌝ }
 {
     let old = t.mark;
     let mark = crate::samples::push_due(old, heights, distance, z);
-    let before = t.history;
-    let history = crate::incoming::push(before, point, distance);
-    Track {
+    let n = t.len;
+    crate::incoming::keep(lats, n, point.lat);
+    crate::incoming::keep(lons, n, point.lon);
+    crate::incoming::keep_distance(distances, n, distance);
+    let len = crate::incoming::more(n);
+    Course {
         here: point,
         distance,
         mark,
-        history,
+        len,
         over: 501 <= mark.len,
     }
 }
@@ -82,14 +97,20 @@ pub(crate) fn advance(
     bytes: &[u8],
     lon_um: u32,
     base: usize,
-    t: Track,
+    t: Course,
     i: u32,
     heights: &mut [i16],
-) -> Track
+    lats: &mut [i32; 16],
+    lons: &mut [i32; 16],
+    distances: &mut [f32; 16],
+) -> Course
     requires { ⌜ base < 2 ^ 32 ⌝ }
     requires { ⌜ base ≡ Spots.verticesAt (now bytes) ⌝ }
-    ensures { λ r. ⌜ r ≡ Vertex.advanced trip leg (now (bytes .entry)) «lon_um» t i (now (heights .entry)) .track ⌝ }
-    ensures { λ r. ⌜ now (heights .exit) ≡ Vertex.advanced trip leg (now (bytes .entry)) «lon_um» t i (now (heights .entry)) .heights ⌝ }
+    ensures { λ r. ⌜ r ≡ Vertex.courseOf (Vertex.advanced trip leg (now (bytes .entry)) «lon_um» (Vertex.trackOf t (now (lats .entry)) (now (lons .entry)) (now (distances .entry))) i (now (heights .entry)) .track) ⌝ }
+    ensures { λ r. ⌜ now (heights .exit) ≡ Vertex.advanced trip leg (now (bytes .entry)) «lon_um» (Vertex.trackOf t (now (lats .entry)) (now (lons .entry)) (now (distances .entry))) i (now (heights .entry)) .heights ⌝ }
+    ensures { λ r. ⌜ now (lats .exit) ≡ Vertex.advanced trip leg (now (bytes .entry)) «lon_um» (Vertex.trackOf t (now (lats .entry)) (now (lons .entry)) (now (distances .entry))) i (now (heights .entry)) .track .history .lats ⌝ }
+    ensures { λ r. ⌜ now (lons .exit) ≡ Vertex.advanced trip leg (now (bytes .entry)) «lon_um» (Vertex.trackOf t (now (lats .entry)) (now (lons .entry)) (now (distances .entry))) i (now (heights .entry)) .track .history .lons ⌝ }
+    ensures { λ r. ⌜ now (distances .exit) ≡ Vertex.advanced trip leg (now (bytes .entry)) «lon_um» (Vertex.trackOf t (now (lats .entry)) (now (lons .entry)) (now (distances .entry))) i (now (heights .entry)) .track .history .distances ⌝ }
 {
     let node = crate::spots::node_at(base, leg, bytes, i);
     let point = geo::flat::point(leg.header, leg.key, node);
@@ -99,5 +120,5 @@ pub(crate) fn advance(
     if distance >= trip.horizon_m {
         return reach(trip, t, step, z, heights);
     }
-    pass(t, distance, point, z, heights)
+    pass(t, distance, point, z, heights, lats, lons, distances)
 }

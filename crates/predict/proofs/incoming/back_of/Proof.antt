@@ -15,25 +15,37 @@ back-at-requires c κs = tt
 enum-told : tie.Need-enum-told
 enum-told c = search needs
 
-passed-at-requires : tie.Need-passed-at-requires
-passed-at-requires c κs = tt
+point-at-requires : tie.Need-point-at-requires
+point-at-requires c κs = tt
 
 enum-known-i : tie.Need-enum-known-i
 enum-known-i c = search needs
 
-passed-at-requires-2 : tie.Need-passed-at-requires-2
-passed-at-requires-2 c κs = tt
+point-at-requires-2 : tie.Need-point-at-requires-2
+point-at-requires-2 c κs = tt
 
-add-passed-at : tie.Need-add-passed-at
+add-point-at : tie.Need-add-point-at
 unfolding backAt
-add-passed-at c =
+add-point-at c =
     let found = c .before .before in
     let call = found .before .before in
-    let start = call .before in
-    omega (arith, highest-below _ (start .args .h .len - 1) _ (sym (call .back-at .ensures) ∙ found .i .given .1))
+    omega (arith, highest-below _ (call .before .args .len - 1) _ (sym (call .back-at .ensures) ∙ found .i .given .1))
 
-passed-at-requires-3 : tie.Need-passed-at-requires-3
-passed-at-requires-3 c κs = tt
+point-at-requires-3 : tie.Need-point-at-requires-3
+point-at-requires-3 c κs = tt
+
+distance-at-requires : tie.Need-distance-at-requires
+distance-at-requires c κs = tt
+
+add-distance-at : tie.Need-add-distance-at
+unfolding backAt
+add-distance-at c =
+    let found = c .before .before .before .before in
+    let call = found .before .before in
+    omega (arith, highest-below _ (call .before .args .len - 1) _ (sym (call .back-at .ensures) ∙ found .i .given .1))
+
+distance-at-requires-2 : tie.Need-distance-at-requires-2
+distance-at-requires-2 c κs = tt
 
 back-part-requires : tie.Need-back-part-requires
 back-part-requires c κs = tt
@@ -42,23 +54,28 @@ between-requires : tie.Need-between-requires
 between-requires c κs = tt
 
 returns : tie.Need-returns
-unfolding backOf
+unfolding backOf backAt
 returns c =
-    let call = c .before .before .before .before in
-    rw (sym (call .back-at .ensures) ∙ c .before .before .enum-told .given .1, c .before .passed-at .ensures)
+    let call = c .before .before .before in
+    rw (sym (call .back-at .ensures) ∙ c .before .enum-told .given .1) (c .point-at .ensures)
 
 returns-2 : tie.Need-returns-2
-unfolding backOf
+unfolding backOf backAt
 returns-2 c =
-    let second = c .before .before in
-    let first = second .before in
+    let part = c .before in
+    let distance = part .before in
+    let before = distance .before in
+    let point = before .before in
+    let first = point .before in
     let found = first .before .before in
     rw (
       sym (found .before .before .back-at .ensures) ∙ found .i .given .1,
       c .between .ensures,
-      c .before .back-part .ensures,
-      second .passed-at3 .ensures,
-      first .passed-at2 .ensures,
+      part .back-part .ensures,
+      distance .distance-at2 .ensures,
+      before .distance-at .ensures,
+      point .point-at3 .ensures,
+      first .point-at2 .ensures,
     )
 
 pub back-of-spec : {M : Type 1} → statement M
@@ -67,11 +84,14 @@ back-of-spec =
     (tie.spec
     back-at-requires
     enum-told
-    passed-at-requires
+    point-at-requires
     enum-known-i
-    passed-at-requires-2
-    add-passed-at
-    passed-at-requires-3
+    point-at-requires-2
+    add-point-at
+    point-at-requires-3
+    distance-at-requires
+    add-distance-at
+    distance-at-requires-2
     back-part-requires
     between-requires
     returns

@@ -1,40 +1,44 @@
 -- `predict::incoming::shift` meets its contract. The loop's invariant: the first i places hold what stood one place on, and the others what they
 -- held.
 use Prim.Native.Nat.{_-_, _≤_}
-use mathlib.Core.Path.{_≡_, refl, sym, _∙_}
+use mathlib.Core.Path.{_≡_, refl}
 use native.Mathlib.Omega.{arith}
-use lib.ListN.{length, length-map, length-set}
+use lib.ListN.{length}
+use denote.Ref.{now}
 use borrow.Author.Needs.{needs}
+use mir.Syntax.{w32}
+use Rattle.predict.proofs.Signed.{got}
 use Rattle.predict.specs.Incoming.{shifted}
 use Rattle.predict.proofs.Shift.{moved, shift-turn, shift-end}
 use Rattle.predict.proofs.incoming.shift.Statement.{statement}
 use Rattle.predict.proofs.incoming.shift.Tie as tie
 
 abbrev Inv-loop : tie.InvT-loop
-Inv-loop d₀ i₀ d i = (i ≤ 15) × ((length (d .v) ≡ 16) × ((d .v ≡ moved i (d₀ .v)) × (d .len ≡ d₀ .len)))
+Inv-loop v₀ i₀ v i = (i ≤ 15) × (v ≡ moved i v₀)
 
 abbrev μ-loop : tie.MeasureT-loop
-μ-loop d₀ i₀ d i = 15 - i
+μ-loop v₀ i₀ v i = 15 - i
+
+sixteen-requires : tie.Need-sixteen-requires Inv-loop μ-loop
+sixteen-requires c κs = tt
 
 loop-holds : tie.Need-loop-holds Inv-loop μ-loop
-loop-holds c =
-    let v = c .args .h .v in
-    (search needs, (sym (length-map v _) ∙ c .good .0 .1 .1 .0 .1 .0 .1, (refl, refl)))
+loop-holds c = (search needs, refl)
 
-add-p : tie.Need-add-p Inv-loop μ-loop
-add-p c = search needs
+add-v : tie.Need-add-v Inv-loop μ-loop
+add-v c = search needs
 
-mul-p : tie.Need-mul-p Inv-loop μ-loop
-mul-p c = search needs
+mul-v : tie.Need-mul-v Inv-loop μ-loop
+mul-v c = search needs
 
-element-copy-out-p : tie.Need-element-copy-out-p Inv-loop μ-loop
-element-copy-out-p c = search needs
+element-copy-out-v : tie.Need-element-copy-out-v Inv-loop μ-loop
+element-copy-out-v c = search needs
 
-mul-p-2 : tie.Need-mul-p-2 Inv-loop μ-loop
-mul-p-2 c = search needs
+mul-t11 : tie.Need-mul-t11 Inv-loop μ-loop
+mul-t11 c = search needs
 
-element-set-from-p : tie.Need-element-set-from-p Inv-loop μ-loop
-element-set-from-p c = search needs
+element-set-from-v : tie.Need-element-set-from-v Inv-loop μ-loop
+element-set-from-v c = search needs
 
 add-i : tie.Need-add-i Inv-loop μ-loop
 add-i c = search needs
@@ -45,22 +49,16 @@ loop-less c = search needs
 loop-again : tie.Need-loop-again Inv-loop μ-loop
 loop-again c =
     let at-loop = c .before .before .loop in
-    let start = c .before .before .before in
-    let v = start .args .h .v in
-    let size : length v ≡ 16 = sym (length-map v _) ∙ start .good .0 .1 .1 .0 .1 .0 .1 in (
-      omega arith,
-      (
-        length-set (at-loop .d .v) (at-loop .i) _ ∙ at-loop .inv .1 .0,
-        (rw (at-loop .inv .1 .1 .0) (shift-turn v (at-loop .i) _ (omega (arith, c .before .loop-test .taken))), at-loop .inv .1 .1 .1),
-      ),
-    )
+    let long = c .before .before .before .sixteen .ensures in
+    let v = now (c .before .before .before .before .before .args .v) in
+    (omega arith, rw (got w32 (c .v .given), at-loop .inv .1) (shift-turn v (at-loop .i) _ (omega (arith, long, c .before .loop-test .taken))))
 
 returns : tie.Need-returns Inv-loop μ-loop
 unfolding shifted
 returns c =
     let at-loop = c .before .loop in
     let end : at-loop .i ≡ 15 = omega arith in
-    rw (← shift-end (c .before .before .args .h .v), ← end, ← at-loop .inv .1 .1 .0, ← at-loop .inv .1 .1 .1)
+    rw (at-loop .inv .1, end) (shift-end (now (c .before .before .before .before .args .v)))
 
 pub shift-spec : {M : Type 1} → statement M
 shift-spec =
@@ -68,12 +66,13 @@ shift-spec =
     (tie.spec
     Inv-loop
     μ-loop
+    sixteen-requires
     loop-holds
-    add-p
-    mul-p
-    element-copy-out-p
-    mul-p-2
-    element-set-from-p
+    add-v
+    mul-v
+    element-copy-out-v
+    mul-t11
+    element-set-from-v
     add-i
     loop-less
     loop-again

@@ -20,6 +20,7 @@ use Rattle.predict.specs.Consider.{consider}
 use Rattle.predict.specs.Cross.{crossing, cross}
 use Rattle.predict.specs.declared.Walk.{Walk}
 use Rattle.predict.specs.declared.Track.{Track}
+use Rattle.predict.specs.Vertex.{trackOf}
 use Rattle.predict.specs.Walk.{Stride, turned, boundOf, incomingOf, nodeOf, crossedOver, onward, crossed}
 use Rattle.predict.proofs.turn.crossed.Statement.{statement}
 use Rattle.predict.proofs.turn.crossed.Tie as tie
@@ -88,7 +89,8 @@ returns c =
     let turn = bound .before .before .before in
     let args = turn .before .before .before .before .before .args in
     let whole =
-    crossed-is (now (args .looks)) (now (args .visited)) (now (args .arena)) (args .header) (args .w) (args .t) (now (args .bytes)) (args .leg)
+    crossed-is (now (args .looks)) (now (args .visited)) (now (args .arena)) (args .header) (args .w)
+    (trackOf (args .t) (now (args .lats)) (now (args .lons)) (now (args .distances))) (now (args .bytes)) (args .leg)
     (turn .before .before .head .ensures)
     (turn .before .incoming-of .ensures)
     (turn .turned .ensures)

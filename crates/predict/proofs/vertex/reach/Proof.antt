@@ -22,7 +22,7 @@ same-length c = search needs
 returns : tie.Need-returns
 unfolding reached
 returns c =
-    let push = c .before .before .before in
+    let push = c .before .before in
     let there = push .before .before in
     let part = there .before .before in
     let pushes =
