@@ -5,7 +5,7 @@
 use Prim.Native.Nat.{ℕ, _+_, _-_, _%_, _≤_, _<_}
 use mathlib.Core.Path.{_≡_, refl, sym, ap, _∙_}
 use mathlib.Core.Bool.{Bool, true, false, _&&_, cond, true≢false}
-use mathlib.Core.Logic.{_⊎_, ⊎-elim}
+use mathlib.Core.Logic.{_⊎_}
 use mathlib.Core.List.{List, [], _∷_}
 use native.Mathlib.Omega.{arith}
 use denote.Enum.Declared.{tagOf}
@@ -29,7 +29,6 @@ use Rattle.cache.specs.declared.MaybeLoading.{MaybeLoading}
 use Rattle.cache.specs.declared.MaybeLoading.the-variants as MaybeLoading
 use Rattle.cache.specs.declared.Pending.{Pending}
 use Rattle.cache.specs.declared.Pending.the-variants as Pending
-use Rattle.cache.proofs.Pending as Pendings
 use Rattle.cache.proofs.StepLaws.{chunk-less}
 use Rattle.engine.specs.Calls as Engines
 use Rattle.engine.specs.Deliver.{over, withPending, headerFailed, needless, loaded, loadFailed, partCame, needCameBy, needCame, deliveredBy, delivered}
@@ -41,17 +40,20 @@ use Rattle.engine.specs.declared.Phase.the-variants as Phase
 use Rattle.engine.specs.declared.Status.{Status}
 use Rattle.engine.specs.declared.Status.the-variants as Status
 use Rattle.engine.specs.declared.Stepped.{Stepped}
+use Rattle.engine.specs.declared.plan.Plan.{Plan}
 use Rattle.engine.proofs.Status as Statuses
 use Rattle.engine.proofs.StepNeeds.{step-over}
 use Rattle.engine.proofs.SummaryLaws.{chunk-more}
 use Rattle.engine_states.proofs.EngineClosed.{step-ok}
 use Rattle.words.specs.Calls as Calls
 use Rattle.words.specs.Came as Came
-use Rattle.words.specs.Opens.{tested, opens, openedAs}
+use Rattle.words.specs.declared.steps.Planned.the-variants as Planned
+use Rattle.words.specs.Opens.{tested, planned, openedAs}
 use Rattle.words.specs.Put.{put}
 use Rattle.words.specs.Words.{from, phaseWord, headerWords, headerBy, loadingWords, loadingBy, pendingWords, cacheWords, dueWords, dueOf, pendingOf, cacheOf, sharedOf, followerOf, words, engineOf, accepted}
-use Rattle.words.proofs.OpenLaws.{isOpen, opens-step, closed-step, no-fetch}
+use Rattle.words.proofs.OpenLaws.{isOpen, closed-step, no-fetch}
 use Rattle.words.proofs.SetLaws.{phase-put, header-put-in, cache-put-in, loading-put, pending-put, due-put-in, failures-put, steps-put}
+use Rattle.words.proofs.StepLaws.{planned-refused, planned-opens, planned-works, leaves-open}
 use Rattle.words.proofs.WordsLaws.{words-engine}
 
 -- ---- what is read
@@ -249,19 +251,6 @@ pub fetch-over : (e : Engine) (p : Pending) (arena pack : List ℕ) {r : Status}
     → Engines.stepFromBy (opened e p .answer) (opened e p) arena pack ≡ over (opened e p) arena
 fetch-over e p arena pack {r} q other = ap (λ (a : Status). Engines.stepFromBy a (opened e p) arena pack) (sym q) ∙ step-over r other (opened e p) arena pack
 
--- an arm of the fetches that are open
-abbrev pendingTag : Pending → ℕ
-pendingTag p = tagOf Pendings.the-type p
-
-pub open-arm : {q p : Pending} → q ≡ p → (pendingTag p ≡ 1) ⊎ ((pendingTag p ≡ 2) ⊎ (pendingTag p ≡ 3)) → isOpen p ≡ true
-open-arm {q} {p} r open-tag = by p open-tag
-  where
-    by : (p : Pending) → (pendingTag p ≡ 1) ⊎ ((pendingTag p ≡ 2) ⊎ (pendingTag p ≡ 3)) → isOpen p ≡ true
-    by Pending.Nothing t = absurd (⊎-elim (λ z. omega arith) (λ s. ⊎-elim (λ z. omega arith) (λ z. omega arith) s) t)
-    by Pending.Header t = refl
-    by (Pending.Entry key) t = refl
-    by Pending.Chunk t = refl
-
 -- ---- number 12
 
 -- the fetch of the words themselves
@@ -303,9 +292,9 @@ module _ (ws arena : List ℕ) where
     step-by true true q r t = absurd (true≢false t)
     step-by true false q r t = rw (q, r) (ap (λ (x : List ℕ). Calls.keeps x arena) (words-engine ws q))
 
-    pub step-refused : tested ws size ≡ false → Calls.stepFrom ws arena pack ≡ Calls.keeps ws arena
+    pub step-refused : planned ws size ≡ Planned.Refused → Calls.stepFrom ws arena pack ≡ Calls.keeps ws arena
     unfolding tested
-    step-refused t = step-by (accepted ws) (engineOk (engineOf ws) size) refl refl t
+    step-refused q = step-by (accepted ws) (engineOk (engineOf ws) size) refl refl (planned-refused ws size q)
 
     abbrev goesOn : Stepped → Calls.Delivered
     goesOn s = Calls.delivered (Engines.stepFromBy (s .answer) s arena pack)
@@ -315,26 +304,21 @@ module _ (ws arena : List ℕ) where
     step-tested t = rw (accepted-in t, ok-in t)
 
     -- a fetch is open, or opened: its read follows
-    pub step-fetches : tested ws size ≡ true → {p : Pending} → opens (engineOf ws) ≡ p → isOpen p ≡ true → Calls.stepFrom ws arena pack ≡ goesOn (opened (engineOf ws) p)
-    step-fetches t {p} q o =
-        step-tested t
-        ∙ ap goesOn (opens-step (engineOf ws) arena size (ok-in t) (ap isOpen q ∙ o))
-        ∙ ap (λ (x : Pending). goesOn (opened (engineOf ws) x)) q
+    pub step-fetches : {p : Pending} → planned ws size ≡ Planned.Opens p → Calls.stepFrom ws arena pack ≡ goesOn (opened (engineOf ws) p)
+    step-fetches q = step-tested (planned-opens ws size q .0) ∙ ap goesOn (leaves-open ws arena q)
 
     -- none is
-    pub step-works : tested ws size ≡ true → opens (engineOf ws) ≡ Pending.Nothing → Calls.stepFrom ws arena pack ≡ Calls.delivered (over (stepped (engineOf ws) arena) arena)
-    step-works t q =
-        step-tested t
-        ∙ ap Calls.delivered
-        (no-fetch (stepped (engineOf ws) arena .answer) (stepped (engineOf ws) arena) arena pack (closed-step (engineOf ws) arena size (ok-in t) (ap isOpen q)))
+    pub step-works : {p : Plan} → planned ws size ≡ Planned.Works p → Calls.stepFrom ws arena pack ≡ Calls.delivered (over (stepped (engineOf ws) arena) arena)
+    step-works q =
+        let told = planned-works ws size q in
+        let closed = closed-step (engineOf ws) arena size (ok-in (told .0)) (ap isOpen (told .1 .0)) in
+        step-tested (told .0) ∙ ap Calls.delivered (no-fetch (stepped (engineOf ws) arena .answer) (stepped (engineOf ws) arena) arena pack closed)
 
   -- number 12 does not name an engine with a fetch that a step leaves open
-  pub opened-ok : tested ws size ≡ true → {p : Pending} → opens (engineOf ws) ≡ p → isOpen p ≡ true → engineOk (openedAs (engineOf ws) p) size ≡ true
+  pub opened-ok : {p : Pending} → planned ws size ≡ Planned.Opens p → engineOk (openedAs (engineOf ws) p) size ≡ true
   unfolding Engines.step
-  opened-ok t {p} q o =
+  opened-ok {p} q =
       let e = engineOf ws in
-      let left : Engines.step e arena ≡ opened e p =
-      ap (λ (b : Bool). cond b (stepped e arena) (refused e 12)) (ok-in t)
-      ∙ opens-step e arena size (ok-in t) (ap isOpen q ∙ o)
-      ∙ ap (opened e) q in
+      let t = planned-opens ws size q .0 in
+      let left : Engines.step e arena ≡ opened e p = ap (λ (b : Bool). cond b (stepped e arena) (refused e 12)) (ok-in t) ∙ leaves-open ws arena q in
       sym (ap (λ (s : Stepped). engineOk (s .engine) size) left) ∙ step-ok e arena size (ok-in t)

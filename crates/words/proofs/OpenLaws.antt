@@ -1,26 +1,28 @@
 -- A step that leaves a fetch open does nothing else (`opens-step`), and one that opens none asks for no read (`closed-step`). The idea: by the open fetch, else by the plan; towards a
--- tile by the cache's next step (`need-is` of the engine).
-use Prim.Native.Nat.{ℕ}
+-- tile by the cache's next step, and where that makes no read the cache settles the tile (`need-settled`).
+use Prim.Native.Nat.{ℕ, _+_}
 use mathlib.Core.Path.{_≡_, refl, sym, ap, _∙_}
 use mathlib.Core.Bool.{Bool, true, false, cond, true≢false}
-use mathlib.Core.List.{List}
-use lib.Dec.{eqb}
+use mathlib.Core.List.{List, []}
+use lib.Dec.{eqb, ltb}
 use lib.IntN.{pos}
 use lib.ListN.{replicate}
 use Rattle.pack.specs.Grid.{keyOf, inGrid}
 use Rattle.pack.specs.declared.Keyed.{Keyed}
 use Rattle.pack.specs.declared.Keyed.the-variants as Keyed
 use Rattle.pack.specs.declared.TileKey.{TileKey}
-use Rattle.cache.specs.Lookups.{nextStep, passes, lenAt}
-use Rattle.cache.specs.Loads.{fetched}
-use Rattle.cache.specs.State.{stateOk}
+use Rattle.cache.specs.Calls.{loadTested}
+use Rattle.cache.specs.Loads as Loads
+use Rattle.cache.specs.Loads.{unreadStep}
+use Rattle.cache.specs.Lookups.{nextStep, passes, lenAt, touched}
 use Rattle.cache.specs.declared.Cache.{Cache}
+use Rattle.cache.specs.declared.Loaded.{Loaded}
 use Rattle.cache.specs.declared.MaybeKey.{MaybeKey}
 use Rattle.cache.specs.declared.MaybeKey.the-variants as MaybeKey
 use Rattle.cache.specs.declared.Pending.{Pending}
 use Rattle.cache.specs.declared.Pending.the-variants as Pending
-use Rattle.cache.specs.declared.Request.{Request}
-use Rattle.cache.specs.declared.Request.the-variants as Request
+use Rattle.cache.specs.declared.Progress.{Progress}
+use Rattle.cache.specs.declared.Progress.the-variants as Progress
 use Rattle.cache.specs.declared.next.Next.{Next}
 use Rattle.cache.specs.declared.next.Next.the-variants as Next
 use Rattle.matcher.specs.declared.Current.{Current}
@@ -34,11 +36,11 @@ use Rattle.predict.specs.Predict.{After, predictedIn}
 use Rattle.predict.specs.declared.Outcome as RoadOutcome
 use Rattle.predict.specs.declared.Outcome.the-variants as Road
 use Rattle.engine.specs.Calls.{stepFromBy}
-use Rattle.engine.specs.Deliver.{over, arrived}
+use Rattle.engine.specs.Deliver.{over, failing, arrived, failedPack, loadFailed, loadedBy}
 use Rattle.engine.specs.Fixes.{placeOf}
 use Rattle.engine.specs.Plans.{ofRoad, ofDue, ofFix, ofSight, ofNeed, ofState, planOf, doneBy}
 use Rattle.engine.specs.State.{engineOk, refused}
-use Rattle.engine.specs.Steps.{requestOf, opened, needStep, steppedBy, stepped}
+use Rattle.engine.specs.Steps.{requestOf, opened, awaitsRead, needStep, steppedBy, stepped}
 use Rattle.engine.specs.Work.{counted, ended, rematch, matchEndedBy, matchStep, roadEndedBy, roadStep, mayAsk}
 use Rattle.engine.specs.declared.Due.{Due}
 use Rattle.engine.specs.declared.Engine.{Engine}
@@ -54,10 +56,12 @@ use Rattle.engine.specs.declared.Stepped.{Stepped}
 use Rattle.engine.specs.declared.plan.Plan.{Plan}
 use Rattle.engine.specs.declared.plan.Plan.the-variants as Plan
 use Rattle.cache.proofs.FromLaws.{next-chunk, bytes-left}
-use Rattle.engine.proofs.NeedLaws.{needBy, need-is}
+use Rattle.cache.proofs.UnreadLaws.{unread-steps}
+use Rattle.engine.proofs.NeedLaws.{need-settles}
 use Rattle.engine.proofs.PlanLaws.{plan-step}
 use Rattle.engine.proofs.SummaryLaws.{need-waits-entry, need-waits-chunk}
 use Rattle.engine.proofs.TestedLaws.{state-in, need-in}
+use Rattle.words.specs.Came.{settled}
 use Rattle.words.specs.Opens.{opensNext, opensPlan, opensBy, opens}
 
 -- ---- plans that are no tile's
@@ -104,12 +108,8 @@ module _ (e : Engine) where
   ready-by Phase.Failed key q = absurd (true≢false (sym (ap isNeed q)))
   ready-by Phase.Unread key q = absurd (true≢false (sym (ap isNeed q)))
 
-  module _ (arena : List ℕ) (size : ℕ) (ok : engineOk e size ≡ true) (key : TileKey) (q : planOf e ≡ Plan.Need key) where
-    planned-inside : inGrid (e .shared .header) key ≡ true
-    planned-inside = let r = ready-by (e .shared .phase) key q in need-in e size ok key (r .0) (r .1)
-
-    planned-need : needStep e arena key ≡ needBy (fetched (e .shared .cache) (nextStep (e .shared .cache) key) arena (e .shared .header) key) (nextStep (e .shared .cache) key) e key
-    planned-need = need-is e arena key planned-inside (state-in e size ok)
+  planned-inside : (size : ℕ) → engineOk e size ≡ true → (key : TileKey) → planOf e ≡ Plan.Need key → inGrid (e .shared .header) key ≡ true
+  planned-inside size ok key q = let r = ready-by (e .shared .phase) key q in need-in e size ok key (r .0) (r .1)
 
 -- ---- a step that leaves a fetch open
 
@@ -118,6 +118,22 @@ isOpen Pending.Nothing = false
 isOpen Pending.Header = true
 isOpen (Pending.Entry key) = true
 isOpen Pending.Chunk = true
+
+-- one that opens none: none is open, and the plan opens none
+module _ (e : Engine) where
+  closed-by : (p : Pending) → isOpen (opensBy p (planOf e) (e .shared .cache)) ≡ false → (p ≡ Pending.Nothing) × (isOpen (opensPlan (planOf e) (e .shared .cache)) ≡ false)
+  closed-by Pending.Nothing t = (refl, t)
+  closed-by Pending.Header t = absurd (true≢false t)
+  closed-by (Pending.Entry key) t = absurd (true≢false t)
+  closed-by Pending.Chunk t = absurd (true≢false t)
+
+  pub closed-pending : isOpen (opens e) ≡ false → e .shared .cache .pending ≡ Pending.Nothing
+  unfolding opens
+  closed-pending t = closed-by (e .shared .cache .pending) t .0
+
+  pub closed-plan : isOpen (opens e) ≡ false → isOpen (opensPlan (planOf e) (e .shared .cache)) ≡ false
+  unfolding opens
+  closed-plan t = closed-by (e .shared .cache .pending) t .1
 
 abbrev pub isFetch : Status → Bool
 isFetch (Status.Fetch offset len) = true
@@ -142,9 +158,9 @@ module _ (e : Engine) (arena : List ℕ) (size : ℕ) (ok : engineOk e size ≡ 
 
   next-opens : (key : TileKey) → planOf e ≡ Plan.Need key → (n : Next) → nextStep c₁ key ≡ n → isOpen (opensNext n key) ≡ true
       → needStep e arena key ≡ opened e (opensNext n key)
-  next-opens key q Next.Entry r t = need-waits-entry e arena key (planned-inside e arena size ok key q) r
+  next-opens key q Next.Entry r t = need-waits-entry e arena key (planned-inside e size ok key q) r
   next-opens key q (Next.Chunk l) r t =
-      need-waits-chunk e arena key (planned-inside e arena size ok key q) l r (bytes-left c₁ l (state-in e size ok) (next-chunk key l c₁ r))
+      need-waits-chunk e arena key (planned-inside e size ok key q) l r (bytes-left c₁ l (state-in e size ok) (next-chunk key l c₁ r))
   next-opens key q (Next.Ready i) r t = absurd (true≢false (sym t))
   next-opens key q Next.Missing r t = absurd (true≢false (sym t))
   next-opens key q Next.NoPages r t = absurd (true≢false (sym t))
@@ -163,7 +179,7 @@ module _ (e : Engine) (arena : List ℕ) (size : ℕ) (ok : engineOk e size ≡ 
   again : (p : Pending) → c₁ .pending ≡ p → record { answer = requestOf (e .shared) p; engine = e } ≡ opened e p
   again p r = ap (λ (x : Pending). record { answer = requestOf (e .shared) p; engine = opened e x .engine }) r
 
-  pending-opens : (p : Pending) → c₁ .pending ≡ p → isOpen (opensBy p e) ≡ true → stepped e arena ≡ opened e (opensBy p e)
+  pending-opens : (p : Pending) → c₁ .pending ≡ p → isOpen (opensBy p (planOf e) c₁) ≡ true → stepped e arena ≡ opened e (opensBy p (planOf e) c₁)
   unfolding stepped
   pending-opens Pending.Nothing r t = plan-step e arena r ∙ plan-opens (planOf e) refl t
   pending-opens Pending.Header r t = ap (λ (p : Pending). steppedBy p e arena) r ∙ again Pending.Header r
@@ -196,11 +212,22 @@ module _ (e : Engine) (arena : List ℕ) (size : ℕ) (ok : engineOk e size ≡ 
       by true = refl
       by false = refl
 
-  closed-next : (key : TileKey) (n : Next) → isOpen (opensNext n key) ≡ false → isFetch (needBy (fetched c₁ n arena (e .shared .header) key) n e key .answer) ≡ false
-  unfolding arrived
+  closed-load : (a : Progress) (c : Cache) → isFetch (loadedBy a e c .answer) ≡ false
+  unfolding arrived loadFailed
+  closed-load Progress.Done c = refl
+  closed-load Progress.More c = refl
+  closed-load (Progress.Failed number) c = by (ltb (e .follower .failures) 7) (counted (e .follower))
+    where
+      by : (b : Bool) (f : Follower) → isFetch (cond b (ended e c (failing f (f .failures + 1)) Status.Working) (failedPack e c (failing f 8)) .answer) ≡ false
+      by true f = refl
+      by false f = refl
+  closed-load (Progress.Refused number) c = refl
+
+  -- towards a tile: the cache asks for no read
+  closed-next : (key : TileKey) (n : Next) → isOpen (opensNext n key) ≡ false → awaitsRead (unreadStep c₁ n arena key (e .shared .header .tile) .answer) ≡ false
   closed-next key (Next.Ready i) t = by (passes arena i (lenAt c₁ i) key (e .shared .header .tile))
     where
-      by : (b : Bool) → isFetch (needBy (cond b Request.Settled (Request.Refused 12)) (Next.Ready i) e key .answer) ≡ false
+      by : (b : Bool) → awaitsRead (cond b (Loads.done (touched c₁ i)) (Loads.refused c₁ 12) .answer) ≡ false
       by true = refl
       by false = refl
   closed-next key Next.Missing t = refl
@@ -208,10 +235,19 @@ module _ (e : Engine) (arena : List ℕ) (size : ℕ) (ok : engineOk e size ≡ 
   closed-next key Next.Entry t = absurd (true≢false t)
   closed-next key (Next.Chunk l) t = absurd (true≢false t)
 
+  pub need-settled : (key : TileKey) → planOf e ≡ Plan.Need key → isOpen (opensNext (nextStep c₁ key) key) ≡ false → needStep e arena key ≡ settled e arena key
+  need-settled key q t =
+      let inside = planned-inside e size ok key q in
+      sym
+      (need-settles e arena key _ refl
+      (ap (λ (l : Loaded). awaitsRead (l .answer)) (unread-steps c₁ arena (e .shared .header) key inside) ∙ closed-next key (nextStep c₁ key) t))
+
   plan-closed : (p : Plan) → planOf e ≡ p → isOpen (opensPlan p c₁) ≡ false → isFetch (doneBy p e arena .answer) ≡ false
   unfolding matchStep roadStep
   plan-closed Plan.Header q t = absurd (true≢false t)
-  plan-closed (Plan.Need key) q t = ap (λ (s : Stepped). isFetch (s .answer)) (planned-need e arena size ok key q) ∙ closed-next key (nextStep c₁ key) t
+  plan-closed (Plan.Need key) q t =
+      let l = Loads.told (loadTested c₁ arena (e .shared .header) key 0 []) in
+      ap (λ (s : Stepped). isFetch (s .answer)) (need-settled key q t) ∙ closed-load (l .answer) (l .cache)
   plan-closed Plan.Rest q t = refl
   plan-closed Plan.NoPack q t = refl
   plan-closed (Plan.Match fix) q t =
@@ -223,17 +259,5 @@ module _ (e : Engine) (arena : List ℕ) (size : ℕ) (ok : engineOk e size ≡ 
   plan-closed Plan.Roadless q t = refl
   plan-closed (Plan.Off fix) q t = refl
 
-  pending-closed : (p : Pending) → c₁ .pending ≡ p → isOpen (opensBy p e) ≡ false → (p ≡ Pending.Nothing) × (isFetch (stepped e arena .answer) ≡ false)
-  pending-closed Pending.Nothing r t =
-      (refl, ap (λ (s : Stepped). isFetch (s .answer)) (plan-step e arena r) ∙ plan-closed (planOf e) refl t)
-  pending-closed Pending.Header r t = absurd (true≢false t)
-  pending-closed (Pending.Entry key) r t = absurd (true≢false t)
-  pending-closed Pending.Chunk r t = absurd (true≢false t)
-
-  pub closed-pending : isOpen (opens e) ≡ false → c₁ .pending ≡ Pending.Nothing
-  unfolding opens
-  closed-pending t = pending-closed (c₁ .pending) refl t .0
-
   pub closed-step : isOpen (opens e) ≡ false → isFetch (stepped e arena .answer) ≡ false
-  unfolding opens
-  closed-step t = pending-closed (c₁ .pending) refl t .1
+  closed-step t = ap (λ (s : Stepped). isFetch (s .answer)) (plan-step e arena (closed-pending e t)) ∙ plan-closed (planOf e) refl (closed-plan e t)

@@ -3,6 +3,7 @@
 -- holds it (`inside`), down to the piece that begins there (`instead`).
 use Prim.Native.Nat.{ℕ, zero, suc, _+_, _≤_, _<_}
 use mathlib.Core.Path.{_≡_, refl, sym, ap, _∙_}
+use mathlib.Core.Bool.{Bool}
 use mathlib.Core.List.{List, [], _∷_, _++_, append-assoc}
 use native.Mathlib.Omega.{arith}
 use lib.ListN.{length, set, take, drop}
@@ -13,7 +14,7 @@ use Rattle.cache.specs.declared.MaybeLoading.{MaybeLoading}
 use Rattle.cache.specs.declared.Pages.{Pages}
 use Rattle.cache.specs.declared.Pending.{Pending}
 use Rattle.matcher.specs.declared.Matcher.{Matcher}
-use Rattle.engine.specs.Setters.{withMatcher, withDue, withAhead, withFailures, withSteps}
+use Rattle.engine.specs.Setters.{withMatcher, withDue, withAhead, withFailures, withSteps, withMatching, withRoad}
 use Rattle.engine.specs.declared.Ahead.{Ahead}
 use Rattle.engine.specs.declared.Due.{Due}
 use Rattle.engine.specs.declared.Engine.{Engine}
@@ -21,7 +22,7 @@ use Rattle.engine.specs.declared.Follower.{Follower}
 use Rattle.engine.specs.declared.Phase.{Phase}
 use Rattle.engine.specs.declared.Shared.{Shared}
 use Rattle.words.specs.Put.{put}
-use Rattle.words.specs.Words.{flat, lowWord, floatWord, phaseWord, headerWords, slotsWords, usedWords, pagesWords, ringWords, loadingWords, pendingWords, cacheWords, sharedWords, sightWords, matcherWords, dueWords, aheadWords, followerWords, words}
+use Rattle.words.specs.Words.{flat, bit, lowWord, floatWord, phaseWord, headerWords, slotsWords, usedWords, pagesWords, ringWords, loadingWords, pendingWords, cacheWords, sharedWords, sightWords, matcherWords, dueWords, aheadWords, followerWords, words}
 use Rattle.words.proofs.PieceLaws.{slots-long, used-long, pages-long, ring-long, loading-long, pending-long, cache-long, shared-long, sight-long, matcher-long, due-long, ahead-long, follower-long}
 
 -- ---- an engine with one part changed
@@ -283,6 +284,15 @@ module _ (f : Follower) where
       (behind (dueWords d) 8 (due-long d) (matcherWords (f .matcher)) from-due 22 22 0 (matcher-long (f .matcher)) refl
       (instead (dueWords d) 8 (due-long d) (dueWords (f .due)) from-ahead (due-long (f .due))))
 
+  -- a piece of what is due
+  in-due : (p : List ℕ) (m : ℕ) → length p ≡ m → (d : Due) (at k : ℕ) → at ≡ k + 64 → k + m ≤ 8 → put k p (dueWords (f .due)) ≡ dueWords d
+      → put at p (followerWords f) ≡ followerWords (withDue f d)
+  unfolding followerWords
+  in-due p m l d at k far h part =
+      behind p m l (sightWords (f .sight)) from-matcher 42 at (k + 22) (sight-long (f .sight)) (omega (arith, far))
+      (behind p m l (matcherWords (f .matcher)) from-due 22 (k + 22) k (matcher-long (f .matcher)) refl
+      (inside p m l (dueWords (f .due)) from-ahead 8 k (due-long (f .due)) h part))
+
   -- behind the matcher and what is due
   behind-due : (p : List ℕ) (m : ℕ) → length p ≡ m → (at k : ℕ) → at ≡ k + 72 → {zs : List ℕ} → put k p from-ahead ≡ zs
       → put at p (sightWords (f .sight) ++ from-matcher) ≡ sightWords (f .sight) ++ (matcherWords (f .matcher) ++ (dueWords (f .due) ++ zs))
@@ -319,6 +329,24 @@ matcher-put-in e m = in-follower (matcherWords m) 22 (matcher-long m) e (withMat
 
 pub due-put-in : (e : Engine) (d : Due) → put 603 (dueWords d) (words e) ≡ words (dueAs e d)
 due-put-in e d = in-follower (dueWords d) 8 (due-long d) e (withDue (e .follower) d) 603 64 refl (omega arith) (follower-due (e .follower) d)
+
+due-matching : (d : Due) (b : Bool) → put 0 (bit b ∷ []) (dueWords d) ≡ dueWords (withMatching d b)
+unfolding put dueWords
+due-matching d b = refl
+
+due-road : (d : Due) (b : Bool) → put 1 (bit b ∷ []) (dueWords d) ≡ dueWords (withRoad d b)
+unfolding put dueWords
+due-road d b = refl
+
+pub matching-put : (e : Engine) (b : Bool) → put 603 (bit b ∷ []) (words e) ≡ words (dueAs e (withMatching (e .follower .due) b))
+matching-put e b =
+    let d = withMatching (e .follower .due) b in
+    in-follower (bit b ∷ []) 1 refl e (withDue (e .follower) d) 603 64 refl (omega arith) (in-due (e .follower) (bit b ∷ []) 1 refl d 64 0 refl (omega arith) (due-matching (e .follower .due) b))
+
+pub road-due-put : (e : Engine) (b : Bool) → put 604 (bit b ∷ []) (words e) ≡ words (dueAs e (withRoad (e .follower .due) b))
+road-due-put e b =
+    let d = withRoad (e .follower .due) b in
+    in-follower (bit b ∷ []) 1 refl e (withDue (e .follower) d) 604 65 refl (omega arith) (in-due (e .follower) (bit b ∷ []) 1 refl d 65 1 refl (omega arith) (due-road (e .follower .due) b))
 
 pub ahead-put-in : (e : Engine) (a : Ahead) → put 611 (aheadWords a) (words e) ≡ words (aheadAs e a)
 ahead-put-in e a = in-follower (aheadWords a) 536 (ahead-long a) e (withAhead (e .follower) a) 611 72 refl (omega arith) (follower-ahead (e .follower) a)

@@ -1,5 +1,5 @@
 -- What a match and a road leave on words. What is read from words is what their engine has (`cache-in`, .., `horizon-in`); the parts that change, each put at its place, give the words of the
--- engine that is left (`asked-words`, .., `published-words`); and the engine's own definitions by what the code tests (`matched-found`, .., `road-rematches`). The idea: accepted words are those of
+-- engine that is left (`asked-words`, .., `gone-words`); and the engine's own definitions by what the code tests (`matched-found`, .., `road-rematches`). The idea: accepted words are those of
 -- their engine, and a piece put at its place gives the words of the engine with that part (`SetLaws`).
 use Prim.Native.Nat.{ℕ, _+_}
 use mathlib.Core.Path.{_≡_, refl, sym, ap, _∙_}
@@ -8,6 +8,7 @@ use mathlib.Core.Logic.{_⊎_, ⊎-elim}
 use mathlib.Core.List.{List, [], _∷_}
 use native.Mathlib.Omega.{arith}
 use denote.Enum.Declared.{tagOf}
+use lib.Dec.{eqb}
 use lib.IntN.{ℤ}
 use lib.ListN.{getD}
 use Rattle.pack.specs.declared.TileKey.{TileKey}
@@ -15,6 +16,7 @@ use Rattle.cache.specs.Lookups.{after}
 use Rattle.cache.specs.Uses.{withUses}
 use Rattle.cache.specs.declared.Aging.{Aging}
 use Rattle.cache.specs.declared.Cache.{Cache}
+use Rattle.matcher.specs.Calls.{reset}
 use Rattle.matcher.specs.declared.Current.{Current}
 use Rattle.matcher.specs.declared.Current.the-variants as Current
 use Rattle.matcher.specs.declared.Made.{Made}
@@ -30,10 +32,10 @@ use Rattle.predict.specs.declared.Outcome as RoadOutcome
 use Rattle.predict.specs.declared.Predicted.{Predicted}
 use Rattle.predict.specs.declared.Prediction.{Prediction}
 use Rattle.predict.proofs.Outcome as RoadOutcomes
-use Rattle.engine.specs.Plans.{matchMade, matchedDue, askingDue, roadFails, roadNumber}
+use Rattle.engine.specs.Plans.{leftMap, roadDropped, matchMade, matchedDue, askingDue, roadFails, roadNumber}
 use Rattle.engine.specs.Publish.{withMatch}
 use Rattle.engine.specs.State.{refused}
-use Rattle.engine.specs.Work.{asking, counted, ended, emptied, isMatched, mayAsk, matched, matchedBy, matchAsks, matchDone, matchEndedBy, published, rematch, roadDone, withMatcher, withDue, withAhead, withHeights}
+use Rattle.engine.specs.Work.{asking, counted, ended, emptied, isMatched, mayAsk, matched, matchedBy, matchAsks, matchDone, matchEndedBy, matchingOff, offMap, published, rematch, roadDone, roadOff, withMatcher, withDue, withAhead, withHeights}
 use Rattle.engine.specs.declared.Ahead.{Ahead}
 use Rattle.engine.specs.declared.Due.{Due}
 use Rattle.engine.specs.declared.Engine.{Engine}
@@ -42,9 +44,10 @@ use Rattle.engine.specs.declared.Follower.{Follower}
 use Rattle.engine.specs.declared.Status.the-variants as Status
 use Rattle.engine.proofs.StepNeeds.{road-refused, road-ended, road-left}
 use Rattle.words.specs.Put.{put}
+use Rattle.words.specs.Words as Words
 use Rattle.words.specs.Words.{from, floatOf, headerBy, pagesOf, cacheOf, sharedOf, headingOf, sightOf, currentBy, matcherOf, dueOf, aheadOf, followerOf, engineOf, usedWords, cacheWords, matcherWords, dueWords, aheadWords, words, accepted}
 use Rattle.words.specs.Worked as Worked
-use Rattle.words.proofs.SetLaws.{cached, aged, clocked, matchedAs, dueAs, aheadAs, counting, cache-put-in, used-put, clock-put, matcher-put-in, due-put-in, ahead-put-in, steps-put}
+use Rattle.words.proofs.SetLaws.{cached, aged, clocked, matchedAs, dueAs, aheadAs, counting, cache-put-in, used-put, clock-put, matcher-put-in, due-put-in, matching-put, road-due-put, ahead-put-in, steps-put}
 use Rattle.words.proofs.WordsLaws.{words-engine}
 
 -- by cases of which the types are known from what is given
@@ -89,6 +92,15 @@ module _ (ws : List ℕ) where
   pub published-in : currentBy (from ws 614) ≡ engineOf ws .follower .ahead .matched
   unfolding engineOf followerOf aheadOf
   published-in = refl
+
+  -- whether a match is published is one word
+  pub is-published : isMatched (engineOf ws .follower .ahead .matched) ≡ eqb (getD ws 614 0) 1
+  unfolding currentBy
+  is-published = ap isMatched (sym published-in) ∙ by (eqb (getD ws 614 0) 1)
+    where
+      by : (b : Bool) → isMatched (cond b (Current.Is (Words.matchedBy (from ws 614))) Current.Nothing) ≡ b
+      by true = refl
+      by false = refl
 
   pub horizon-in : floatOf (getD ws 1148 0) ≡ engineOf ws .follower .«horizon_m»
   unfolding engineOf followerOf
@@ -168,6 +180,39 @@ module _ (ws : List ℕ) (h : accepted ws ≡ true) (n : ℕ) (more : n ≡ afte
   published-words c d road =
       let e : Engine = dueAs (cached here c) d in
       counts (aheadAs e road) (onto 611 (aheadWords road) (road-put c d) (ahead-put-in e road))
+
+  pub dropped-words : put 1149 (n ∷ []) (put 604 (0 ∷ []) ws) ≡ words (roadDropped here .engine)
+  dropped-words = counts (dueAs here (roadOff (here .follower .due))) (onto 604 (0 ∷ []) (sym (words-engine ws h)) (road-due-put here false))
+
+  -- ---- off the map
+
+  abbrev left : Engine → Engine
+  left e = counting (dueAs e (matchingOff (e .follower .due))) (after (here .follower .steps))
+
+  left-put : {xs : List ℕ} (e : Engine) → xs ≡ words e → put 1149 (n ∷ []) (put 603 (0 ∷ []) xs) ≡ words (left e)
+  left-put e before = counts (dueAs e (matchingOff (e .follower .due))) (onto 603 (0 ∷ []) before (matching-put e false))
+
+  -- with a road that is published
+  pub gone-left : (fix : Fix) → isMatched (here .follower .ahead .matched) ≡ true → {xs : List ℕ} → xs ≡ words (Worked.roadGone here (fix .«at_ms»))
+      → put 1149 (n ∷ []) (put 603 (0 ∷ []) xs) ≡ words (leftMap here fix .engine)
+  unfolding offMap
+  gone-left fix q before =
+      let empty : Ahead = emptied (here .follower .ahead) (fix .«at_ms») End.MapEdge in
+      left-put (Worked.roadGone here (fix .«at_ms»)) before
+      ∙ ap (λ (b : Bool). words (left (aheadAs (matchedAs here (cond b reset (here .follower .matcher))) empty))) (sym q)
+
+  -- and without one
+  pub still-left : (fix : Fix) → isMatched (here .follower .ahead .matched) ≡ false → {xs : List ℕ} → xs ≡ ws
+      → put 1149 (n ∷ []) (put 603 (0 ∷ []) xs) ≡ words (leftMap here fix .engine)
+  unfolding offMap
+  still-left fix q before = rw q (left-put here (before ∙ sym (words-engine ws h)))
+
+pub gone-words : (ws : List ℕ) → accepted ws ≡ true → (at : ℕ)
+    → put 611 (aheadWords (emptied (engineOf ws .follower .ahead) at End.MapEdge)) (put 581 (matcherWords reset) ws) ≡ words (Worked.roadGone (engineOf ws) at)
+gone-words ws h at =
+    let e : Engine = engineOf ws in
+    let empty : Ahead = emptied (e .follower .ahead) at End.MapEdge in
+    onto 611 (aheadWords empty) (onto 581 (matcherWords reset) (sym (words-engine ws h)) (matcher-put-in e reset)) (ahead-put-in (matchedAs e reset) empty)
 
 -- ---- how a match ends
 

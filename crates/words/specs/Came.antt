@@ -1,18 +1,22 @@
 -- What the answer to a fetch leaves, by the parts that are put: this restates private code (`deliver.rt`), each as the engine's own definitions say it (`Deliver` of the engine).
 use Prim.Native.Nat.{ℕ, _+_}
 use mathlib.Core.Bool.{Bool, _&&_}
+use mathlib.Core.List.{List, []}
 use lib.Dec.{eqb, ltb}
-use Rattle.cache.specs.Loads.{chunkLen, moved}
+use Rattle.cache.specs.Calls.{loadTested}
+use Rattle.cache.specs.Loads.{chunkLen, told}
 use Rattle.cache.specs.declared.Cache.{Cache}
 use Rattle.cache.specs.declared.Loading.{Loading}
 use Rattle.cache.specs.declared.MaybeLoading.the-variants as MaybeLoading
 use Rattle.cache.specs.declared.Pending.the-variants as Pending
 use Rattle.pack.specs.declared.Header.{Header}
-use Rattle.engine.specs.Deliver.{withPending, failing, needless}
+use Rattle.pack.specs.declared.TileKey.{TileKey}
+use Rattle.engine.specs.Deliver.{withPending, failing, needless, loaded}
 use Rattle.engine.specs.Work.{counted, ended, withDue}
 use Rattle.engine.specs.declared.Engine.{Engine}
 use Rattle.engine.specs.declared.Phase.{Phase}
 use Rattle.engine.specs.declared.Status.the-variants as Status
+use Rattle.engine.specs.declared.Stepped.{Stepped}
 
 -- the pack in another phase, with no fetch open and so many failures
 abbrev pub phased : Engine → Phase → Header → ℕ → Engine
@@ -46,3 +50,7 @@ further e l come = more e (furtherCache (e .shared .cache) l come)
 -- a chunk's bytes, which leave more to come
 abbrev pub isMore : Loading → ℕ → ℕ → Bool
 isMore l failure len = eqb failure 0 && (eqb len (chunkLen l) && ltb (l .done + chunkLen l) (l .len))
+
+-- the tile that is needed, settled without a read
+abbrev pub settled : Engine → List ℕ → TileKey → Stepped
+settled e arena key = loaded e (told (loadTested (e .shared .cache) arena (e .shared .header) key 0 []))

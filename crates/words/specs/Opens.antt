@@ -1,9 +1,10 @@
 -- Which fetch a step leaves open: this restates private code (`steps.rt`). `OpenLaws` says that a step which opens or repeats one does nothing else.
 use Prim.Native.Nat.{ℕ}
-use mathlib.Core.Bool.{Bool, _&&_}
+use mathlib.Core.Bool.{Bool, _&&_, cond}
 use mathlib.Core.List.{List}
 use Rattle.pack.specs.declared.TileKey.{TileKey}
 use Rattle.cache.specs.Lookups.{nextStep}
+use Rattle.cache.specs.State.{stateOk}
 use Rattle.cache.specs.declared.Cache.{Cache}
 use Rattle.cache.specs.declared.Pending.{Pending}
 use Rattle.cache.specs.declared.Pending.the-variants as Pending
@@ -15,7 +16,13 @@ use Rattle.engine.specs.Steps.{opened}
 use Rattle.engine.specs.declared.Engine.{Engine}
 use Rattle.engine.specs.declared.plan.Plan.{Plan}
 use Rattle.engine.specs.declared.plan.Plan.the-variants as Plan
-use Rattle.words.specs.Words.{accepted, engineOf}
+use Rattle.words.specs.declared.steps.Planned.{Planned}
+use Rattle.words.specs.declared.steps.Planned.the-variants as Planned
+use Rattle.words.specs.Words.{accepted, engineOf, cacheOf}
+
+-- words of an engine whose cache's own state number 12 leaves alone
+unfoldable pub cacheTested : List ℕ → Bool
+cacheTested ws = accepted ws && stateOk (cacheOf ws 15)
 
 -- words of an engine that number 12 leaves alone
 unfoldable pub tested : List ℕ → ℕ → Bool
@@ -40,14 +47,25 @@ opensPlan Plan.Roadless c = Pending.Nothing
 opensPlan (Plan.Off fix) c = Pending.Nothing
 
 -- the fetch that is open, else the one that the plan opens
-abbrev pub opensBy : Pending → Engine → Pending
-opensBy Pending.Nothing e = opensPlan (planOf e) (e .shared .cache)
-opensBy Pending.Header e = Pending.Header
-opensBy (Pending.Entry key) e = Pending.Entry key
-opensBy Pending.Chunk e = Pending.Chunk
+abbrev pub opensBy : Pending → Plan → Cache → Pending
+opensBy Pending.Nothing plan c = opensPlan plan c
+opensBy Pending.Header plan c = Pending.Header
+opensBy (Pending.Entry key) plan c = Pending.Entry key
+opensBy Pending.Chunk plan c = Pending.Chunk
 
 unfoldable pub opens : Engine → Pending
-opens e = opensBy (e .shared .cache .pending) e
+opens e = opensBy (e .shared .cache .pending) (planOf e) (e .shared .cache)
+
+-- what a step is to do: leave that fetch open, or work by the plan where there is none
+abbrev pub plannedFor : Pending → Plan → Planned
+plannedFor Pending.Nothing plan = Planned.Works plan
+plannedFor Pending.Header plan = Planned.Opens Pending.Header
+plannedFor (Pending.Entry key) plan = Planned.Opens (Pending.Entry key)
+plannedFor Pending.Chunk plan = Planned.Opens Pending.Chunk
+
+-- nothing, where number 12 refuses it
+unfoldable pub planned : List ℕ → ℕ → Planned
+planned ws size = let e = engineOf ws in cond (tested ws size) (plannedFor (opens e) (planOf e)) Planned.Refused
 
 -- the engine with a fetch open
 abbrev pub openedAs : Engine → Pending → Engine

@@ -8,6 +8,7 @@ use Rattle.cache.specs.Lookups.{after}
 use Rattle.cache.specs.Uses.{withUses}
 use Rattle.cache.specs.declared.Aging.{Aging}
 use Rattle.cache.specs.declared.Cache.{Cache}
+use Rattle.matcher.specs.Calls.{reset}
 use Rattle.matcher.specs.declared.Current.the-variants as Current
 use Rattle.matcher.specs.declared.Matched.{Matched}
 use Rattle.matcher.specs.declared.Matcher.{Matcher}
@@ -74,3 +75,8 @@ roadOf generation at m p samples behind = record {
 abbrev pub roadEnded : Engine → Fix → Matched → Predicted → List ℤ → List ℤ → Stepped
 roadEnded e fix m p samples behind =
     roadEndedBy (p .answer) e (counted (e .follower)) fix m (record { predicted = p; samples = samples; behind = behind })
+
+-- ---- off the map: a road that is published goes, and its match
+
+abbrev pub roadGone : Engine → ℕ → Engine
+roadGone e at = record { shared = e .shared; follower = withAhead (withMatcher (e .follower) reset) (emptied (e .follower .ahead) at End.MapEdge) }

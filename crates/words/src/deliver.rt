@@ -2,6 +2,7 @@
 use crate::decode;
 use crate::encode;
 use crate::steps;
+use crate::steps::Planned;
 use cache::Cache;
 use cache::Loaded;
 use cache::Loading;
@@ -13,6 +14,7 @@ use engine::Due;
 use engine::Header;
 use engine::Phase;
 use engine::Status;
+use pack::TileKey;
 ghost use mathlib.Core.Bool.{true};
 ghost use mathlib.Core.Path.{_≡_};
 ghost use lib.ListN.{length};
@@ -171,6 +173,19 @@ fn left(ws: &mut [u32; crate::WORDS], pending: Pending, l: Loaded) -> Status
         Progress::Failed(_) => put_failed(ws, c),
         Progress::Refused(number) => refused(ws, pending, number),
     }
+}
+
+// The tile that is needed is settled without a read.
+pub(crate) fn settled(ws: &mut [u32; crate::WORDS], arena: &[u8], key: TileKey) -> Status
+    requires { ⌜ Words.accepted (now ws) ≡ true ⌝ }
+    ensures { λ r. ⌜ r ≡ Came.settled (Words.engineOf (now (ws .entry))) (now (arena .entry)) key .answer ⌝ }
+    ensures { λ r. ⌜ now (ws .exit) ≡ Words.words (Came.settled (Words.engineOf (now (ws .entry))) (now (arena .entry)) key .engine) ⌝ }
+{
+    let c = decode::cache(&*ws);
+    let pending = c.pending;
+    let header = decode::header(&*ws);
+    let l = cache::load::settled(c, arena, header, key);
+    left(ws, pending, l)
 }
 
 // The entry or a chunk of the needed tile came.
@@ -339,14 +354,9 @@ pub fn step_from(ws: &mut [u32; crate::WORDS], arena: &mut [u8], pack: &[u8]) ->
     ensures { λ r. ⌜ now (ws .exit) ≡ Calls.stepFrom (now (ws .entry)) (now (arena .entry)) (now (pack .entry)) .words ⌝ }
     ensures { λ r. ⌜ now (arena .exit) ≡ Calls.stepFrom (now (ws .entry)) (now (arena .entry)) (now (pack .entry)) .arena ⌝ }
 {
-    if !steps::tested(&*ws, arena.len()) {
-        return Status::Refused(12);
-    }
-    let pending = steps::opens(&*ws);
-    match pending {
-        Pending::Nothing => steps::worked(ws, &arena[..]),
-        Pending::Header | Pending::Entry(_) | Pending::Chunk => {
-            fetched(ws, arena, pending, pack)
-        }
+    match steps::plan_step(&*ws, arena.len()) {
+        Planned::Refused => Status::Refused(12),
+        Planned::Opens(pending) => fetched(ws, arena, pending, pack),
+        Planned::Works(plan) => steps::worked(ws, &arena[..], plan),
     }
 }

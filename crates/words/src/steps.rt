@@ -1,5 +1,4 @@
-// The engine's steps on words. Number 12 is tested on the words themselves; then a step reads the few words that its plan asks for, and writes those that change. Only what a rider seldom meets
-// goes by a whole engine (`whole`).
+// The engine's steps on words. Number 12 is tested on the words themselves; then a step reads what its plan asks for, and writes the words that change. No engine is made of the words.
 use crate::decode;
 use crate::encode;
 use cache::Pending;
@@ -11,24 +10,36 @@ ghost use mathlib.Core.Bool.{true};
 ghost use mathlib.Core.Path.{_≡_};
 ghost use lib.ListN.{length};
 ghost use Rattle.cache.specs.Lookups.{nextStep};
-ghost use Rattle.cache.specs.declared.Pending.the-variants as Pendings;
-ghost use Rattle.engine.specs.Calls as Engines;
-ghost use Rattle.engine.specs.Plans as Plans;
 ghost use Rattle.engine.specs.Steps as Steps;
 ghost use Rattle.engine.specs.Work as Work;
 ghost use Rattle.engine.specs.declared.Status.the-variants as Statuses;
+ghost use Rattle.words.specs.declared.steps.Planned.the-variants as Planneds;
 ghost use Rattle.words.specs.Calls as Calls;
 ghost use Rattle.words.specs.Opens as Opens;
 ghost use Rattle.words.specs.Words as Words;
+
+// What a step is to do: nothing, since number 12 refuses it; leave a fetch open; work by a plan that opens none.
+pub(crate) enum Planned {
+    Refused,
+    Opens(Pending),
+    Works(Plan),
+}
+
+// Whether the words are an engine's, and the causes of number 12 in the cache's own state.
+fn cache_ok(ws: &[u32; crate::WORDS]) -> bool
+    ensures { λ r. ⌜ r ≡ Opens.cacheTested (now (ws .entry)) ⌝ }
+{
+    if !crate::accepted(ws) {
+        return false;
+    }
+    crate::pages::state_ok(ws)
+}
 
 // Whether the words are those of an engine that number 12 leaves alone, over an arena of `size` bytes.
 pub(crate) fn tested(ws: &[u32; crate::WORDS], size: usize) -> bool
     ensures { λ r. ⌜ r ≡ Opens.tested (now (ws .entry)) size ⌝ }
 {
-    if !crate::accepted(ws) {
-        return false;
-    }
-    if !crate::pages::state_ok(ws) {
+    if !cache_ok(ws) {
         return false;
     }
     let s = decode::summary(ws);
@@ -49,10 +60,10 @@ fn opens_next(ws: &[u32; crate::WORDS], key: TileKey) -> Pending
 }
 
 // The fetch that a plan opens.
-fn opens_plan(ws: &[u32; crate::WORDS]) -> Pending
-    ensures { λ r. ⌜ r ≡ Opens.opensPlan (Plans.planOf (Words.engineOf (now (ws .entry)))) (Words.cacheOf (now (ws .entry)) 15) ⌝ }
+fn opens_plan(ws: &[u32; crate::WORDS], plan: Plan) -> Pending
+    ensures { λ r. ⌜ r ≡ Opens.opensPlan plan (Words.cacheOf (now (ws .entry)) 15) ⌝ }
 {
-    match engine::summary::plan(decode::summary(ws)) {
+    match plan {
         Plan::Header => Pending::Header,
         Plan::Need(key) => opens_next(ws, key),
         Plan::Rest => Pending::Nothing,
@@ -64,17 +75,40 @@ fn opens_plan(ws: &[u32; crate::WORDS]) -> Pending
     }
 }
 
-// The fetch that a step leaves open, if any: the one that is open, else the one that the plan opens.
-pub(crate) fn opens(ws: &[u32; crate::WORDS]) -> Pending
-    ensures { λ r. ⌜ r ≡ Opens.opens (Words.engineOf (now (ws .entry))) ⌝ }
+// The fetch that a step leaves open, or what it does where it leaves none.
+fn planned_by(ws: &[u32; crate::WORDS], pending: Pending, plan: Plan) -> Planned
+    ensures { λ r. ⌜ r ≡ Opens.plannedFor (Opens.opensBy pending plan (Words.cacheOf (now (ws .entry)) 15)) plan ⌝ }
 {
-    let pending = decode::pending(ws[536], ws[537]);
     match pending {
-        Pending::Nothing => opens_plan(ws),
-        Pending::Header => pending,
-        Pending::Entry(_) => pending,
-        Pending::Chunk => pending,
+        Pending::Nothing => {
+            let opens = opens_plan(ws, plan);
+            match opens {
+                Pending::Nothing => Planned::Works(plan),
+                Pending::Header => Planned::Opens(opens),
+                Pending::Entry(_) => Planned::Opens(opens),
+                Pending::Chunk => Planned::Opens(opens),
+            }
+        }
+        Pending::Header => Planned::Opens(pending),
+        Pending::Entry(_) => Planned::Opens(pending),
+        Pending::Chunk => Planned::Opens(pending),
     }
+}
+
+// What a step is to do: 12, if the test refuses the words.
+pub(crate) fn plan_step(ws: &[u32; crate::WORDS], size: usize) -> Planned
+    ensures { λ r. ⌜ r ≡ Opens.planned (now (ws .entry)) size ⌝ }
+{
+    if !cache_ok(ws) {
+        return Planned::Refused;
+    }
+    let s = decode::summary(ws);
+    if !engine::summary::passes(s, size) {
+        return Planned::Refused;
+    }
+    let plan = engine::summary::plan(s);
+    let pending = s.pending;
+    planned_by(ws, pending, plan)
 }
 
 // The read that a fetch asks for.
@@ -97,19 +131,6 @@ fn opened(ws: &mut [u32; crate::WORDS], pending: Pending) -> Status
     answer
 }
 
-// A step by a whole engine.
-fn whole(ws: &mut [u32; crate::WORDS], arena: &[u8]) -> Status
-    ensures { λ r. ⌜ r ≡ Engines.step (Words.engineOf (now (ws .entry))) (now (arena .entry)) .answer ⌝ }
-    ensures { λ r. ⌜ now (ws .exit) ≡ Words.words (Engines.step (Words.engineOf (now (ws .entry))) (now (arena .entry)) .engine) ⌝ }
-{
-    let e = decode::engine(&*ws);
-    let s = e.step(arena);
-    let after = s.engine;
-    crate::write(after, ws);
-    let answer = s.answer;
-    answer
-}
-
 // A step with nothing to do is counted, and no other word is written.
 fn rested(ws: &mut [u32; crate::WORDS]) -> Status
     requires { ⌜ Words.accepted (now ws) ≡ true ⌝ }
@@ -122,21 +143,20 @@ fn rested(ws: &mut [u32; crate::WORDS]) -> Status
 }
 
 // A step that opens no fetch.
-pub(crate) fn worked(ws: &mut [u32; crate::WORDS], arena: &[u8]) -> Status
-    requires { ⌜ Opens.tested (now ws) (length (now arena)) ≡ true ⌝ }
-    requires { ⌜ Opens.opens (Words.engineOf (now ws)) ≡ Pendings.Nothing ⌝ }
+pub(crate) fn worked(ws: &mut [u32; crate::WORDS], arena: &[u8], plan: Plan) -> Status
+    requires { ⌜ Opens.planned (now ws) (length (now arena)) ≡ Planneds.Works plan ⌝ }
     ensures { λ r. ⌜ r ≡ Steps.stepped (Words.engineOf (now (ws .entry))) (now (arena .entry)) .answer ⌝ }
     ensures { λ r. ⌜ now (ws .exit) ≡ Words.words (Steps.stepped (Words.engineOf (now (ws .entry))) (now (arena .entry)) .engine) ⌝ }
 {
-    match engine::summary::plan(decode::summary(&*ws)) {
+    match plan {
         Plan::Rest => rested(ws),
         Plan::Match(fix) => crate::work::match_step(ws, arena, fix),
         Plan::Road(fix, found) => crate::work::road_step(ws, arena, fix, found),
         Plan::NoPack => Status::NoPack,
-        Plan::Header => whole(ws, arena),
-        Plan::Need(_) => whole(ws, arena),
-        Plan::Roadless => whole(ws, arena),
-        Plan::Off(_) => whole(ws, arena),
+        Plan::Header => Status::Refused(12),
+        Plan::Need(key) => crate::deliver::settled(ws, arena, key),
+        Plan::Roadless => crate::work::road_dropped(ws),
+        Plan::Off(fix) => crate::work::left_map(ws, fix),
     }
 }
 
@@ -145,14 +165,9 @@ pub fn step(ws: &mut [u32; crate::WORDS], arena: &[u8]) -> Status
     ensures { λ r. ⌜ r ≡ Calls.step (now (ws .entry)) (now (arena .entry)) .answer ⌝ }
     ensures { λ r. ⌜ now (ws .exit) ≡ Calls.step (now (ws .entry)) (now (arena .entry)) .words ⌝ }
 {
-    if !tested(&*ws, arena.len()) {
-        return Status::Refused(12);
-    }
-    let pending = opens(&*ws);
-    match pending {
-        Pending::Nothing => worked(ws, arena),
-        Pending::Header => opened(ws, pending),
-        Pending::Entry(_) => opened(ws, pending),
-        Pending::Chunk => opened(ws, pending),
+    match plan_step(&*ws, arena.len()) {
+        Planned::Refused => Status::Refused(12),
+        Planned::Opens(pending) => opened(ws, pending),
+        Planned::Works(plan) => worked(ws, arena, plan),
     }
 }

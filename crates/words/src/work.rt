@@ -21,6 +21,7 @@ ghost use mathlib.Core.Path.{_≡_};
 ghost use Rattle.pack.specs.Grid.{inGrid};
 ghost use Rattle.engine.specs.Plans as Plans;
 ghost use Rattle.engine.specs.Work as Work;
+ghost use Rattle.engine.specs.declared.Status.the-variants as Statuses;
 ghost use Rattle.words.specs.Words as Words;
 ghost use Rattle.words.specs.Worked as Worked;
 
@@ -275,4 +276,45 @@ pub(crate) fn road_step(
         &mut behind,
     );
     road_ended(ws, fix, found, p, samples, behind)
+}
+
+// A road was due without a match: it is due no more.
+pub(crate) fn road_dropped(ws: &mut [u32; crate::WORDS]) -> Status
+    requires { ⌜ Words.accepted (now ws) ≡ true ⌝ }
+    ensures { λ r. ⌜ r ≡ Statuses.Idle ⌝ }
+    ensures { λ r. ⌜ now (ws .exit) ≡ Words.words (Plans.roadDropped (Words.engineOf (now (ws .entry))) .engine) ⌝ }
+{
+    let n = std::num::wrapping_add_u32(ws[1149], 1);
+    encode::put_word(ws, 604, 0);
+    encode::put_word(ws, 1149, n);
+    Status::Idle
+}
+
+// ---- off the map
+
+// A road that is published goes, and its match.
+fn road_gone(ws: &mut [u32; crate::WORDS], at_ms: u64)
+    requires { ⌜ Words.accepted (now ws) ≡ true ⌝ }
+    ensures { λ r. ⌜ now (ws .exit) ≡ Words.words (Worked.roadGone (Words.engineOf (now (ws .entry))) «at_ms») ⌝ }
+{
+    let a = decode::ahead(&*ws);
+    let empty = engine::work::emptied(a, at_ms, End::MapEdge);
+    let none = Matcher::reset();
+    encode::put_matcher(none, ws);
+    encode::put_ahead(empty, ws);
+}
+
+// The fix lies outside the grid: no match is due, and a road that is published goes.
+pub(crate) fn left_map(ws: &mut [u32; crate::WORDS], fix: Fix) -> Status
+    requires { ⌜ Words.accepted (now ws) ≡ true ⌝ }
+    ensures { λ r. ⌜ r ≡ Statuses.OffMap ⌝ }
+    ensures { λ r. ⌜ now (ws .exit) ≡ Words.words (Plans.leftMap (Words.engineOf (now (ws .entry))) fix .engine) ⌝ }
+{
+    let n = std::num::wrapping_add_u32(ws[1149], 1);
+    if ws[614] == 1 {
+        road_gone(ws, fix.at_ms);
+    }
+    encode::put_word(ws, 603, 0);
+    encode::put_word(ws, 1149, n);
+    Status::OffMap
 }

@@ -1,23 +1,13 @@
 -- `steps::opens_plan` meets its contract: by the plan.
-use mathlib.Core.Path.{sym, ap, _∙_}
-use Rattle.engine.specs.Summaries.{plan}
-use Rattle.engine.proofs.SummaryLaws.{summary-plan}
-use Rattle.words.specs.Words.{engineOf}
 use borrow.Author.Needs.{needs}
 use Rattle.words.proofs.steps.opens_plan.Statement.{statement}
 use Rattle.words.proofs.steps.opens_plan.Tie as tie
 
-summary-requires : tie.Need-summary-requires
-summary-requires c κs = search needs
-
-plan-requires : tie.Need-plan-requires
-plan-requires c κs = search needs
-
 enum-told : tie.Need-enum-told
 enum-told c = search needs
 
-enum-known-key : tie.Need-enum-known-key
-enum-known-key c = search needs
+enum-known-plan : tie.Need-enum-known-plan
+enum-known-plan c = search needs
 
 opens-next-requires : tie.Need-opens-next-requires
 opens-next-requires c κs = search needs
@@ -41,28 +31,47 @@ enum-told-7 : tie.Need-enum-told-7
 enum-told-7 c = search needs
 
 returns : tie.Need-returns
-returns c = rw (sym (c .before .before .plan .ensures ∙ ap plan (c .before .before .before .summary .ensures) ∙ summary-plan (engineOf (c .before .before .before .before .args .ws .now))) ∙ c .enum-told .given .1)
+returns c = rw (c .enum-told .given .1)
 
 returns-2 : tie.Need-returns-2
-returns-2 c = rw (sym (c .before .before .before .before .plan .ensures ∙ ap plan (c .before .before .before .before .before .summary .ensures) ∙ summary-plan (engineOf (c .before .before .before .before .before .before .args .ws .now))) ∙ c .before .before .key .given .1) (c .opens-next .ensures)
+returns-2 c = rw (c .before .before .plan .given .1) (c .opens-next .ensures)
 
 returns-3 : tie.Need-returns-3
-returns-3 c = rw (sym (c .before .before .plan .ensures ∙ ap plan (c .before .before .before .summary .ensures) ∙ summary-plan (engineOf (c .before .before .before .before .args .ws .now))) ∙ c .enum-told2 .given .1)
+returns-3 c = rw (c .enum-told2 .given .1)
 
 returns-4 : tie.Need-returns-4
-returns-4 c = rw (sym (c .before .before .plan .ensures ∙ ap plan (c .before .before .before .summary .ensures) ∙ summary-plan (engineOf (c .before .before .before .before .args .ws .now))) ∙ c .enum-told3 .given .1)
+returns-4 c = rw (c .enum-told3 .given .1)
 
 returns-5 : tie.Need-returns-5
-returns-5 c = rw (sym (c .before .before .plan .ensures ∙ ap plan (c .before .before .before .summary .ensures) ∙ summary-plan (engineOf (c .before .before .before .before .args .ws .now))) ∙ c .enum-told4 .given .1)
+returns-5 c = rw (c .enum-told4 .given .1)
 
 returns-6 : tie.Need-returns-6
-returns-6 c = rw (sym (c .before .before .plan .ensures ∙ ap plan (c .before .before .before .summary .ensures) ∙ summary-plan (engineOf (c .before .before .before .before .args .ws .now))) ∙ c .enum-told5 .given .1)
+returns-6 c = rw (c .enum-told5 .given .1)
 
 returns-7 : tie.Need-returns-7
-returns-7 c = rw (sym (c .before .before .plan .ensures ∙ ap plan (c .before .before .before .summary .ensures) ∙ summary-plan (engineOf (c .before .before .before .before .args .ws .now))) ∙ c .enum-told6 .given .1)
+returns-7 c = rw (c .enum-told6 .given .1)
 
 returns-8 : tie.Need-returns-8
-returns-8 c = rw (sym (c .before .before .plan .ensures ∙ ap plan (c .before .before .before .summary .ensures) ∙ summary-plan (engineOf (c .before .before .before .before .args .ws .now))) ∙ c .enum-told7 .given .1)
+returns-8 c = rw (c .enum-told7 .given .1)
 
 pub opens-plan-spec : {M : Type 1} → statement M
-opens-plan-spec = tie.close (tie.spec summary-requires plan-requires enum-told enum-known-key opens-next-requires enum-told-2 enum-told-3 enum-told-4 enum-told-5 enum-told-6 enum-told-7 returns returns-2 returns-3 returns-4 returns-5 returns-6 returns-7 returns-8)
+opens-plan-spec =
+    tie.close
+    (tie.spec
+    enum-told
+    enum-known-plan
+    opens-next-requires
+    enum-told-2
+    enum-told-3
+    enum-told-4
+    enum-told-5
+    enum-told-6
+    enum-told-7
+    returns
+    returns-2
+    returns-3
+    returns-4
+    returns-5
+    returns-6
+    returns-7
+    returns-8)
