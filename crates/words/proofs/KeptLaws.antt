@@ -1,24 +1,25 @@
--- What `kept` asks of the words, struct by struct: whether the words of what is read from them (`pagesOf`, .., `engineOf`) stand there again (`pages-kept`, .., `accepted-kept`). An age is the
--- word that it is read from, so that nothing is asked of it.
+-- What `kept` asks of the words, struct by struct: whether the words of what is read from them (`pagesOf`, .., `engineOf`) stand there again (`pages-kept`, .., `engine-kept`). An age is the
+-- word that it is read from, so that nothing is asked of it. Words are some engine's where the slots' words are slots' and all else is held (`accepted-is`).
 use Prim.Native.Nat.{ℕ, zero, suc, _+_, _*_, _%_, _<_}
 use mathlib.Core.Path.{_≡_, refl, sym, ap, _∙_}
-use mathlib.Core.Bool.{Bool, true, false, _&&_}
+use mathlib.Core.Bool.{Bool, true, false, _&&_, and-false}
 use mathlib.Core.List.{List, [], _∷_}
 use native.Mathlib.Omega.{arith}
 use lib.Dec.{eqb}
 use lib.IntN.{ℤ, pos}
 use lib.ListN.{length, getD}
-use borrow.Author.Tests.{eq-eqb}
+use borrow.Author.Tests.{eq-eqb, eqb-true, eqb-false}
 use Rattle.num.specs.Cast.{bits32}
 use Rattle.tile.specs.Below.{allBelow}
 use Rattle.cache.specs.Runs.{emptySlot}
 use Rattle.cache.specs.Keys.{emptyPlace}
-use Rattle.words.specs.Held.{heldAt, slotHeld, placeHeld, pointHeld, heightHeld, slotsHeld, keysHeld, pointsHeld, heightsHeld, endHeld, roadHeld}
+use Rattle.words.specs.Held.{heldAt, slotHeld, placeHeld, pointHeld, heightHeld, slotsHeld, keysHeld, pointsHeld, heightsHeld, endHeld, roadHeld, besideShared, beside}
 use Rattle.pack.specs.Bytes.{signed32}
-use Rattle.words.specs.Words.{table, spread, from, lowWord, highWord, longOf, pagesWords, ringWords, placesWords, currentWords, currentBy, aheadWords, aheadOf, heightOf, slotWords, slotBy, slotsWords, usedWords, pagesOf, maybeKeyWords, keysWords, placeBy, ringOf, pointWords, pointBy, noPoint, pointsWords, placesOf, heightsWords, heightsOf, words, engineOf, accepted}
+use Rattle.words.specs.Words.{table, spread, from, lowWord, highWord, longOf, phaseWord, phaseOf, headerWords, headerBy, loadingWords, loadingBy, pendingWords, pendingOf, cacheWords, cacheOf, sharedOf, followerWords, followerOf, pagesWords, ringWords, placesWords, currentWords, currentBy, aheadWords, aheadOf, heightOf, slotWords, slotBy, slotsWords, usedWords, pagesOf, maybeKeyWords, keysWords, placeBy, ringOf, pointWords, pointBy, noPoint, pointsWords, placesOf, heightsWords, heightsOf, words, engineOf, accepted}
 use Rattle.words.proofs.HeldLaws.{and-true, below-same, held-spread, held-all}
-use Rattle.words.proofs.PieceLaws.{words-length, pages-held, ring-held, places-held, ahead-held}
+use Rattle.words.proofs.PieceLaws.{words-length, pages-held, ring-held, cache-held, shared-held, places-held, ahead-held, engine-held}
 use Rattle.words.proofs.TripLaws.{table-at}
+use Rattle.words.proofs.WordsLaws.{refused}
 
 -- ---- arrays
 
@@ -111,6 +112,44 @@ ahead-kept ws =
 
 -- ---- the whole
 
-pub accepted-kept : (ws : List ℕ) → length ws ≡ 1150 → accepted ws ≡ heldAt 0 (words (engineOf ws)) ws
-unfolding accepted
-accepted-kept ws h = held-all (words (engineOf ws)) ws (words-length (engineOf ws) ∙ sym h)
+-- the slots, taken out of the rest
+slots-out : (a b s n x f : Bool) → ((a && (b && ((s && n) && x))) && f) ≡ (((a && (b && (n && x))) && f) && s)
+slots-out false b s n x f = refl
+slots-out true false s n x f = refl
+slots-out true true true n x f = sym (and-true ((n && x) && f))
+slots-out true true false n x f = sym (and-false ((n && x) && f))
+
+abbrev besidePages : List ℕ → Bool
+besidePages ws =
+    heldAt 401 (ringWords (ringOf ws 401)) ws
+    && (heldAt 530 (loadingWords (loadingBy (from ws 530))) ws
+    && (heldAt 536 (pendingWords (pendingOf (getD ws 536 0) (getD ws 537 0))) ws && heldAt 538 (getD ws 538 0 ∷ []) ws))
+
+cache-kept : (ws : List ℕ) → heldAt 15 (cacheWords (cacheOf ws 15)) ws ≡ (slotsHeld ws 96 && heldAt 399 (lowWord (getD ws 399 0) ∷ getD ws 400 0 ∷ []) ws) && besidePages ws
+unfolding cacheOf
+cache-kept ws = cache-held (cacheOf ws 15) ws ∙ ap (λ (r : Bool). r && besidePages ws) (pages-kept ws)
+
+abbrev first : List ℕ → Bool
+first ws = heldAt 0 (1 ∷ phaseWord (phaseOf (getD ws 1 0)) ∷ []) ws
+
+abbrev header : List ℕ → Bool
+header ws = heldAt 2 (headerWords (headerBy (from ws 2))) ws
+
+abbrev follower : List ℕ → Bool
+follower ws = heldAt 539 (followerWords (followerOf ws)) ws
+
+engine-kept : (ws : List ℕ) → heldAt 0 (words (engineOf ws)) ws ≡ (besideShared ws && follower ws) && slotsHeld ws 96
+unfolding engineOf sharedOf
+engine-kept ws =
+    engine-held (engineOf ws) ws
+    ∙ ap (λ (r : Bool). r && follower ws) (shared-held (sharedOf ws) ws ∙ under (first ws) (under (header ws) (cache-kept ws)))
+    ∙ slots-out (first ws) (header ws) (slotsHeld ws 96) (heldAt 399 (lowWord (getD ws 399 0) ∷ getD ws 400 0 ∷ []) ws) (besidePages ws) (follower ws)
+
+-- another count of words is no engine's
+pub accepted-is : (ws : List ℕ) → accepted ws ≡ (beside ws && slotsHeld ws 96)
+unfolding accepted beside
+accepted-is ws = by (eqb (length ws) 1150) refl
+  where
+    by : (t : Bool) → eqb (length ws) 1150 ≡ t → accepted ws ≡ ((t && (besideShared ws && follower ws)) && slotsHeld ws 96)
+    by true e = held-all (words (engineOf ws)) ws (words-length (engineOf ws) ∙ sym (eqb-true (length ws) 1150 e)) ∙ engine-kept ws
+    by false e = refused ws (eqb-false (length ws) 1150 e)

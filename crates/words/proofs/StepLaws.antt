@@ -3,7 +3,7 @@
 -- (`works-by-plan`, `works-need`).
 use Prim.Native.Nat.{ℕ}
 use mathlib.Core.Path.{_≡_, refl, sym, ap, _∙_}
-use mathlib.Core.Bool.{Bool, true, false, _&&_, cond, true≢false}
+use mathlib.Core.Bool.{Bool, true, false, _&&_, cond, true≢false, and-assoc}
 use mathlib.Core.List.{List, [], _∷_}
 use native.Mathlib.Omega.{arith}
 use lib.ListN.{length, getD}
@@ -40,14 +40,11 @@ use Rattle.words.proofs.OpenLaws.{isOpen, closed-pending, closed-plan, 
 use Rattle.words.proofs.SetLaws.{pending-put, steps-put, counting}
 use Rattle.words.proofs.WordsLaws.{words-engine}
 
-and-then : (a b c : Bool) → (a && (b && c)) ≡ ((a && b) && c)
-and-then true b c = refl
-and-then false b c = refl
-
 pub tested-is : (ws : List ℕ) (size : ℕ) → tested ws size ≡ (cacheTested ws && passes (summaryOf (engineOf ws)) size)
 unfolding tested cacheTested engineOf sharedOf
 tested-is ws size =
-    ap (λ (b : Bool). accepted ws && b) (summary-ok (engineOf ws) size) ∙ and-then (accepted ws) (stateOk (cacheOf ws 15)) (passes (summaryOf (engineOf ws)) size)
+    ap (λ (b : Bool). accepted ws && b) (summary-ok (engineOf ws) size)
+    ∙ sym (and-assoc (accepted ws) (stateOk (cacheOf ws 15)) (passes (summaryOf (engineOf ws)) size))
 
 module _ (ws : List ℕ) (h : accepted ws ≡ true) where
   abbrev e₁ : Engine

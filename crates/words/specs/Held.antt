@@ -3,10 +3,10 @@ use Prim.Native.Nat.{ℕ, _+_, _*_, _%_}
 use mathlib.Core.Bool.{Bool, true, _&&_}
 use mathlib.Core.List.{List, [], _∷_}
 use lib.Dec.{eqb}
-use lib.ListN.{getD}
+use lib.ListN.{length, getD}
 use Rattle.num.specs.Cast.{bits32}
 use Rattle.tile.specs.Below.{allBelow}
-use Rattle.words.specs.Words.{from, lowWord, floatWord, floatOf, heightOf, slotWords, slotBy, maybeKeyWords, placeBy, pointWords, pointBy, endWord, endOf}
+use Rattle.words.specs.Words.{from, lowWord, floatWord, floatOf, heightOf, phaseWord, phaseOf, headerWords, headerBy, slotWords, slotBy, maybeKeyWords, placeBy, ringWords, ringOf, loadingWords, loadingBy, pendingWords, pendingOf, pointWords, pointBy, endWord, endOf, followerWords, followerOf}
 
 -- a piece is the words from `at` on
 unfoldable pub heldAt : ℕ → List ℕ → List ℕ → Bool
@@ -55,3 +55,19 @@ endHeld ws =
 abbrev pub roadHeld : List ℕ → Bool
 roadHeld ws =
     heightsHeld ws 629 501 && (heldAt 1130 (lowWord (getD ws 1130 0) ∷ []) ws && (heightsHeld ws 1131 11 && endHeld ws))
+
+-- ---- the whole but for its slots, which number 12's pass over the pages tests with their runs
+
+abbrev pub besideCache : List ℕ → Bool
+besideCache ws =
+    heldAt 399 (lowWord (getD ws 399 0) ∷ getD ws 400 0 ∷ []) ws
+    && (heldAt 401 (ringWords (ringOf ws 401)) ws
+    && (heldAt 530 (loadingWords (loadingBy (from ws 530))) ws
+    && (heldAt 536 (pendingWords (pendingOf (getD ws 536 0) (getD ws 537 0))) ws && heldAt 538 (getD ws 538 0 ∷ []) ws)))
+
+abbrev pub besideShared : List ℕ → Bool
+besideShared ws =
+    heldAt 0 (1 ∷ phaseWord (phaseOf (getD ws 1 0)) ∷ []) ws && (heldAt 2 (headerWords (headerBy (from ws 2))) ws && besideCache ws)
+
+unfoldable pub beside : List ℕ → Bool
+beside ws = eqb (length ws) 1150 && (besideShared ws && heldAt 539 (followerWords (followerOf ws)) ws)

@@ -118,14 +118,6 @@ fn heights(ws: &[u32; crate::WORDS], at: usize, n: usize) -> bool
 
 // ---- the pack
 
-// An age is its word.
-fn pages(ws: &[u32; crate::WORDS]) -> bool
-    ensures { λ r. ⌜ r ≡ Held.heldAt 15 (Words.pagesWords (Words.pagesOf (now (ws .entry)) 15)) (now (ws .entry)) ⌝ }
-{
-    let counts = [encode::size(decode::size(ws[399])), ws[400]];
-    both(slots(ws), held(ws, 399, &counts))
-}
-
 fn ring(ws: &[u32; crate::WORDS]) -> bool
     ensures { λ r. ⌜ r ≡ Held.heldAt 401 (Words.ringWords (Words.ringOf (now (ws .entry)) 401)) (now (ws .entry)) ⌝ }
 {
@@ -133,14 +125,16 @@ fn ring(ws: &[u32; crate::WORDS]) -> bool
     both(keys(ws), held(ws, 529, &next))
 }
 
+// But for the slots; an age is its word.
 fn cache(ws: &[u32; crate::WORDS]) -> bool
-    ensures { λ r. ⌜ r ≡ Held.heldAt 15 (Words.cacheWords (Words.cacheOf (now (ws .entry)) 15)) (now (ws .entry)) ⌝ }
+    ensures { λ r. ⌜ r ≡ Held.besideCache (now (ws .entry)) ⌝ }
 {
+    let counts = [encode::size(decode::size(ws[399])), ws[400]];
     let l = encode::loading(decode::loading(ws));
     let p = encode::pending(decode::pending(ws[536], ws[537]));
     let loads = [ws[538]];
     both(
-        pages(ws),
+        held(ws, 399, &counts),
         both(
             ring(ws),
             both(
@@ -152,7 +146,7 @@ fn cache(ws: &[u32; crate::WORDS]) -> bool
 }
 
 fn shared(ws: &[u32; crate::WORDS]) -> bool
-    ensures { λ r. ⌜ r ≡ Held.heldAt 0 (Words.sharedWords (Words.sharedOf (now (ws .entry)))) (now (ws .entry)) ⌝ }
+    ensures { λ r. ⌜ r ≡ Held.besideShared (now (ws .entry)) ⌝ }
 {
     let first = [crate::VERSION, encode::phase(decode::phase(ws[1]))];
     let h = encode::header(decode::header(ws));
@@ -268,8 +262,18 @@ fn follower(ws: &[u32; crate::WORDS]) -> bool
     )
 }
 
-pub(crate) fn engine(ws: &[u32; crate::WORDS]) -> bool
-    ensures { λ r. ⌜ r ≡ Held.heldAt 0 (Words.words (Words.engineOf (now (ws .entry)))) (now (ws .entry)) ⌝ }
+// All but the slots.
+pub(crate) fn beside(ws: &[u32; crate::WORDS]) -> bool
+    ensures { λ r. ⌜ r ≡ Held.beside (now (ws .entry)) ⌝ }
 {
+    if crate::count(ws) != crate::WORDS {
+        return false;
+    }
     both(shared(ws), follower(ws))
+}
+
+pub(crate) fn engine(ws: &[u32; crate::WORDS]) -> bool
+    ensures { λ r. ⌜ r ≡ Words.accepted (now (ws .entry)) ⌝ }
+{
+    both(beside(ws), slots(ws))
 }

@@ -71,9 +71,6 @@ fn count(ws: &[u32]) -> usize
 pub fn accepted(ws: &[u32; WORDS]) -> bool
     ensures { λ r. ⌜ r ≡ Words.accepted (now (ws .entry)) ⌝ }
 {
-    if count(ws) != WORDS {
-        return false;
-    }
     crate::kept::engine(ws)
 }
 

@@ -10,17 +10,20 @@ use cache::victim::Found;
 use pack::TileKey;
 ghost use mathlib.Core.Path.{_≡_};
 ghost use mathlib.Core.Bool.{_&&_, _||_};
-ghost use Prim.Native.Nat.{_+_, _/_, _%_, _<_, _≤_};
+ghost use Prim.Native.Nat.{_+_, _<_, _≤_};
 ghost use lib.Dec.{eqb};
 ghost use Rattle.cache.specs.Keys as Keys;
 ghost use Rattle.cache.specs.Lookups as Lookups;
 ghost use Rattle.cache.specs.Pass as Pass;
 ghost use Rattle.cache.specs.Runs as Runs;
 ghost use Rattle.cache.specs.State as State;
+ghost use Rattle.words.specs.Held as Held;
+ghost use Rattle.words.specs.Opens as Opens;
 ghost use Rattle.words.specs.Words as Words;
 
-// Whether page `p`, whose words begin at `at`, is as it must be behind the last run, from `head` on and before `end`: `fits` of the cache's runs.
-fn fits(
+// Whether a page's three words are those of a slot, and the page is as it must be behind the last run, from `head` on and before `end`: a page with a key is a first page, whose run ends by
+// the count; one without is empty or a later page of the last run.
+fn page_ok(
     ws: &[u32; crate::WORDS],
     at: usize,
     p: usize,
@@ -28,33 +31,29 @@ fn fits(
     end: usize,
     count: usize,
 ) -> bool
-    requires { ⌜ (at + 3 ≤ 1150) × (p < 96) ⌝ }
-    ensures { λ r. ⌜ r ≡ Pass.fits (Words.slotBy (Words.from (now (ws .entry)) at)) p (record { head = head; end = end }) count ⌝ }
+    requires { ⌜ (at + 3 ≤ 1150) × ((p < 96) × ((head < 96) × (count ≤ 96))) ⌝ }
+    ensures { λ r. ⌜ r ≡ (Held.slotHeld (now (ws .entry)) at && Pass.fits (Words.slotBy (Words.from (now (ws .entry)) at)) p (record { head = head; end = end }) count) ⌝ }
 {
     let tag = ws[at];
-    let part = tag / 4;
-    if part == 0 {
-        if tag % 2 == 1 {
-            return end <= p && p + cache::runs::span((ws[at + 2] % 65536) as usize) <= count;
-        }
-        return end <= p;
-    }
-    if tag % 2 == 1 {
+    let len = ws[at + 2];
+    if 65535 < len {
         return false;
     }
-    p < end && ((part - 1) % 256) as usize == head
+    if tag % 2 == 1 {
+        return tag < 4 && end <= p && p + cache::runs::span(len as usize) <= count;
+    }
+    if ws[at + 1] != 0 {
+        return false;
+    }
+    if tag < 4 {
+        return end <= p;
+    }
+    p < end && tag / 4 == (head + 1) as u32
 }
 
-// Whether a run starts at the page whose first word this is.
-fn is_run(tag: u32) -> bool
-    ensures { λ r. ⌜ r ≡ (eqb (tag / 4) 0 && eqb (tag % 2) 1) ⌝ }
-{
-    tag / 4 == 0 && tag % 2 == 1
-}
-
-// Whether the count is at most `MAX_PAGES` and the runs are well-formed, in one pass.
-pub(crate) fn runs_ok(ws: &[u32; crate::WORDS]) -> bool
-    ensures { λ r. ⌜ r ≡ Runs.runsOk (Words.pagesOf (now (ws .entry)) 15) ⌝ }
+// Whether the words of the pages are those of slots, the count is at most `MAX_PAGES` and the runs are well-formed, in one pass.
+pub(crate) fn pages_ok(ws: &[u32; crate::WORDS]) -> bool
+    ensures { λ r. ⌜ r ≡ (Held.slotsHeld (now (ws .entry)) 96 && Runs.runsOk (Words.pagesOf (now (ws .entry)) 15)) ⌝ }
 {
     let count = decode::size(ws[399]);
     if cache::MAX_PAGES < count {
@@ -65,10 +64,10 @@ pub(crate) fn runs_ok(ws: &[u32; crate::WORDS]) -> bool
     let mut p = 0;
     while p < cache::MAX_PAGES {
         let at = 15 + 3 * p;
-        if !fits(ws, at, p, head, end, count) {
+        if !page_ok(ws, at, p, head, end, count) {
             return false;
         }
-        if is_run(ws[at]) {
+        if ws[at] % 2 == 1 {
             head = p;
             end = p + cache::runs::span((ws[at + 2] % 65536) as usize);
         }
@@ -219,11 +218,14 @@ fn pending_ok(ws: &[u32; crate::WORDS]) -> bool
     }
 }
 
-// The causes of number 12 in the cache's own state.
-pub(crate) fn state_ok(ws: &[u32; crate::WORDS]) -> bool
-    ensures { λ r. ⌜ r ≡ State.stateOk (Words.cacheOf (now (ws .entry)) 15) ⌝ }
+// Whether the words are an engine's, and the causes of number 12 in the cache's own state.
+pub(crate) fn cache_ok(ws: &[u32; crate::WORDS]) -> bool
+    ensures { λ r. ⌜ r ≡ Opens.cacheTested (now (ws .entry)) ⌝ }
 {
-    if !runs_ok(ws) {
+    if !crate::kept::beside(ws) {
+        return false;
+    }
+    if !pages_ok(ws) {
         return false;
     }
     if cache::MISSING <= decode::size(ws[529]) {

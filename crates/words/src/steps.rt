@@ -25,21 +25,11 @@ pub(crate) enum Planned {
     Works(Plan),
 }
 
-// Whether the words are an engine's, and the causes of number 12 in the cache's own state.
-fn cache_ok(ws: &[u32; crate::WORDS]) -> bool
-    ensures { λ r. ⌜ r ≡ Opens.cacheTested (now (ws .entry)) ⌝ }
-{
-    if !crate::accepted(ws) {
-        return false;
-    }
-    crate::pages::state_ok(ws)
-}
-
 // Whether the words are those of an engine that number 12 leaves alone, over an arena of `size` bytes.
 pub(crate) fn tested(ws: &[u32; crate::WORDS], size: usize) -> bool
     ensures { λ r. ⌜ r ≡ Opens.tested (now (ws .entry)) size ⌝ }
 {
-    if !cache_ok(ws) {
+    if !crate::pages::cache_ok(ws) {
         return false;
     }
     let s = decode::summary(ws);
@@ -99,7 +89,7 @@ fn planned_by(ws: &[u32; crate::WORDS], pending: Pending, plan: Plan) -> Planned
 pub(crate) fn plan_step(ws: &[u32; crate::WORDS], size: usize) -> Planned
     ensures { λ r. ⌜ r ≡ Opens.planned (now (ws .entry)) size ⌝ }
 {
-    if !cache_ok(ws) {
+    if !crate::pages::cache_ok(ws) {
         return Planned::Refused;
     }
     let s = decode::summary(ws);

@@ -1,7 +1,4 @@
 -- `kept::shared` meets its contract: piece by piece.
-use Rattle.words.proofs.PieceLaws.{shared-held}
-use Rattle.words.specs.Words.{sharedOf}
-use mathlib.Core.Path.{sym}
 use borrow.Author.Needs.{needs}
 use Rattle.words.proofs.kept.shared.Statement.{statement}
 use Rattle.words.proofs.kept.shared.Tie as tie
@@ -43,8 +40,7 @@ both-requires-2 : tie.Need-both-requires-2
 both-requires-2 c κs = search needs
 
 returns : tie.Need-returns
-unfolding sharedOf
-returns c = rw (c .both2 .ensures, c .before .both .ensures, c .before .before .cache .ensures, c .before .before .before .held2 .ensures, c .before .before .before .before .before .held .ensures, c .before .before .before .before .before .before .before .header2 .ensures, c .before .before .before .before .before .before .before .before .header .ensures, c .before .before .before .before .before .before .before .before .before .phase2 .ensures, c .before .before .before .before .before .before .before .before .before .before .phase .ensures) (sym (shared-held (sharedOf (c .before .before .before .before .before .before .before .before .before .before .before .before .args .ws .now)) (c .before .before .before .before .before .before .before .before .before .before .before .before .args .ws .now)))
+returns c = rw (c .both2 .ensures, c .before .both .ensures, c .before .before .cache .ensures, c .before .before .before .held2 .ensures, c .before .before .before .before .before .held .ensures, c .before .before .before .before .before .before .before .header2 .ensures, c .before .before .before .before .before .before .before .before .header .ensures, c .before .before .before .before .before .before .before .before .before .phase2 .ensures, c .before .before .before .before .before .before .before .before .before .before .phase .ensures)
 
 pub shared-spec : {M : Type 1} → statement M
 shared-spec = tie.close (tie.spec element-copy-out-phase phase-requires phase-requires-2 header-requires header-requires-2 slice-aggregate-held held-requires slice-aggregate-held-2 held-requires-2 cache-requires both-requires both-requires-2 returns)

@@ -22,5 +22,4 @@ returns-2 : tie.Need-returns-2
 returns-2 c = rw (tested-is (c .before .before .before .before .args .ws .now) (c .before .before .before .before .args .size), sym (c .before .before .before .cache-ok .ensures) ∙ not-false _ (c .before .before .if1 .left), ← c .before .summary .ensures) (c .passes .ensures)
 
 pub tested-spec : {M : Type 1} → statement M
-tested-spec =
-    tie.close (tie.spec cache-ok-requires returns summary-requires passes-requires returns-2)
+tested-spec = tie.close (tie.spec cache-ok-requires returns summary-requires passes-requires returns-2)
