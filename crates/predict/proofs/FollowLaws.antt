@@ -23,9 +23,9 @@ use Rattle.predict.proofs.VertexLaws.{alongOf, vertices-start, vertices
 use Rattle.predict.specs.declared.Walk.{Walk}
 use Rattle.predict.specs.Walk.{withEnding, reached, Onto, enterLook, carriedBy, Stride, Run, goesOn, legOf, along}
 use Rattle.predict.specs.Walk.{runOf, crossedRun, reachedRun, drivenTo, driven, edgeLook, edgeStep, walkTo}
-use Rattle.predict.specs.Walk.{firstOf, lenOf, Entering, enteringOf, enter, crossed, follow, followed, went}
+use Rattle.predict.specs.Walk.{firstOf, lenOf, Entering, enteringOf, enter, crossed, follow, followed, walked}
 use Rattle.predict.specs.declared.Followed.{Followed}
-use Rattle.predict.specs.declared.Went.{Went}
+use Rattle.predict.specs.declared.Walked.{Walked}
 use Rattle.predict.proofs.Looks.{look-carried}
 use Rattle.predict.proofs.WalkLaws.{walk-turn, walk-stays}
 
@@ -161,7 +161,7 @@ module _ (arena : List ℕ) (trip : Trip) (budget : ℕ) where
 
   -- what the code gives back, and leaves in the lists that it is lent
   pub edges-is : (o : Onto) (k : Track) (looks : List ℕ) (hs : List ℤ) (y : Run (List ℕ)) → y ≡ walkTo rd trip budget (runOf o k looks hs) 2000
-      → (went y ≡ went (follow looks (o .visited) (o .met) arena trip budget (o .walk) k hs))
+      → (walked y ≡ walked (follow looks (o .visited) (o .met) arena trip budget (o .walk) k hs))
       × ((y .carried ≡ follow looks (o .visited) (o .met) arena trip budget (o .walk) k hs .carried)
       × ((y .visited ≡ follow looks (o .visited) (o .met) arena trip budget (o .walk) k hs .visited)
       × ((y .met ≡ follow looks (o .visited) (o .met) arena trip budget (o .walk) k hs .met)
@@ -171,7 +171,7 @@ module _ (arena : List ℕ) (trip : Trip) (budget : ℕ) where
       × (y .track .history .distances ≡ follow looks (o .visited) (o .met) arena trip budget (o .walk) k hs .track .history .distances)))))))
   unfolding follow
   edges-is o k looks hs y e = (
-    ap went e,
+    ap walked e,
     (
       ap (λ (r : Run (List ℕ)). r .carried) e,
       (
@@ -191,7 +191,7 @@ module _ (arena : List ℕ) (trip : Trip) (budget : ℕ) where
   )
 
 -- the track made whole again
-pub followed-is : (y : Run (List ℕ)) (g : Went) (lats lons : List ℤ) (ds : List Float) → g ≡ went y
+pub followed-is : (y : Run (List ℕ)) (g : Walked) (lats lons : List ℤ) (ds : List Float) → g ≡ walked y
     → lats ≡ y .track .history .lats
     → lons ≡ y .track .history .lons
     → ds ≡ y .track .history .distances

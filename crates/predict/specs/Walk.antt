@@ -45,7 +45,7 @@ use Rattle.predict.specs.Cross.{Ways, crossOver, waysOf}
 use Rattle.predict.specs.Decide.{decide}
 use Rattle.predict.specs.declared.Walk.{Walk}
 use Rattle.predict.specs.declared.Followed.{Followed}
-use Rattle.predict.specs.declared.Went.{Went}
+use Rattle.predict.specs.declared.Walked.{Walked}
 use Rattle.predict.specs.declared.enter.Entered.{Entered}
 
 -- ---- a walk with one thing changed
@@ -337,5 +337,5 @@ follow looks v m arena trip budget w t hs =
 abbrev pub followed : Run (List ℕ) → Followed
 followed r = record { walk = r .walk; track = r .track }
 
-abbrev pub went : Run (List ℕ) → Went
-went r = record { walk = r .walk; course = courseOf (r .track) }
+abbrev pub walked : Run (List ℕ) → Walked
+walked r = record { walk = r .walk; course = courseOf (r .track) }

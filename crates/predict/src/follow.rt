@@ -1,4 +1,4 @@
-// The edge loop, and the loop over an edge's points: left at the horizon, or with the last sample.
+// The edge loop: left from inside the loop over an edge's points at the horizon, or with the last sample.
 use crate::Course;
 use crate::End;
 use crate::Ending;
@@ -7,8 +7,8 @@ use crate::History;
 use crate::Track;
 use crate::Trip;
 use crate::Walk;
+use crate::Walked;
 use crate::Way;
-use crate::Went;
 use crate::outgoing::Leg;
 use pack::Header;
 ghost use mathlib.Core.Path.{_≡_};
@@ -45,40 +45,6 @@ fn reached(w: Walk) -> Walk
     crate::enter::with_ending(w, Ending::Stops(End::Horizon))
 }
 
-// The points of a leg from number `from` to its end, until the road is over.
-fn along(
-    trip: Trip,
-    leg: Leg,
-    bytes: &[u8],
-    lon_um: u32,
-    start: Course,
-    from: u32,
-    heights: &mut [i16],
-    lats: &mut [i32; 16],
-    lons: &mut [i32; 16],
-    distances: &mut [f32; 16],
-) -> Course
-    ensures { λ r. ⌜ r ≡ Vertex.courseOf (Vertex.toEnd trip leg (now (bytes .entry)) «lon_um» from (record { track = Vertex.trackOf start (now (lats .entry)) (now (lons .entry)) (now (distances .entry)); heights = now (heights .entry) }) .track) ⌝ }
-    ensures { λ r. ⌜ now (heights .exit) ≡ Vertex.toEnd trip leg (now (bytes .entry)) «lon_um» from (record { track = Vertex.trackOf start (now (lats .entry)) (now (lons .entry)) (now (distances .entry)); heights = now (heights .entry) }) .heights ⌝ }
-    ensures { λ r. ⌜ now (lats .exit) ≡ Vertex.toEnd trip leg (now (bytes .entry)) «lon_um» from (record { track = Vertex.trackOf start (now (lats .entry)) (now (lons .entry)) (now (distances .entry)); heights = now (heights .entry) }) .track .history .lats ⌝ }
-    ensures { λ r. ⌜ now (lons .exit) ≡ Vertex.toEnd trip leg (now (bytes .entry)) «lon_um» from (record { track = Vertex.trackOf start (now (lats .entry)) (now (lons .entry)) (now (distances .entry)); heights = now (heights .entry) }) .track .history .lons ⌝ }
-    ensures { λ r. ⌜ now (distances .exit) ≡ Vertex.toEnd trip leg (now (bytes .entry)) «lon_um» from (record { track = Vertex.trackOf start (now (lats .entry)) (now (lons .entry)) (now (distances .entry)); heights = now (heights .entry) }) .track .history .distances ⌝ }
-{
-    let base = crate::spots::vertices_at(bytes);
-    let edge = leg.edge;
-    let last = (edge.vertices as u32) + 1;
-    let mut t = start;
-    let mut i = from;
-    while i <= last {
-        if t.over {
-            return t;
-        }
-        t = crate::vertex::advance(trip, leg, bytes, lon_um, base, t, i, heights, lats, lons, distances);
-        i += 1;
-    }
-    t
-}
-
 // At most 2,000 edges.
 fn edges(
     start: Walk,
@@ -93,8 +59,8 @@ fn edges(
     lats: &mut [i32; 16],
     lons: &mut [i32; 16],
     distances: &mut [f32; 16],
-) -> Went
-    ensures { λ r. ⌜ r ≡ Walks.went (Walks.follow (now (looks .entry)) (now (visited .entry)) (now (met .entry)) (now (arena .entry)) trip budget start (Vertex.trackOf first (now (lats .entry)) (now (lons .entry)) (now (distances .entry))) (now (heights .entry))) ⌝ }
+) -> Walked
+    ensures { λ r. ⌜ r ≡ Walks.walked (Walks.follow (now (looks .entry)) (now (visited .entry)) (now (met .entry)) (now (arena .entry)) trip budget start (Vertex.trackOf first (now (lats .entry)) (now (lons .entry)) (now (distances .entry))) (now (heights .entry))) ⌝ }
     ensures { λ r. ⌜ now (looks .exit) ≡ Walks.follow (now (looks .entry)) (now (visited .entry)) (now (met .entry)) (now (arena .entry)) trip budget start (Vertex.trackOf first (now (lats .entry)) (now (lons .entry)) (now (distances .entry))) (now (heights .entry)) .carried ⌝ }
     ensures { λ r. ⌜ now (visited .exit) ≡ Walks.follow (now (looks .entry)) (now (visited .entry)) (now (met .entry)) (now (arena .entry)) trip budget start (Vertex.trackOf first (now (lats .entry)) (now (lons .entry)) (now (distances .entry))) (now (heights .entry)) .visited ⌝ }
     ensures { λ r. ⌜ now (met .exit) ≡ Walks.follow (now (looks .entry)) (now (visited .entry)) (now (met .entry)) (now (arena .entry)) trip budget start (Vertex.trackOf first (now (lats .entry)) (now (lons .entry)) (now (distances .entry))) (now (heights .entry)) .met ⌝ }
@@ -117,15 +83,26 @@ fn edges(
         let bytes = cache::ages::run_bytes(arena, e.first, e.len);
         let head = tile::read::head(bytes);
         let leg = leg_of(header, w.way, bytes);
-        t = along(trip, leg, bytes, head.lon_um, t, w.from, heights, lats, lons, distances);
+        let edge = leg.edge;
+        let last = (edge.vertices as u32) + 1;
         if t.over {
             w = reached(w);
             break 'edges;
         }
+        let base = crate::spots::vertices_at(bytes);
+        let mut i = w.from;
+        'points: while i <= last {
+            t = crate::vertex::advance(trip, leg, bytes, head.lon_um, base, t, i, heights, lats, lons, distances);
+            if t.over {
+                w = reached(w);
+                break 'edges;
+            }
+            i += 1;
+        }
         w = crate::turn::crossed(w, t, arena, header, looks, &*visited, bytes, leg, &*lats, &*lons, &*distances);
         n += 1;
     }
-    Went { walk: w, course: t }
+    Walked { walk: w, course: t }
 }
 
 // The road ahead: the arrays of its history are taken out, lent from point to point, and put back at its end.
@@ -159,9 +136,9 @@ pub(crate) fn follow(
         len: h.len,
         over: first.over,
     };
-    let went = edges(start, course, arena, trip, budget, looks, visited, met, heights, &mut lats, &mut lons, &mut distances);
-    let walk = went.walk;
-    let end = went.course;
+    let walked = edges(start, course, arena, trip, budget, looks, visited, met, heights, &mut lats, &mut lons, &mut distances);
+    let walk = walked.walk;
+    let end = walked.course;
     let history = History {
         lats,
         lons,

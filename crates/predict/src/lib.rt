@@ -166,8 +166,8 @@ pub(crate) struct Followed {
     pub track: Track,
 }
 
-// The same, its history beside it.
-pub(crate) struct Went {
+// A walk, and the course that it has come.
+pub(crate) struct Walked {
     pub walk: Walk,
     pub course: Course,
 }
