@@ -19,7 +19,7 @@ use Rattle.cache.specs.declared.Lookup.{Lookup}
 use Rattle.cache.specs.declared.Lookup.the-variants as Lookup
 use Rattle.cache.specs.declared.look.Landing.{Landing}
 use Rattle.cache.specs.declared.look.Landing.the-variants as Landing
-use Rattle.cache.specs.Lookups.{landsOn, runBytes, passes, lenAt, touched, gotReady, gotAt, got, landedAt, landed, checked, nextAt, nextStep}
+use Rattle.cache.specs.Lookups.{landsOn, runBytes, passes, lenAt, touched, gotReady, gotAt, got, landedBy, landed, checked, nextAt, nextStep}
 use Rattle.cache.specs.Keys.{readyAt}
 use Rattle.cache.specs.Direct.{Look, ready, missing, absent, stale, lookAt, look, looked, Aged}
 use Rattle.cache.specs.Uses.{usesOf, usedAt, withUses}
@@ -118,7 +118,7 @@ module _ (arena : List ℕ) (size : ℕ) where
   ready-checked true c i = refl
   ready-checked false c i = refl
 
-  at-checked : (l : Landing) (c : Cache) (key : TileKey) → checked (landedAt l c) arena size key ≡ gotAt l c arena size key .answer
+  at-checked : (l : Landing) (c : Cache) (key : TileKey) → checked (landedBy l c) arena size key ≡ gotAt l c arena size key .answer
   at-checked Landing.Missing c key = refl
   at-checked Landing.Nothing c key = refl
   at-checked (Landing.At i) c key = ready-checked (passes arena i (lenAt c i) key size) c i

@@ -84,15 +84,15 @@ gotAt (Landing.At i) c arena size key = gotReady (passes arena i (lenAt c i) key
 unfoldable pub got : Cache → List ℕ → ℕ → TileKey → Got
 got c arena size key = gotAt (landsOn c key) c arena size key
 
--- ---- in two steps: this restates private code. What a lookup lands on, and the late check of it; together they are what `got` answers
+-- ---- in two steps, for the crates above: what a lookup lands on, and the late check of it. Together they are what `got` answers (`checked-landed`)
 
-abbrev pub landedAt : Landing → Cache → Lookup
-landedAt Landing.Missing c = Lookup.Missing
-landedAt Landing.Nothing c = Lookup.Absent
-landedAt (Landing.At i) c = Lookup.Ready i (lenAt c i)
+abbrev pub landedBy : Landing → Cache → Lookup
+landedBy Landing.Missing c = Lookup.Missing
+landedBy Landing.Nothing c = Lookup.Absent
+landedBy (Landing.At i) c = Lookup.Ready i (lenAt c i)
 
 unfoldable pub landed : Cache → TileKey → Lookup
-landed c key = landedAt (landsOn c key) c
+landed c key = landedBy (landsOn c key) c
 
 abbrev pub checked : Lookup → List ℕ → ℕ → TileKey → Lookup
 checked (Lookup.Ready first len) arena size key = cond (passes arena first len key size) (Lookup.Ready first len) (Lookup.Refused 12)

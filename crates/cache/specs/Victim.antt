@@ -91,7 +91,7 @@ Aged g l n = (i : ℕ) → i < n → getD l i 0 ≡ age g i
 abbrev pub youngestIn : List ℕ → ℕ → ℕ → ℕ
 youngestIn l n start = leastOf (λ (i : ℕ). getD l (start + i) 0) n
 
--- the victim by the ages of the pages
+-- the victim by the ages of the pages, for the crates above (`oldest-is`)
 abbrev pub oldest : List ℕ → ℕ → ℕ → Found
 oldest l count pages =
     cond (ltb 96 count) Found.Nothing (cond (ltb count pages) Found.Nothing (Found.At (bestOf (youngestIn l pages) (count - pages) .at)))

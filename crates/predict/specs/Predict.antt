@@ -220,6 +220,6 @@ startedLook stale looks arena n h m forward horizon samples behind = nothing (in
 unfoldable pub startedBy : List ℕ → List ℕ → ℕ → Header → Lookup → Matched → Bool → Float → List ℤ → List ℤ → Forecast (List ℕ)
 startedBy looks arena n h answer m forward horizon samples behind = startedLook (inBytes answer arena) looks arena n h m forward horizon samples behind
 
--- over the numbers that lookups go by, for a caller that has them
+-- over the numbers that lookups go by, for the crates above (`looks-predict`)
 unfoldable pub fromLooks : List ℕ → List ℕ → ℕ → Header → Matched → Float → List ℤ → List ℤ → Forecast (List ℕ)
 fromLooks looks arena n h m horizon samples behind = forecastOver (inLooks arena (h .tile)) n h m horizon looks samples behind

@@ -92,14 +92,38 @@ fn edges(
         let base = crate::spots::vertices_at(bytes);
         let mut i = w.from;
         'points: while i <= last {
-            t = crate::vertex::advance(trip, leg, bytes, head.lon_um, base, t, i, heights, lats, lons, distances);
+            t = crate::vertex::advance(
+                trip,
+                leg,
+                bytes,
+                head.lon_um,
+                base,
+                t,
+                i,
+                heights,
+                lats,
+                lons,
+                distances,
+            );
             if t.over {
                 w = reached(w);
                 break 'edges;
             }
             i += 1;
         }
-        w = crate::turn::crossed(w, t, arena, header, looks, &*visited, bytes, leg, &*lats, &*lons, &*distances);
+        w = crate::turn::crossed(
+            w,
+            t,
+            arena,
+            header,
+            looks,
+            &*visited,
+            bytes,
+            leg,
+            &*lats,
+            &*lons,
+            &*distances,
+        );
         n += 1;
     }
     Walked { walk: w, course: t }
@@ -136,7 +160,20 @@ pub(crate) fn follow(
         len: h.len,
         over: first.over,
     };
-    let walked = edges(start, course, arena, trip, budget, looks, visited, met, heights, &mut lats, &mut lons, &mut distances);
+    let walked = edges(
+        start,
+        course,
+        arena,
+        trip,
+        budget,
+        looks,
+        visited,
+        met,
+        heights,
+        &mut lats,
+        &mut lons,
+        &mut distances,
+    );
     let walk = walked.walk;
     let end = walked.course;
     let history = History {

@@ -22,17 +22,15 @@ pub(crate) fn first(point: Point) -> History
     }
 }
 
-// Tells a proof that an array has its sixteen places, which is known of one by value alone. It does nothing, so that the copy is never made.
+// The prover has the length of an array from one that goes by value alone: this tells it, and does nothing.
 fn sixteen(v: [i32; 16])
     ensures { λ _. ⌜ length v ≡ 16 ⌝ }
-{
-}
+{}
 
 // The same of distances.
 fn sixteen_distances(v: [f32; 16])
     ensures { λ _. ⌜ length v ≡ 16 ⌝ }
-{
-}
+{}
 
 // The oldest out, and the last place taken twice.
 fn shift(v: &mut [i32; 16])
@@ -129,7 +127,10 @@ fn point_at(lats: &[i32; 16], lons: &[i32; 16], i: usize) -> Point
     sixteen(*lats);
     sixteen(*lons);
     if i < 16 {
-        return Point { lat: lats[i], lon: lons[i] };
+        return Point {
+            lat: lats[i],
+            lon: lons[i],
+        };
     }
     Point { lat: 0, lon: 0 }
 }
@@ -160,7 +161,11 @@ fn back_of(
             crate::start::between(
                 point_at(lats, lons, i),
                 point_at(lats, lons, i + 1),
-                back_part(distance_at(distances, i), distance_at(distances, i + 1), distance),
+                back_part(
+                    distance_at(distances, i),
+                    distance_at(distances, i + 1),
+                    distance,
+                ),
             )
         }
     }

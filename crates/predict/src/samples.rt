@@ -45,7 +45,7 @@ fn sloped(
     len
 }
 
-// The samples of a road point that lies where the last one does.
+// The samples up to a road point that lies no further on than the last one: all have its height.
 fn level(first: usize, heights: &mut [i16], distance: f32, height: i16) -> usize
     ensures { λ r. ⌜ r ≡ Samples.filled (λ (_ : Float). height) (length (now (heights .entry)) - first) distance first (now (heights .entry)) .len ⌝ }
     ensures { λ r. ⌜ now (heights .exit) ≡ Samples.filled (λ (_ : Float). height) (length (now (heights .entry)) - first) distance first (now (heights .entry)) .heights ⌝ }

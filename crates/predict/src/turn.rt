@@ -76,7 +76,16 @@ fn incoming_of(
     ensures { λ r. ⌜ r ≡ Walks.incomingOf (Vertex.trackOf t (now (lats .entry)) (now (lons .entry)) (now (distances .entry))) approach «lon_um» ⌝ }
 {
     let here = t.here;
-    crate::incoming::incoming(lats, lons, distances, t.len, here, t.distance, lon_um, approach)
+    crate::incoming::incoming(
+        lats,
+        lons,
+        distances,
+        t.len,
+        here,
+        t.distance,
+        lon_um,
+        approach,
+    )
 }
 
 // The junction's node.

@@ -21,8 +21,7 @@ returns c =
     follow (now (args .looks)) (now (args .visited)) (now (args .met)) (now (args .arena)) (args .trip) (args .budget) (args .start) (args .first)
     (now (args .heights)) in
     let left = edges .ensures .1 in
-    let lists = left .1 .1 .1 .1 in
-    (
+    let lists = left .1 .1 .1 .1 in (
       followed-is whole (edges .result) (edges .last .1 .1 .1 .1 .1 .1 .1 .1 .1 .0) (edges .last .1 .1 .1 .1 .1 .1 .1 .1 .1 .1 .0)
           (edges .last .1 .1 .1 .1 .1 .1 .1 .1 .1 .1 .1 .0) (edges .ensures .0) (lists .0) (lists .1 .0) (lists .1 .1),
       (left .0, (left .1 .0, (left .1 .1 .0, left .1 .1 .1 .0))),
