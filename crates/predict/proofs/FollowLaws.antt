@@ -72,6 +72,39 @@ module _ {S : Type 0} (rd : Reader S) (trip : Trip) (budget : ℕ) (o : Onto) (k
   look-going arena Lookup.Absent e = absurd (true≢false (sym e))
   look-going arena (Lookup.Refused number) e = absurd (true≢false (sym e))
 
+-- ---- what the code gives back, and leaves in the lists that it is lent
+
+abbrev pub Leaves : Run (List ℕ) → Run (List ℕ) → Type 0
+Leaves f y =
+    (walked y ≡ walked f)
+    × ((y .carried ≡ f .carried)
+    × ((y .visited ≡ f .visited)
+    × ((y .met ≡ f .met)
+    × ((y .heights ≡ f .heights)
+    × ((y .track .history .lats ≡ f .track .history .lats)
+    × ((y .track .history .lons ≡ f .track .history .lons) × (y .track .history .distances ≡ f .track .history .distances)))))))
+
+leaves : {f y : Run (List ℕ)} → y ≡ f → Leaves f y
+leaves e = (
+  ap walked e,
+  (
+    ap (λ (r : Run (List ℕ)). r .carried) e,
+    (
+      ap (λ (r : Run (List ℕ)). r .visited) e,
+      (
+        ap (λ (r : Run (List ℕ)). r .met) e,
+        (
+          ap (λ (r : Run (List ℕ)). r .heights) e,
+          (
+            ap (λ (r : Run (List ℕ)). r .track .history .lats) e,
+            (ap (λ (r : Run (List ℕ)). r .track .history .lons) e, ap (λ (r : Run (List ℕ)). r .track .history .distances) e),
+          ),
+        ),
+      ),
+    ),
+  ),
+)
+
 -- ---- an edge, by the code's lookups
 
 -- what `enter` gives, as the walk with the edges and tiles behind it
@@ -159,36 +192,10 @@ module _ (arena : List ℕ) (trip : Trip) (budget : ℕ) where
     walk-whole ends h =
         walk-on ∙ sym (walk-stays rd trip budget start (n + 1) 2000 (ap (λ (r : Run (List ℕ)). goesOn (r .walk .ending)) (sym walk-on) ∙ ends) (omega arith))
 
-  -- what the code gives back, and leaves in the lists that it is lent
-  pub edges-is : (o : Onto) (k : Track) (looks : List ℕ) (hs : List ℤ) (y : Run (List ℕ)) → y ≡ walkTo rd trip budget (runOf o k looks hs) 2000
-      → (walked y ≡ walked (follow looks (o .visited) (o .met) arena trip budget (o .walk) k hs))
-      × ((y .carried ≡ follow looks (o .visited) (o .met) arena trip budget (o .walk) k hs .carried)
-      × ((y .visited ≡ follow looks (o .visited) (o .met) arena trip budget (o .walk) k hs .visited)
-      × ((y .met ≡ follow looks (o .visited) (o .met) arena trip budget (o .walk) k hs .met)
-      × ((y .heights ≡ follow looks (o .visited) (o .met) arena trip budget (o .walk) k hs .heights)
-      × ((y .track .history .lats ≡ follow looks (o .visited) (o .met) arena trip budget (o .walk) k hs .track .history .lats)
-      × ((y .track .history .lons ≡ follow looks (o .visited) (o .met) arena trip budget (o .walk) k hs .track .history .lons)
-      × (y .track .history .distances ≡ follow looks (o .visited) (o .met) arena trip budget (o .walk) k hs .track .history .distances)))))))
+  pub edges-is : (start y : Run (List ℕ)) → y ≡ walkTo rd trip budget start 2000
+      → Leaves (follow (start .carried) (start .visited) (start .met) arena trip budget (start .walk) (start .track) (start .heights)) y
   unfolding follow
-  edges-is o k looks hs y e = (
-    ap walked e,
-    (
-      ap (λ (r : Run (List ℕ)). r .carried) e,
-      (
-        ap (λ (r : Run (List ℕ)). r .visited) e,
-        (
-          ap (λ (r : Run (List ℕ)). r .met) e,
-          (
-            ap (λ (r : Run (List ℕ)). r .heights) e,
-            (
-              ap (λ (r : Run (List ℕ)). r .track .history .lats) e,
-              (ap (λ (r : Run (List ℕ)). r .track .history .lons) e, ap (λ (r : Run (List ℕ)). r .track .history .distances) e),
-            ),
-          ),
-        ),
-      ),
-    ),
-  )
+  edges-is start y e = leaves e
 
 -- the track made whole again
 pub followed-is : (y : Run (List ℕ)) (g : Walked) (lats lons : List ℤ) (ds : List Float) → g ≡ walked y

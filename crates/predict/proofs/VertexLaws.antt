@@ -3,7 +3,7 @@
 -- all that is ever done to the heights is a store. `Left` is what the code leaves of a track, and `advanced-reach` and `advanced-pass` are its two
 -- ways on.
 use Prim.Native.Nat.{ℕ, zero, suc, _+_, _-_, _<_, _≤_}
-use mathlib.Core.Path.{_≡_, refl, ap, _∙_}
+use mathlib.Core.Path.{_≡_, refl, _∙_}
 use mathlib.Core.Bool.{Bool, true, false, cond}
 use mathlib.Core.List.{List, []}
 use lib.IntN.{ℤ}
@@ -116,18 +116,6 @@ module _ (a : Along) (c : Course) (hs lats lons : List ℤ) (ds : List Float) wh
     };
     heights = e .1 .0 i;
   }
-
-  pub left-parts : alongOf (trackOf c lats lons ds) hs ≡ a → Left a c hs lats lons ds
-  left-parts e = (
-    ap (λ (x : Along). courseOf (x .track)) e,
-    (
-      ap (λ (x : Along). x .heights) e,
-      (
-        ap (λ (x : Along). x .track .history .lats) e,
-        (ap (λ (x : Along). x .track .history .lons) e, ap (λ (x : Along). x .track .history .distances) e),
-      ),
-    ),
-  )
 
 -- point number i, as the code comes to it
 module _ (trip : Trip) (leg : Leg) (bs : List ℕ) (lonUm : ℕ) (t : Course) (lats lons : List ℤ) (ds : List Float) (i : ℕ) (hs : List ℤ)
