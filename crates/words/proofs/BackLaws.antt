@@ -22,6 +22,7 @@ use Rattle.cache.specs.declared.Pending.{Pending}
 use Rattle.cache.specs.declared.Pending.the-variants as Pending
 use Rattle.cache.specs.declared.Ring.{Ring}
 use Rattle.cache.specs.declared.RingKey.{RingKey}
+use Rattle.cache.specs.declared.Slot.{Slot}
 use Rattle.matcher.specs.declared.Challenger.{Challenger}
 use Rattle.matcher.specs.declared.Challenger.the-variants as Challenger
 use Rattle.matcher.specs.declared.Current.{Current}
@@ -41,7 +42,7 @@ use Rattle.engine.specs.declared.MaybeTime.the-variants as MaybeTime
 use Rattle.engine.specs.declared.Places.{Places}
 use Rattle.engine.specs.declared.Shared.{Shared}
 use Rattle.engine.specs.declared.Sight.{Sight}
-use Rattle.words.specs.Typed.{Height, TypedKey, TypedHeader, TypedPages, TypedRing, TypedLoading, TypedPending, TypedCache, TypedFix, TypedPlaces, TypedHeading, TypedSight, TypedId, TypedMatched, TypedCurrent, TypedChallenger, TypedMatcher, TypedDue, TypedAhead, TypedShared, TypedFollower, Typed}
+use Rattle.words.specs.Typed.{Height, TypedKey, TypedHeader, TypedSlot, TypedPages, TypedRing, TypedLoading, TypedPending, TypedCache, TypedFix, TypedPlaces, TypedHeading, TypedSight, TypedId, TypedMatched, TypedCurrent, TypedChallenger, TypedMatcher, TypedDue, TypedAhead, TypedShared, TypedFollower, Typed}
 use Rattle.words.specs.Words.{table, spread, flat, from, bit, isSet, lowWord, highWord, longOf, floatWord, floatOf, heightOf, keyWord, keyTag, keyHeld, maybeKeyWords, maybeKeyOf, phaseWord, phaseOf, headerWords, headerBy, slotWords, slotBy, slotsWords, usedWords, pagesWords, pagesOf, keysWords, ringWords, placeBy, ringOf, loadingWords, loadingBy, pendingWords, pendingOf, cacheWords, cacheOf, sharedWords, sharedOf, fixWords, fixBy, pointWords, pointBy, noPoint, pointsWords, placesWords, placesOf, headingWords, headingOf, sightWords, sightOf, matchedBy, currentWords, currentBy, challengerWords, challengerBy, matcherWords, matcherOf, timeWords, timeOf, dueWords, dueOf, heightsWords, heightsOf, endWord, endOf, aheadWords, aheadOf, followerWords, followerOf, words, engineOf, sameWords, accepted}
 use Rattle.words.proofs.NumberLaws.{long-back, word-back, short-back, byte-back, signed-back, height-back, float-back, key-back, bit-back, maybe-back, phase-back, forward-back, end-back, slot-back}
 use Rattle.words.proofs.PieceLaws.{slots-long, used-long, keys-long, points-long, heights-long, pages-long, ring-long, loading-long, pending-long, cache-long, shared-long, fix-long, places-long, heading-long, sight-long, current-long, challenger-long, matcher-long, time-long, due-long, ahead-long}
@@ -68,12 +69,38 @@ slotPiece g i = slotWords (getD (g .slots) i emptySlot)
 abbrev agePiece : Pages → ℕ → List ℕ
 agePiece g i = getD (g .used) i 0 ∷ []
 
-slots-back : (g : Pages) → TypedPages g → (ws zs : List ℕ) → drop 15 ws ≡ slotsWords (g .slots) ++ zs → table (λ (i : ℕ). slotBy (from ws (15 + 3 * i))) 96 ≡ g .slots
+-- a slot that is read back from its words, and pages of such slots
+abbrev pub SlotBack : Slot → Type 0
+SlotBack s = slotBy (λ (k : ℕ). getD (slotWords s) k 0) ≡ s
+
+pub record PagesBack (g : Pages) : Type 0 where
+  pub slots : length (g .slots) ≡ 96
+  pub slot : (i : ℕ) → i < 96 → SlotBack (getD (g .slots) i emptySlot)
+  pub used : length (g .used) ≡ 96
+  pub count : lowWord (g .count) ≡ g .count
+
+pub typed-slot : (s : Slot) → TypedSlot s → SlotBack s
+typed-slot s t = slot-back s t (λ (k : ℕ). getD (slotWords s) k 0) refl refl refl
+
+typed-pages : (g : Pages) → TypedPages g → PagesBack g
+typed-pages g t = record {
+  slots = t .slots;
+  slot = λ (i : ℕ) (h : i < 96). typed-slot (getD (g .slots) i emptySlot) (t .slot i h);
+  used = t .used;
+  count = word-back (g .count) (t .count);
+}
+
+-- a slot is read from three words
+pub slot-by : (u w : ℕ → ℕ) → u 0 ≡ w 0 → u 1 ≡ w 1 → u 2 ≡ w 2 → slotBy u ≡ slotBy w
+slot-by u w a b c = rw (a, b, c)
+
+slots-back : (g : Pages) → PagesBack g → (ws zs : List ℕ) → drop 15 ws ≡ slotsWords (g .slots) ++ zs → table (λ (i : ℕ). slotBy (from ws (15 + 3 * i))) 96 ≡ g .slots
 unfolding slotsWords
 slots-back g t ws zs e =
     table-back (λ (i : ℕ). slotBy (from ws (15 + 3 * i))) emptySlot (g .slots) 96 (t .slots)
     (λ (i : ℕ) (h : i < 96).
-    slot-back (getD (g .slots) i emptySlot) (t .slot i h) (from ws (15 + 3 * i)) (word i h 0 (omega arith)) (word i h 1 (omega arith)) (word i h 2 (omega arith)))
+    slot-by (from ws (15 + 3 * i)) (λ (k : ℕ). getD (slotPiece g i) k 0) (word i h 0 (omega arith)) (word i h 1 (omega arith)) (word i h 2 (omega arith))
+    ∙ t .slot i h)
   where
     word : (i : ℕ) → i < 96 → (k : ℕ) → k < 3 → from ws (15 + 3 * i) k ≡ getD (slotPiece g i) k 0
     word i h k l = word-of (slotPiece g) 3 (λ (j : ℕ). refl) ws 15 96 zs e i k h l
@@ -89,17 +116,17 @@ ones-back f d read xs n at ws zs l back e = table-back (λ (i : ℕ). read (getD
         let far : at + i ≡ at + 1 * i + 0 = omega arith in
         ap (λ (k : ℕ). getD ws k 0) far ∙ word-of (λ (j : ℕ). f (getD xs j d) ∷ []) 1 (λ (j : ℕ). refl) ws at n zs e i 0 h (omega arith)
 
-used-back : (g : Pages) → TypedPages g → (ws zs : List ℕ) → drop 303 ws ≡ usedWords (g .used) ++ zs → table (λ (i : ℕ). getD ws (303 + i) 0) 96 ≡ g .used
+used-back : (g : Pages) → PagesBack g → (ws zs : List ℕ) → drop 303 ws ≡ usedWords (g .used) ++ zs → table (λ (i : ℕ). getD ws (303 + i) 0) 96 ≡ g .used
 unfolding usedWords
 used-back g t ws zs e = ones-back (λ (n : ℕ). n) 0 (λ (n : ℕ). n) (g .used) 96 303 ws zs (t .used) (λ (i : ℕ) (h : i < 96). refl) e
 
-pages-back : (g : Pages) → TypedPages g → (ws zs : List ℕ) → drop 15 ws ≡ pagesWords g ++ zs → pagesOf ws 15 ≡ g
+pub pages-back : (g : Pages) → PagesBack g → (ws zs : List ℕ) → drop 15 ws ≡ pagesWords g ++ zs → pagesOf ws 15 ≡ g
 unfolding pagesWords pagesOf
 pages-back g t ws zs e =
     let c : List ℕ = lowWord (g .count) ∷ g .clock ∷ [] in
     let e2 : drop 303 ws ≡ flat (usedWords (g .used) ∷ c ∷ []) ++ zs = next ws 15 (slotsWords (g .slots)) (usedWords (g .used) ∷ c ∷ []) zs e 288 (slots-long (g .slots)) in
     let e3 : drop 399 ws ≡ flat (c ∷ []) ++ zs = next ws 303 (usedWords (g .used)) (c ∷ []) zs e2 96 (used-long (g .used)) in
-    let count : getD ws 399 0 ≡ g .count = at-is ws 399 (flat (c ∷ []) ++ zs) e3 0 ∙ word-back (g .count) (t .count) in
+    let count : getD ws 399 0 ≡ g .count = at-is ws 399 (flat (c ∷ []) ++ zs) e3 0 ∙ t .count in
     let clock : getD ws 400 0 ≡ g .clock = at-is ws 399 (flat (c ∷ []) ++ zs) e3 1 in
     rw (
       slots-back g t ws (flat (usedWords (g .used) ∷ c ∷ []) ++ zs) (here ws 15 (slotsWords (g .slots)) (usedWords (g .used) ∷ c ∷ []) zs e),
@@ -158,7 +185,7 @@ cache-back c t ws zs e =
     rw (at-is ws 536 (d ++ (flat (o ∷ []) ++ zs)) h4 0, at-is ws 536 (d ++ (flat (o ∷ []) ++ zs)) h4 1) (pending-by (c .pending) (t .pending) (flat (o ∷ []) ++ zs)) in
     let loads : getD ws 538 0 ≡ c .loads = at-is ws 538 (flat (o ∷ []) ++ zs) e5 0 in
     rw (
-      pages-back (c .pages) (t .pages) ws (flat (r ∷ l ∷ d ∷ o ∷ []) ++ zs) (here ws 15 p (r ∷ l ∷ d ∷ o ∷ []) zs e),
+      pages-back (c .pages) (typed-pages (c .pages) (t .pages)) ws (flat (r ∷ l ∷ d ∷ o ∷ []) ++ zs) (here ws 15 p (r ∷ l ∷ d ∷ o ∷ []) zs e),
       ring-back (c .missing) (t .missing) ws (flat (l ∷ d ∷ o ∷ []) ++ zs) (here ws 401 r (l ∷ d ∷ o ∷ []) zs e2),
       loading,
       pending,

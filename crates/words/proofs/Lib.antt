@@ -22,3 +22,6 @@ pub mod OpenLaws
 pub mod StepLaws
 -- WorkLaws: what a match and a road put.
 pub mod WorkLaws
+-- PageSetLaws: one slot or age that is put, and words with other pages. BeginLaws: a load that begins.
+pub mod PageSetLaws
+pub mod BeginLaws

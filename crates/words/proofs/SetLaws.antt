@@ -240,7 +240,7 @@ module _ (e : Engine) where
   in-held : (p : List ℕ) (m : ℕ) → length p ≡ m → (c : Cache) (at k : ℕ) → at ≡ k + 15 → k + m ≤ 524 → put k p (cacheWords held) ≡ cacheWords c → put at p (words e) ≡ words (cached e c)
   in-held p m l c at k far h part = in-shared p m l e (cached e c .shared) at (omega (arith, far, h)) (in-cache p m l (e .shared) c at k far h part)
 
-  in-held-pages : (p : List ℕ) (m : ℕ) → length p ≡ m → (g : Pages) (at k : ℕ) → at ≡ k + 15 → k + m ≤ 386 → put k p (pagesWords (held .pages)) ≡ pagesWords g
+  pub in-held-pages : (p : List ℕ) (m : ℕ) → length p ≡ m → (g : Pages) (at k : ℕ) → at ≡ k + 15 → k + m ≤ 386 → put k p (pagesWords (held .pages)) ≡ pagesWords g
       → put at p (words e) ≡ words (paged e g)
   in-held-pages p m l g at k far h part = in-held p m l (withPages held g) at k far (omega (arith, h)) (in-pages p m l held g k h part)
 

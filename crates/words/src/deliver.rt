@@ -10,14 +10,17 @@ use cache::MaybeKey;
 use cache::MaybeLoading;
 use cache::Pending;
 use cache::Progress;
+use cache::victim::Found;
 use engine::Due;
 use engine::Header;
 use engine::Phase;
 use engine::Status;
+use pack::Located;
 use pack::TileKey;
 ghost use mathlib.Core.Bool.{true};
 ghost use mathlib.Core.Path.{_≡_};
 ghost use lib.ListN.{length};
+ghost use Prim.Native.Nat.{_≤_};
 ghost use Rattle.cache.specs.declared.Pending.the-variants as Pendings;
 ghost use Rattle.engine.specs.Calls as Engines;
 ghost use Rattle.engine.specs.declared.Phase.the-variants as Phases;
@@ -215,6 +218,93 @@ fn part_came(
     }
 }
 
+// An entry that begins a load: nothing else is being loaded, and there is room for the tile.
+enum Begins {
+    Nothing,
+    At(TileKey, usize, u32, u32),
+}
+
+fn begins_at(ws: &[u32; crate::WORDS], key: TileKey, offset: u32, len: u32) -> Begins
+    ensures { λ r. ⌜ r ≡ Came.beginsAt (Words.engineOf (now (ws .entry))) key offset len ⌝ }
+{
+    if cache::MAX_TILE_BYTES < len as usize {
+        return Begins::Nothing;
+    }
+    match crate::begin::victim_of(ws, len as u16) {
+        Found::Nothing => Begins::Nothing,
+        Found::At(slot) => Begins::At(key, slot, offset, len),
+    }
+}
+
+fn entry_begins(ws: &[u32; crate::WORDS], failure: u32, bytes: &[u8]) -> Begins
+    requires { ⌜ Words.accepted (now ws) ≡ true ⌝ }
+    ensures { λ r. ⌜ r ≡ Came.begins (Words.engineOf (now (ws .entry))) failure (now (bytes .entry)) ⌝ }
+{
+    if failure != 0 {
+        return Begins::Nothing;
+    }
+    if bytes.len() != 8 {
+        return Begins::Nothing;
+    }
+    if ws[530] != 0 {
+        return Begins::Nothing;
+    }
+    let need = decode::maybe_key(ws[608], ws[609]);
+    match need {
+        MaybeKey::Nothing => Begins::Nothing,
+        MaybeKey::Key(key) => {
+            let entry = cache::step::entry_bytes(bytes);
+            match pack::grid::locate_of(decode::header(ws), &entry) {
+                Located::NoTile => Begins::Nothing,
+                Located::Refused(_) => Begins::Nothing,
+                Located::Tile(offset, len) => begins_at(ws, key, offset, len),
+            }
+        }
+    }
+}
+
+// The load begun.
+fn put_begun(ws: &mut [u32; crate::WORDS], key: TileKey, slot: usize, offset: u32, len: u32)
+    requires { ⌜ (Words.accepted (now ws) ≡ true) × (len ≤ 49152) ⌝ }
+    ensures { λ r. ⌜ now (ws .exit) ≡ Words.words (Came.begun (Words.engineOf (now (ws .entry))) key slot offset len) ⌝ }
+{
+    let n = std::num::wrapping_add_u32(ws[1149], 1);
+    crate::begin::begin(ws, slot, key, len as u16);
+    let l = Loading {
+        key,
+        slot,
+        offset,
+        len,
+        done: 0,
+    };
+    encode::put_loading(MaybeLoading::Tile(l), ws);
+    encode::put_pending(Pending::Nothing, ws);
+    encode::put_word(ws, 1149, n);
+}
+
+// An entry came.
+fn entry_came(
+    ws: &mut [u32; crate::WORDS],
+    arena: &mut [u8],
+    key: TileKey,
+    failure: u32,
+    bytes: &[u8],
+) -> Status
+    requires { ⌜ Words.accepted (now ws) ≡ true ⌝ }
+    requires { ⌜ State.engineOk (Opens.openedAs (Words.engineOf (now ws)) (Pendings.Entry key)) (length (now arena)) ≡ true ⌝ }
+    ensures { λ r. ⌜ r ≡ Deliver.needCame (Opens.openedAs (Words.engineOf (now (ws .entry))) (Pendings.Entry key)) (now (arena .entry)) failure (now (bytes .entry)) .answer ⌝ }
+    ensures { λ r. ⌜ now (ws .exit) ≡ Words.words (Deliver.needCame (Opens.openedAs (Words.engineOf (now (ws .entry))) (Pendings.Entry key)) (now (arena .entry)) failure (now (bytes .entry)) .engine) ⌝ }
+    ensures { λ r. ⌜ now (arena .exit) ≡ Deliver.needCame (Opens.openedAs (Words.engineOf (now (ws .entry))) (Pendings.Entry key)) (now (arena .entry)) failure (now (bytes .entry)) .arena ⌝ }
+{
+    match entry_begins(&*ws, failure, bytes) {
+        Begins::Nothing => part_came(ws, arena, Pending::Entry(key), failure, bytes),
+        Begins::At(needed, slot, offset, len) => {
+            put_begun(ws, needed, slot, offset, len);
+            Status::Working
+        }
+    }
+}
+
 // The load with so many bytes of its tile.
 fn put_further(ws: &mut [u32; crate::WORDS], l: Loading, done: u32)
     requires { ⌜ Words.accepted (now ws) ≡ true ⌝ }
@@ -291,7 +381,7 @@ fn came(
             }
             refused(ws, pending, 11)
         }
-        Pending::Entry(_) => part_came(ws, arena, pending, failure, bytes),
+        Pending::Entry(key) => entry_came(ws, arena, key, failure, bytes),
         Pending::Chunk => chunk_came(ws, arena, failure, bytes),
     }
 }

@@ -33,17 +33,17 @@ returns c =
 refused-requires-2 : tie.Need-refused-requires-2
 refused-requires-2 c κs = search needs
 
+enum-known-pending : tie.Need-enum-known-pending
+enum-known-pending c = search needs
+
+entry-came-requires : tie.Need-entry-came-requires
+entry-came-requires c κs = (c .before .before .before .before .before .before .before .pre .0, rw (c .before .before .before .pending .given .1) at (c .before .before .before .before .before .before .before .pre .1))
+
 enum-told-3 : tie.Need-enum-told-3
 enum-told-3 c = search needs
 
-part-came-requires : tie.Need-part-came-requires
-part-came-requires c κs = search needs
-
-enum-told-4 : tie.Need-enum-told-4
-enum-told-4 c = search needs
-
 chunk-came-requires : tie.Need-chunk-came-requires
-chunk-came-requires c κs = (c .before .before .before .before .before .before .pre .0, rw (c .before .before .enum-told4 .given .1) at (c .before .before .before .before .before .before .pre .1))
+chunk-came-requires c κs = (c .before .before .before .before .before .before .pre .0, rw (c .before .before .enum-told3 .given .1) at (c .before .before .before .before .before .before .pre .1))
 
 returns-2 : tie.Need-returns-2
 returns-2 c =
@@ -63,10 +63,11 @@ same-length c = search needs
 
 returns-4 : tie.Need-returns-4
 returns-4 c =
-    let args = c .before .before .before .before .before .before .before .before .before .args in
-    let by = by-fetch (engineOf (args .ws .now)) (c .before .before .before .before .before .enum-told3 .given .1) (now (args .arena)) (args .failure) (now (args .bytes)) in
-    let part = c .before .before .part-came .ensures in
-    (rw by (part .0), (rw by (part .1 .0), rw by (part .1 .1)))
+    let args = c .before .before .before .before .before .before .before .before .before .before .args in
+    let entry = c .before .before .before .before .before .before .pending .given .1 in
+    let by = by-fetch (engineOf (args .ws .now)) entry (now (args .arena)) (args .failure) (now (args .bytes)) in
+    let part = c .before .before .entry-came .ensures in
+    (rw (by, entry) (part .0), (rw (by, entry) (part .1 .0), rw (by, entry) (part .1 .1)))
 
 same-length-2 : tie.Need-same-length-2
 same-length-2 c = search needs
@@ -74,10 +75,10 @@ same-length-2 c = search needs
 returns-5 : tie.Need-returns-5
 returns-5 c =
     let args = c .before .before .before .before .before .before .before .before .before .args in
-    let chunk = c .before .before .before .before .before .enum-told4 .given .1 in
+    let chunk = c .before .before .before .before .before .enum-told3 .given .1 in
     let by = by-fetch (engineOf (args .ws .now)) chunk (now (args .arena)) (args .failure) (now (args .bytes)) in
     let part = c .before .before .chunk-came .ensures in
     (rw (by, chunk) (part .0), (rw (by, chunk) (part .1 .0), rw (by, chunk) (part .1 .1)))
 
 pub came-spec : {M : Type 1} → statement M
-came-spec = tie.close (tie.spec enum-told refused-requires enum-told-2 fits-header-requires header-came-requires returns refused-requires-2 enum-told-3 part-came-requires enum-told-4 chunk-came-requires returns-2 returns-3 same-length returns-4 same-length-2 returns-5)
+came-spec = tie.close (tie.spec enum-told refused-requires enum-told-2 fits-header-requires header-came-requires returns refused-requires-2 enum-known-pending entry-came-requires enum-told-3 chunk-came-requires returns-2 returns-3 same-length returns-4 same-length-2 returns-5)
