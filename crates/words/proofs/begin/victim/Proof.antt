@@ -24,7 +24,7 @@ oldest-requires : tie.Need-oldest-requires
 oldest-requires c κs = search needs
 
 returns-2 : tie.Need-returns-2
-returns-2 c = victim-by (c .before .before .before .before .before .before .args .ws .now) _ (c .before .before .before .before .before .before .args .pages) (c .before .before .before .before .size .ensures) (c .before .before .ages .ensures) (c .oldest .ensures)
+returns-2 c = victim-by (c .before .before .before .before .before .before .args .ws .now) (c .before .before .ages .result) (c .before .before .before .before .before .before .args .pages) (c .before .before .before .before .size .ensures) (c .before .before .ages .ensures) (c .oldest .ensures)
 
 pub victim-spec : {M : Type 1} → statement M
 victim-spec =
