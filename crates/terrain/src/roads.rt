@@ -423,15 +423,10 @@ pub extern "C" fn terrain_matcher_update(
     if 1 < heading.known {
         return no_match(12, 3, none);
     }
-    let at = parts::held(&*engine);
-    if !at.accepted {
-        return no_match(12, 3, none);
-    }
     let h = crate::records::header_of(header);
     let p = crate::records::point_of(fix);
     let m = matcher_in(&*matcher);
-    let u = m.update(at.cache, arena, h, p, heading_of(heading));
-    parts::leave(u.cache, engine);
+    let u = words::calls::update(engine, arena, m, h, p, heading_of(heading));
     put_matcher(u.matcher, matcher);
     let answer = u.answer;
     updated_out(answer)
@@ -457,14 +452,8 @@ pub extern "C" fn terrain_predict(
     if !is_given(start) {
         return no_road(12, 3, none);
     }
-    let at = parts::held(&*engine);
-    if !at.accepted {
-        return no_road(12, 3, none);
-    }
     let h = crate::records::header_of(header);
     let found = given(start);
-    let p = predict::predict(at.cache, arena, h, found, horizon_m, samples, behind);
-    parts::leave(p.cache, engine);
-    let answer = p.answer;
+    let answer = words::calls::predict(engine, arena, h, found, horizon_m, samples, behind);
     predicted_out(answer)
 }

@@ -20,8 +20,11 @@ pub mod MatcherLaws
 pub mod PagesLaws
 pub mod OpenLaws
 pub mod StepLaws
--- WorkLaws: what a match and a road put.
+-- LookLaws: what the cache's lookups read. WorkLaws: what a match and a road put.
+pub mod LookLaws
 pub mod WorkLaws
 -- PageSetLaws: one slot or age that is put, and words with other pages. BeginLaws: a load that begins.
 pub mod PageSetLaws
 pub mod BeginLaws
+-- CallLaws: the matcher's and predict's own calls.
+pub mod CallLaws

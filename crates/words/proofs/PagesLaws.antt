@@ -107,7 +107,7 @@ held-key tag n key h = by (eqb tag 1)
 -- ---- slots
 
 -- key and mark
-both-bits : (n : ℕ) → (eqb (n / 2 % 2) 1 && eqb (n % 2) 1) ≡ eqb (n % 4) 3
+pub both-bits : (n : ℕ) → (eqb (n / 2 % 2) 1 && eqb (n % 2) 1) ≡ eqb (n % 4) 3
 both-bits n = by (eqb (n % 4) 3) refl
   where
     by : (t : Bool) → eqb (n % 4) 3 ≡ t → (eqb (n / 2 % 2) 1 && eqb (n % 2) 1) ≡ t

@@ -1,5 +1,5 @@
 -- What a match and a road leave on words. What is read from words is what their engine has (`cache-in`, .., `horizon-in`); the parts that change, each put at its place, give the words of the
--- engine that is left (`asked-words`, .., `gone-words`); and the engine's own definitions by what the code tests (`matched-found`, .., `road-rematches`). The idea: accepted words are those of
+-- engine that is left (`asked-words`, .., `gone-words`); and the engine's own definitions by what the code tests (`matched-found`, .., `road-rematches`), and over the numbers that a road's lookups go by (`road-looked`). The idea: accepted words are those of
 -- their engine, and a piece put at its place gives the words of the engine with that part (`SetLaws`).
 use Prim.Native.Nat.{ℕ, _+_}
 use mathlib.Core.Path.{_≡_, refl, sym, ap, _∙_}
@@ -9,10 +9,14 @@ use mathlib.Core.List.{List, [], _∷_}
 use native.Mathlib.Omega.{arith}
 use denote.Enum.Declared.{tagOf}
 use lib.Dec.{eqb}
-use lib.IntN.{ℤ}
-use lib.ListN.{getD}
+use lib.IntN.{ℤ, pos}
+use lib.ListN.{getD, replicate}
+use borrow.Author.Tests.{eqb-true}
 use Rattle.pack.specs.declared.TileKey.{TileKey}
+use Rattle.cache.specs.Ages as Ages
+use Rattle.cache.specs.Ages.{lookupsOf, usesFrom}
 use Rattle.cache.specs.Lookups.{after}
+use Rattle.cache.specs.Stands.{Sized}
 use Rattle.cache.specs.Uses.{withUses}
 use Rattle.cache.specs.declared.Aging.{Aging}
 use Rattle.cache.specs.declared.Cache.{Cache}
@@ -26,16 +30,17 @@ use Rattle.matcher.specs.declared.Outcome.{Outcome}
 use Rattle.matcher.specs.declared.Outcome.the-variants as Outcome
 use Rattle.matcher.specs.declared.Updated.{Updated}
 use Rattle.matcher.proofs.Outcome as Outcomes
-use Rattle.predict.specs.Predict.{After}
+use Rattle.predict.specs.Predict.{Forecast, After, afterOf, fromLooks}
 use Rattle.predict.specs.declared.End.the-variants as End
 use Rattle.predict.specs.declared.Outcome as RoadOutcome
-use Rattle.predict.specs.declared.Predicted.{Predicted}
+use Rattle.predict.specs.declared.Outcome.the-variants as Road
 use Rattle.predict.specs.declared.Prediction.{Prediction}
+use Rattle.predict.proofs.InCache.{looks-predict}
 use Rattle.predict.proofs.Outcome as RoadOutcomes
 use Rattle.engine.specs.Plans.{leftMap, roadDropped, matchMade, matchedDue, askingDue, roadFails, roadNumber}
 use Rattle.engine.specs.Publish.{withMatch}
 use Rattle.engine.specs.State.{refused}
-use Rattle.engine.specs.Work.{asking, counted, ended, emptied, isMatched, mayAsk, matched, matchedBy, matchAsks, matchDone, matchEndedBy, matchingOff, offMap, published, rematch, roadDone, roadOff, withMatcher, withDue, withAhead, withHeights}
+use Rattle.engine.specs.Work.{asking, counted, ended, emptied, isMatched, mayAsk, matched, matchedBy, matchAsks, matchDone, matchEndedBy, matchingOff, offMap, published, rematch, roadDone, roadEndedBy, roadOff, roadStep, withMatcher, withDue, withAhead, withHeights}
 use Rattle.engine.specs.declared.Ahead.{Ahead}
 use Rattle.engine.specs.declared.Due.{Due}
 use Rattle.engine.specs.declared.Engine.{Engine}
@@ -45,9 +50,9 @@ use Rattle.engine.specs.declared.Status.the-variants as Status
 use Rattle.engine.proofs.StepNeeds.{road-refused, road-ended, road-left}
 use Rattle.words.specs.Put.{put}
 use Rattle.words.specs.Words as Words
-use Rattle.words.specs.Words.{from, floatOf, headerBy, pagesOf, cacheOf, sharedOf, headingOf, sightOf, currentBy, matcherOf, dueOf, aheadOf, followerOf, engineOf, usedWords, cacheWords, matcherWords, dueWords, aheadWords, words, accepted}
+use Rattle.words.specs.Words.{from, floatOf, headerBy, pagesOf, cacheOf, sharedOf, headingOf, sightOf, currentBy, matcherOf, dueOf, aheadOf, followerOf, engineOf, usedWords, matcherWords, dueWords, aheadWords, words, accepted}
 use Rattle.words.specs.Worked as Worked
-use Rattle.words.proofs.SetLaws.{cached, aged, clocked, matchedAs, dueAs, aheadAs, counting, cache-put-in, used-put, clock-put, matcher-put-in, due-put-in, matching-put, road-due-put, ahead-put-in, steps-put}
+use Rattle.words.proofs.SetLaws.{aged, clocked, matchedAs, dueAs, aheadAs, counting, used-put, clock-put, matcher-put-in, due-put-in, matching-put, road-due-put, ahead-put-in, steps-put}
 use Rattle.words.proofs.WordsLaws.{words-engine}
 
 -- by cases of which the types are known from what is given
@@ -116,28 +121,26 @@ module _ (ws : List ℕ) where
 onto : (at : ℕ) (p : List ℕ) {ws xs ys : List ℕ} → ws ≡ xs → put at p xs ≡ ys → put at p ws ≡ ys
 onto at p before law = ap (put at p) before ∙ law
 
-module _ (ws : List ℕ) (h : accepted ws ≡ true) (n : ℕ) (more : n ≡ after (getD ws 1149 0)) where
+module _ (ws : List ℕ) (h : accepted ws ≡ true) where
   abbrev here : Engine
   here = engineOf ws
 
-  -- the step counted last
-  counts : {xs : List ℕ} (e : Engine) → xs ≡ words e → put 1149 (n ∷ []) xs ≡ words (counting e (after (here .follower .steps)))
-  counts {xs} e before =
-      ap (λ (k : ℕ). put 1149 (k ∷ []) xs) (more ∙ ap after (steps-in ws))
-      ∙ onto 1149 (after (here .follower .steps) ∷ []) before (steps-put e (after (here .follower .steps)))
-
+  -- clock and ages
   abbrev agedBy : Aging → Engine
   agedBy a = clocked (aged here (a .used)) (a .clock)
 
   abbrev usesPut : Aging → List ℕ
   usesPut a = put 400 (a .clock ∷ []) (put 303 (usedWords (a .used)) ws)
 
-  uses-words : (a : Aging) → usesPut a ≡ words (agedBy a)
+  pub uses-words : (a : Aging) → usesPut a ≡ words (agedBy a)
   uses-words a =
       onto 400 (a .clock ∷ []) (onto 303 (usedWords (a .used)) (sym (words-engine ws h)) (used-put here (a .used))) (clock-put (aged here (a .used)) (a .clock))
 
-  pub asked-words : (a : Aging) (d : Due) → put 1149 (n ∷ []) (put 603 (dueWords d) (usesPut a)) ≡ words (Worked.asked here a d)
-  asked-words a d = counts (dueAs (agedBy a) d) (onto 603 (dueWords d) (uses-words a) (due-put-in (agedBy a) d))
+  abbrev duePut : Aging → Due → List ℕ
+  duePut a d = put 603 (dueWords d) (usesPut a)
+
+  due-put : (a : Aging) (d : Due) → duePut a d ≡ words (dueAs (agedBy a) d)
+  due-put a d = onto 603 (dueWords d) (uses-words a) (due-put-in (agedBy a) d)
 
   abbrev foundPut : Aging → Matcher → Due → List ℕ
   foundPut a m d = put 603 (dueWords d) (put 581 (matcherWords m) (usesPut a))
@@ -146,66 +149,58 @@ module _ (ws : List ℕ) (h : accepted ws ≡ true) (n : ℕ) (more : n ≡ afte
   found-put a m d =
       onto 603 (dueWords d) (onto 581 (matcherWords m) (uses-words a) (matcher-put-in (agedBy a) m)) (due-put-in (matchedAs (agedBy a) m) d)
 
-  pub found-words : (a : Aging) (m : Matcher) (d : Due) → put 1149 (n ∷ []) (foundPut a m d) ≡ words (Worked.found here a m d)
-  found-words a m d = counts (dueAs (matchedAs (agedBy a) m) d) (found-put a m d)
+  module _ (n : ℕ) (more : n ≡ after (getD ws 1149 0)) where
+    -- the step counted last
+    counts : {xs : List ℕ} (e : Engine) → xs ≡ words e → put 1149 (n ∷ []) xs ≡ words (counting e (after (here .follower .steps)))
+    counts {xs} e before =
+        ap (λ (k : ℕ). put 1149 (k ∷ []) xs) (more ∙ ap after (steps-in ws))
+        ∙ onto 1149 (after (here .follower .steps) ∷ []) before (steps-put e (after (here .follower .steps)))
 
-  pub lost-words : (a : Aging) (m : Matcher) (d : Due) (at : ℕ)
-      → put 1149 (n ∷ []) (put 611 (aheadWords (emptied (here .follower .ahead) at End.Uncertain)) (foundPut a m d)) ≡ words (Worked.lost here a m d at)
-  lost-words a m d at =
-      let e : Engine = dueAs (matchedAs (agedBy a) m) d in
-      let empty : Ahead = emptied (here .follower .ahead) at End.Uncertain in
-      counts (aheadAs e empty) (onto 611 (aheadWords empty) (found-put a m d) (ahead-put-in e empty))
+    pub asked-words : (a : Aging) (d : Due) → put 1149 (n ∷ []) (duePut a d) ≡ words (Worked.asked here a d)
+    asked-words a d = counts (dueAs (agedBy a) d) (due-put a d)
 
-  -- ---- a road
+    pub found-words : (a : Aging) (m : Matcher) (d : Due) → put 1149 (n ∷ []) (foundPut a m d) ≡ words (Worked.found here a m d)
+    found-words a m d = counts (dueAs (matchedAs (agedBy a) m) d) (found-put a m d)
 
-  cache-words : (c : Cache) → put 15 (cacheWords c) ws ≡ words (cached here c)
-  cache-words c = onto 15 (cacheWords c) (sym (words-engine ws h)) (cache-put-in here c)
+    pub lost-words : (a : Aging) (m : Matcher) (d : Due) (at : ℕ)
+        → put 1149 (n ∷ []) (put 611 (aheadWords (emptied (here .follower .ahead) at End.Uncertain)) (foundPut a m d)) ≡ words (Worked.lost here a m d at)
+    lost-words a m d at =
+        let e : Engine = dueAs (matchedAs (agedBy a) m) d in
+        let empty : Ahead = emptied (here .follower .ahead) at End.Uncertain in
+        counts (aheadAs e empty) (onto 611 (aheadWords empty) (found-put a m d) (ahead-put-in e empty))
 
-  road-put : (c : Cache) (d : Due) → put 603 (dueWords d) (put 15 (cacheWords c) ws) ≡ words (dueAs (cached here c) d)
-  road-put c d = onto 603 (dueWords d) (cache-words c) (due-put-in (cached here c) d)
+    pub published-words : (a : Aging) (d : Due) (road : Ahead)
+        → put 1149 (n ∷ []) (put 611 (aheadWords road) (duePut a d))
+        ≡ words (Worked.leaves here (withUses (here .shared .cache) a) (withAhead (withDue (counted (here .follower)) d) road))
+    published-words a d road =
+        let e : Engine = dueAs (agedBy a) d in
+        counts (aheadAs e road) (onto 611 (aheadWords road) (due-put a d) (ahead-put-in e road))
 
-  pub road-asked-words : (c : Cache) (d : Due) → put 1149 (n ∷ []) (put 603 (dueWords d) (put 15 (cacheWords c) ws)) ≡ words (Worked.roadAsked here c d)
-  road-asked-words c d = counts (dueAs (cached here c) d) (road-put c d)
+    pub dropped-words : put 1149 (n ∷ []) (put 604 (0 ∷ []) ws) ≡ words (roadDropped here .engine)
+    dropped-words = counts (dueAs here (roadOff (here .follower .due))) (onto 604 (0 ∷ []) (sym (words-engine ws h)) (road-due-put here false))
 
-  pub rematched-words : (c : Cache) (m : Matcher) (d : Due)
-      → put 1149 (n ∷ []) (put 603 (dueWords d) (put 581 (matcherWords m) (put 15 (cacheWords c) ws)))
-      ≡ words (Worked.leaves here c (withDue (withMatcher (counted (here .follower)) m) d))
-  rematched-words c m d =
-      let e : Engine = matchedAs (cached here c) m in
-      counts (dueAs e d) (onto 603 (dueWords d) (onto 581 (matcherWords m) (cache-words c) (matcher-put-in (cached here c) m)) (due-put-in e d))
+    -- ---- off the map
 
-  pub published-words : (c : Cache) (d : Due) (road : Ahead)
-      → put 1149 (n ∷ []) (put 611 (aheadWords road) (put 603 (dueWords d) (put 15 (cacheWords c) ws)))
-      ≡ words (Worked.leaves here c (withAhead (withDue (counted (here .follower)) d) road))
-  published-words c d road =
-      let e : Engine = dueAs (cached here c) d in
-      counts (aheadAs e road) (onto 611 (aheadWords road) (road-put c d) (ahead-put-in e road))
+    abbrev leaving : Engine → Engine
+    leaving e = counting (dueAs e (matchingOff (e .follower .due))) (after (here .follower .steps))
 
-  pub dropped-words : put 1149 (n ∷ []) (put 604 (0 ∷ []) ws) ≡ words (roadDropped here .engine)
-  dropped-words = counts (dueAs here (roadOff (here .follower .due))) (onto 604 (0 ∷ []) (sym (words-engine ws h)) (road-due-put here false))
+    left-put : {xs : List ℕ} (e : Engine) → xs ≡ words e → put 1149 (n ∷ []) (put 603 (0 ∷ []) xs) ≡ words (leaving e)
+    left-put e before = counts (dueAs e (matchingOff (e .follower .due))) (onto 603 (0 ∷ []) before (matching-put e false))
 
-  -- ---- off the map
+    -- with a road that is published
+    pub gone-left : (fix : Fix) → isMatched (here .follower .ahead .matched) ≡ true → {xs : List ℕ} → xs ≡ words (Worked.roadGone here (fix .«at_ms»))
+        → put 1149 (n ∷ []) (put 603 (0 ∷ []) xs) ≡ words (leftMap here fix .engine)
+    unfolding offMap
+    gone-left fix q before =
+        let empty : Ahead = emptied (here .follower .ahead) (fix .«at_ms») End.MapEdge in
+        left-put (Worked.roadGone here (fix .«at_ms»)) before
+        ∙ ap (λ (b : Bool). words (leaving (aheadAs (matchedAs here (cond b reset (here .follower .matcher))) empty))) (sym q)
 
-  abbrev left : Engine → Engine
-  left e = counting (dueAs e (matchingOff (e .follower .due))) (after (here .follower .steps))
-
-  left-put : {xs : List ℕ} (e : Engine) → xs ≡ words e → put 1149 (n ∷ []) (put 603 (0 ∷ []) xs) ≡ words (left e)
-  left-put e before = counts (dueAs e (matchingOff (e .follower .due))) (onto 603 (0 ∷ []) before (matching-put e false))
-
-  -- with a road that is published
-  pub gone-left : (fix : Fix) → isMatched (here .follower .ahead .matched) ≡ true → {xs : List ℕ} → xs ≡ words (Worked.roadGone here (fix .«at_ms»))
-      → put 1149 (n ∷ []) (put 603 (0 ∷ []) xs) ≡ words (leftMap here fix .engine)
-  unfolding offMap
-  gone-left fix q before =
-      let empty : Ahead = emptied (here .follower .ahead) (fix .«at_ms») End.MapEdge in
-      left-put (Worked.roadGone here (fix .«at_ms»)) before
-      ∙ ap (λ (b : Bool). words (left (aheadAs (matchedAs here (cond b reset (here .follower .matcher))) empty))) (sym q)
-
-  -- and without one
-  pub still-left : (fix : Fix) → isMatched (here .follower .ahead .matched) ≡ false → {xs : List ℕ} → xs ≡ ws
-      → put 1149 (n ∷ []) (put 603 (0 ∷ []) xs) ≡ words (leftMap here fix .engine)
-  unfolding offMap
-  still-left fix q before = rw q (left-put here (before ∙ sym (words-engine ws h)))
+    -- and without one
+    pub still-left : (fix : Fix) → isMatched (here .follower .ahead .matched) ≡ false → {xs : List ℕ} → xs ≡ ws
+        → put 1149 (n ∷ []) (put 603 (0 ∷ []) xs) ≡ words (leftMap here fix .engine)
+    unfolding offMap
+    still-left fix q before = rw q (left-put here (before ∙ sym (words-engine ws h)))
 
 pub gone-words : (ws : List ℕ) → accepted ws ≡ true → (at : ℕ)
     → put 611 (aheadWords (emptied (engineOf ws .follower .ahead) at End.MapEdge)) (put 581 (matcherWords reset) ws) ≡ words (Worked.roadGone (engineOf ws) at)
@@ -280,21 +275,53 @@ road-published f samples behind fix m p = refl
 abbrev roadTag : RoadOutcome.Outcome → ℕ
 roadTag o = tagOf RoadOutcomes.the-type o
 
-module _ (e : Engine) (fix : Fix) (m : Matched) (p : Predicted) (samples behind : List ℤ) where
-  abbrev worked : After
-  worked = record { predicted = p; samples = samples; behind = behind }
-
+module _ (e : Engine) (fix : Fix) (m : Matched) where
   abbrev next : Follower
   next = counted (e .follower)
 
-  -- one that refuses the step
-  pub road-refuses : roadFails (p .answer) ≡ true → Worked.roadEnded e fix m p samples behind ≡ refused e (roadNumber (p .answer))
-  road-refuses fails = road-refused (p .answer) fails e next fix m worked
+  module _ (answer : RoadOutcome.Outcome) (uses : Aging) (samples behind : List ℤ) where
+    abbrev left : Cache
+    left = withUses (e .shared .cache) uses
 
-  -- one that has the fix matched again
-  pub road-rematches : roadFails (p .answer) ≡ false → (roadTag (p .answer) ≡ 2) ⊎ (roadTag (p .answer) ≡ 3)
-      → Worked.roadEnded e fix m p samples behind ≡ ended e (p .cache) (rematch next) Status.Working
-  road-rematches stays h =
-      road-ended (p .answer) stays e next fix m worked
-      ∙ ap (λ (f : Follower). ended e (p .cache) f Status.Working)
-      (road-left (p .answer) h next (withHeights (e .follower .ahead) samples behind) (p .cache .pages .count) fix m)
+    abbrev worked : After
+    worked = record { predicted = record { answer = answer; cache = left }; samples = samples; behind = behind }
+
+    -- one that refuses the step
+    pub road-refuses : roadFails answer ≡ true → Worked.roadEnded e fix m answer uses samples behind ≡ refused e (roadNumber answer)
+    road-refuses fails = road-refused answer fails e next fix m worked
+
+    -- one that has the fix matched again
+    pub road-rematches : roadFails answer ≡ false → (roadTag answer ≡ 2) ⊎ (roadTag answer ≡ 3)
+        → Worked.roadEnded e fix m answer uses samples behind ≡ ended e left (rematch next) Status.Working
+    road-rematches stays h =
+        road-ended answer stays e next fix m worked
+        ∙ ap (λ (f : Follower). ended e left f Status.Working)
+        (road-left answer h next (withHeights (e .follower .ahead) samples behind) (left .pages .count) fix m)
+
+  -- after a late 12 the step is refused: so clock and ages may be put beside every other answer
+  road-closed : (o : RoadOutcome.Outcome) (looks : List ℕ) (samples behind : List ℤ)
+      → Worked.roadEnded e fix m o (usesFrom looks) samples behind
+      ≡ roadEndedBy o e next fix m (afterOf (e .shared .cache) (record { answer = o; samples = samples; behind = behind; carried = looks }))
+  unfolding Ages.aged
+  road-closed (Road.Road p) looks samples behind = refl
+  road-closed (Road.Need key) looks samples behind = refl
+  road-closed Road.Rematch looks samples behind = refl
+  road-closed (Road.Refused number) looks samples behind = by (eqb number 10) refl
+    where
+      by : (t : Bool) → eqb number 10 ≡ t
+          → cond t (ended e (withUses (e .shared .cache) (usesFrom looks)) (rematch next) Status.Working) (refused e number)
+          ≡ cond t (ended e (cond (eqb number 12) (e .shared .cache) (Ages.aged (e .shared .cache) looks)) (rematch next) Status.Working) (refused e number)
+      by true q = let ten : number ≡ 10 = eqb-true number 10 q in rw ten
+      by false q = refl
+
+  -- a road over the numbers that its lookups go by
+  module _ (sized : Sized (e .shared .cache)) (arena : List ℕ) where
+    abbrev road : Forecast (List ℕ)
+    road = fromLooks (lookupsOf (e .shared .cache)) arena (e .shared .cache .pages .count) (e .shared .header) m (e .follower .«horizon_m») (replicate 501 (pos 0)) (replicate 11 (pos 0))
+
+    pub road-looked : Worked.roadEnded e fix m (road .answer) (usesFrom (road .carried)) (road .samples) (road .behind) ≡ roadStep e arena next fix m
+    unfolding roadStep
+    road-looked =
+        road-closed (road .answer) (road .carried) (road .samples) (road .behind)
+        ∙ ap (λ (x : After). roadEndedBy (x .predicted .answer) e next fix m x)
+        (looks-predict (e .shared .cache) sized arena (e .shared .header) m (e .follower .«horizon_m») (replicate 501 (pos 0)) (replicate 11 (pos 0)))

@@ -1,10 +1,11 @@
--- Which fetch a step leaves open: this restates private code (`steps.rt`). `OpenLaws` says that a step which opens or repeats one does nothing else.
+-- Number 12's test on words, and which fetch a step leaves open: this restates private code (`pages.rt`, `steps.rt`, `calls.rt`). `OpenLaws` says that a step which opens or repeats one does nothing else.
 use Prim.Native.Nat.{ℕ}
 use mathlib.Core.Bool.{Bool, _&&_, cond}
 use mathlib.Core.List.{List}
+use Rattle.pack.specs.declared.Header.{Header}
 use Rattle.pack.specs.declared.TileKey.{TileKey}
 use Rattle.cache.specs.Lookups.{nextStep}
-use Rattle.cache.specs.State.{stateOk}
+use Rattle.cache.specs.State.{stateOk, cacheOk}
 use Rattle.cache.specs.declared.Cache.{Cache}
 use Rattle.cache.specs.declared.Pending.{Pending}
 use Rattle.cache.specs.declared.Pending.the-variants as Pending
@@ -23,6 +24,10 @@ use Rattle.words.specs.Words.{accepted, engineOf, cacheOf}
 -- words of an engine whose cache's own state number 12 leaves alone
 unfoldable pub cacheTested : List ℕ → Bool
 cacheTested ws = accepted ws && stateOk (cacheOf ws 15)
+
+-- words of an engine, and a call that is given its cache, a header and an arena of `size` bytes, which number 12 leaves alone
+unfoldable pub givenTested : List ℕ → Header → ℕ → Bool
+givenTested ws h size = accepted ws && cacheOk (cacheOf ws 15) h size
 
 -- words of an engine that number 12 leaves alone
 unfoldable pub tested : List ℕ → ℕ → Bool

@@ -1,7 +1,8 @@
--- What a match and a road leave, by the parts that are put: this restates private code (`work.rt`), each as the engine's own definitions say it (`Work`, `Plans` of the engine).
-use Prim.Native.Nat.{ℕ, _+_}
-use mathlib.Core.Bool.{cond}
+-- What a match and a road leave, by the parts that are put: this restates private code (`work.rt`, `calls.rt`), each as the engine's own definitions say it (`Work`, `Plans` of the engine).
+use Prim.Native.Nat.{ℕ}
+use mathlib.Core.Bool.{Bool, false}
 use mathlib.Core.List.{List}
+use lib.Dec.{eqb}
 use lib.IntN.{ℤ}
 use Rattle.pack.specs.declared.TileKey.{TileKey}
 use Rattle.cache.specs.Lookups.{after}
@@ -13,7 +14,8 @@ use Rattle.matcher.specs.declared.Current.the-variants as Current
 use Rattle.matcher.specs.declared.Matched.{Matched}
 use Rattle.matcher.specs.declared.Matcher.{Matcher}
 use Rattle.predict.specs.declared.End.the-variants as End
-use Rattle.predict.specs.declared.Predicted.{Predicted}
+use Rattle.predict.specs.declared.Outcome.{Outcome}
+use Rattle.predict.specs.declared.Outcome.the-variants as Outcome
 use Rattle.predict.specs.declared.Prediction.{Prediction}
 use Rattle.engine.specs.Work.{counted, ended, emptied, matched, roadDone, roadAsks, rematch, roadEndedBy, withMatcher, withDue, withAhead}
 use Rattle.engine.specs.declared.Ahead.{Ahead}
@@ -42,19 +44,18 @@ lost e uses m due at =
 abbrev pub made : Engine → Fix → Aging → Matcher → Engine
 made e fix uses m = leaves e (withUses (e .shared .cache) uses) (matched (counted (e .follower)) m fix)
 
--- ---- a road
+-- ---- a road: of the cache it changes clock and ages alone
 
-abbrev pub roadAsked : Engine → Cache → Due → Engine
-roadAsked e c due = leaves e c (withDue (counted (e .follower)) due)
+abbrev pub rematched : Engine → Aging → Engine
+rematched e uses = leaves e (withUses (e .shared .cache) uses) (rematch (counted (e .follower)))
 
-abbrev pub rematched : Engine → Cache → Engine
-rematched e c = leaves e c (rematch (counted (e .follower)))
+abbrev pub published : Engine → Aging → ℕ → Ahead → Engine
+published e uses at road =
+    leaves e (withUses (e .shared .cache) uses) (withAhead (withDue (counted (e .follower)) (roadDone (e .follower .due) at)) road)
 
-abbrev pub published : Engine → Cache → ℕ → Ahead → Engine
-published e c at road = leaves e c (withAhead (withDue (counted (e .follower)) (roadDone (e .follower .due) at)) road)
-
-abbrev pub roadNeeds : Engine → Cache → Fix → Matched → TileKey → Engine
-roadNeeds e c fix m key = leaves e c (roadAsks (counted (e .follower)) (c .pages .count) fix m key)
+abbrev pub roadNeeds : Engine → Aging → Fix → Matched → TileKey → Engine
+roadNeeds e uses fix m key =
+    leaves e (withUses (e .shared .cache) uses) (roadAsks (counted (e .follower)) (e .shared .cache .pages .count) fix m key)
 
 abbrev pub roadOf : ℕ → ℕ → Matched → Prediction → List ℤ → List ℤ → Ahead
 roadOf generation at m p samples behind = record {
@@ -72,9 +73,17 @@ roadOf generation at m p samples behind = record {
   confidence = p .confidence;
 }
 
-abbrev pub roadEnded : Engine → Fix → Matched → Predicted → List ℤ → List ℤ → Stepped
-roadEnded e fix m p samples behind =
-    roadEndedBy (p .answer) e (counted (e .follower)) fix m (record { predicted = p; samples = samples; behind = behind })
+abbrev pub roadEnded : Engine → Fix → Matched → Outcome → Aging → List ℤ → List ℤ → Stepped
+roadEnded e fix m answer uses samples behind =
+    roadEndedBy answer e (counted (e .follower)) fix m
+    (record { predicted = record { answer = answer; cache = withUses (e .shared .cache) uses }; samples = samples; behind = behind })
+
+-- the late 12, after which clock and ages stay as they were
+abbrev pub isStale : Outcome → Bool
+isStale (Outcome.Road p) = false
+isStale (Outcome.Need key) = false
+isStale Outcome.Rematch = false
+isStale (Outcome.Refused number) = eqb number 12
 
 -- ---- off the map: a road that is published goes, and its match
 

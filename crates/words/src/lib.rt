@@ -33,13 +33,15 @@
 // | 1,142 | 5       | how many, their metres, end, its metres, confidence                                               |
 // | 1,147 | 3       | failures, horizon, steps                                                                          |
 //
-// `decode` and `encode` have the pieces, both ways, and `kept` the test that words are some engine's; `pages` number 12's causes in the cache's words, `begin` a load that begins, `steps` a step on words, `work` its
-// matches and roads, `deliver` the answer to a fetch and a step over a lent pack.
+// `decode` and `encode` have the pieces, both ways, and `kept` the test that words are some engine's; `pages` number 12's causes in the cache's words, `look` the lookups there, `begin` a load that begins;
+// `steps` a step on words, `work` its matches and roads, `deliver` the answer to a fetch and a step over a lent pack, `calls` the matcher's and predict's own calls.
 mod begin;
+pub mod calls;
 pub mod decode;
 pub mod deliver;
 pub mod encode;
 mod kept;
+mod look;
 mod pages;
 pub mod steps;
 mod work;

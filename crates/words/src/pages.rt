@@ -125,7 +125,7 @@ fn holds(tag: u32, held: u32, word: u32) -> bool
 }
 
 // Whether one of the ring's places holds the key.
-fn in_ring(ws: &[u32; crate::WORDS], key: TileKey) -> bool
+pub(crate) fn in_ring(ws: &[u32; crate::WORDS], key: TileKey) -> bool
     ensures { λ r. ⌜ r ≡ Keys.inRing (Words.ringOf (now (ws .entry)) 401) key ⌝ }
 {
     let word = encode::of_key(key);
@@ -139,7 +139,7 @@ fn in_ring(ws: &[u32; crate::WORDS], key: TileKey) -> bool
 }
 
 // The lowest page below the count that starts a ready run of the key.
-fn ready_at(ws: &[u32; crate::WORDS], key: TileKey) -> Found
+pub(crate) fn ready_at(ws: &[u32; crate::WORDS], key: TileKey) -> Found
     ensures { λ r. ⌜ r ≡ Keys.readyAt (Words.pagesOf (now (ws .entry)) 15) key ⌝ }
 {
     let word = encode::of_key(key);

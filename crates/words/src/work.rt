@@ -1,8 +1,7 @@
-// A match and a road on words: what they read is taken out first, and then the words that change are put. Of the cache a match changes clock and ages alone.
+// A match and a road on words: what they read is taken out first, and then the words that change are put. Of the cache they change clock and ages alone.
 use crate::decode;
 use crate::encode;
 use cache::Aging;
-use cache::Cache;
 use engine::Ahead;
 use engine::Current;
 use engine::Due;
@@ -14,7 +13,6 @@ use matcher::Made;
 use matcher::Matcher;
 use predict::End;
 use predict::Outcome;
-use predict::Predicted;
 use predict::Prediction;
 ghost use mathlib.Core.Bool.{true};
 ghost use mathlib.Core.Path.{_≡_};
@@ -28,7 +26,7 @@ ghost use Rattle.words.specs.Worked as Worked;
 // ---- a match
 
 // Clock and ages, the step counted, and what is due.
-fn match_asks(ws: &mut [u32; crate::WORDS], uses: Aging, due: Due)
+fn asks(ws: &mut [u32; crate::WORDS], uses: Aging, due: Due)
     requires { ⌜ Words.accepted (now ws) ≡ true ⌝ }
     ensures { λ r. ⌜ now (ws .exit) ≡ Words.words (Worked.asked (Words.engineOf (now (ws .entry))) uses due) ⌝ }
 {
@@ -100,7 +98,7 @@ fn match_ended(ws: &mut [u32; crate::WORDS], fix: Fix, u: Made) -> Status
             let due = decode::due(&*ws);
             let pages = decode::size(ws[399]);
             let asked = engine::work::asking_due(due, pages, key);
-            match_asks(ws, uses, asked);
+            asks(ws, uses, asked);
             engine::work::match_tells(due, pages, answer)
         }
     }
@@ -113,40 +111,31 @@ pub(crate) fn match_step(ws: &mut [u32; crate::WORDS], arena: &[u8], fix: Fix) -
     ensures { λ r. ⌜ now (ws .exit) ≡ Words.words (Work.matchStep (Words.engineOf (now (ws .entry))) (now (arena .entry)) (Work.counted (Words.engineOf (now (ws .entry)) .follower)) fix .engine) ⌝ }
 {
     let m = decode::matcher(&*ws);
-    let c = decode::cache(&*ws);
     let header = decode::header(&*ws);
     let heading = decode::heading(ws[577], ws[578]);
     let point = Point {
         lat: fix.lat,
         lon: fix.lon,
     };
-    let u = matcher::gather::made(m, c, arena, header, point, heading);
+    let near = matcher::near::near_of(header, point);
+    let at = crate::look::landings(&*ws, near);
+    let uses = crate::look::uses(&*ws);
+    let u = matcher::gather::made_at(m, at, uses, arena, header, point, heading, near);
     match_ended(ws, fix, u)
 }
 
 // ---- a road
 
-// The cache, the step counted, and what is due.
-fn road_asks(ws: &mut [u32; crate::WORDS], c: Cache, due: Due)
+// Clock and ages, the step counted, and no matcher, so that the fix is matched again.
+fn road_rematch(ws: &mut [u32; crate::WORDS], uses: Aging)
     requires { ⌜ Words.accepted (now ws) ≡ true ⌝ }
-    ensures { λ r. ⌜ now (ws .exit) ≡ Words.words (Worked.roadAsked (Words.engineOf (now (ws .entry))) c due) ⌝ }
-{
-    let n = std::num::wrapping_add_u32(ws[1149], 1);
-    encode::put_cache(c, ws);
-    encode::put_due(due, ws);
-    encode::put_word(ws, 1149, n);
-}
-
-// And a matcher, which is matched again.
-fn road_rematch(ws: &mut [u32; crate::WORDS], c: Cache)
-    requires { ⌜ Words.accepted (now ws) ≡ true ⌝ }
-    ensures { λ r. ⌜ now (ws .exit) ≡ Words.words (Worked.rematched (Words.engineOf (now (ws .entry))) c) ⌝ }
+    ensures { λ r. ⌜ now (ws .exit) ≡ Words.words (Worked.rematched (Words.engineOf (now (ws .entry))) uses) ⌝ }
 {
     let n = std::num::wrapping_add_u32(ws[1149], 1);
     let mut due = decode::due(&*ws);
     due.matching = true;
     let none = Matcher::reset();
-    encode::put_cache(c, ws);
+    encode::put_uses(uses, ws);
     encode::put_matcher(none, ws);
     encode::put_due(due, ws);
     encode::put_word(ws, 1149, n);
@@ -180,30 +169,35 @@ fn road_of(
     }
 }
 
-// And the road, which is published at the fix's time.
-fn road_publish(ws: &mut [u32; crate::WORDS], c: Cache, at_ms: u64, road: Ahead)
+// Clock and ages, the step counted, and the road, which is published at the fix's time.
+fn road_publish(ws: &mut [u32; crate::WORDS], uses: Aging, at_ms: u64, road: Ahead)
     requires { ⌜ Words.accepted (now ws) ≡ true ⌝ }
-    ensures { λ r. ⌜ now (ws .exit) ≡ Words.words (Worked.published (Words.engineOf (now (ws .entry))) c «at_ms» road) ⌝ }
+    ensures { λ r. ⌜ now (ws .exit) ≡ Words.words (Worked.published (Words.engineOf (now (ws .entry))) uses «at_ms» road) ⌝ }
 {
     let n = std::num::wrapping_add_u32(ws[1149], 1);
     let due = decode::due(&*ws);
     let done = engine::work::road_done(due, at_ms);
-    encode::put_cache(c, ws);
+    encode::put_uses(uses, ws);
     encode::put_due(done, ws);
     encode::put_ahead(road, ws);
     encode::put_word(ws, 1149, n);
 }
 
 // A road needs a tile first; past the limit the road is Memory.
-fn road_needs(ws: &mut [u32; crate::WORDS], c: Cache, fix: Fix, found: Matched, key: pack::TileKey)
+fn road_needs(
+    ws: &mut [u32; crate::WORDS],
+    uses: Aging,
+    fix: Fix,
+    found: Matched,
+    key: pack::TileKey,
+)
     requires { ⌜ Words.accepted (now ws) ≡ true ⌝ }
-    ensures { λ r. ⌜ now (ws .exit) ≡ Words.words (Worked.roadNeeds (Words.engineOf (now (ws .entry))) c fix found key) ⌝ }
+    ensures { λ r. ⌜ now (ws .exit) ≡ Words.words (Worked.roadNeeds (Words.engineOf (now (ws .entry))) uses fix found key) ⌝ }
 {
     let due = decode::due(&*ws);
-    let g = c.pages;
-    if engine::work::may_ask(due, g.count) {
+    if engine::work::may_ask(due, decode::size(ws[399])) {
         let asked = engine::work::asking(due, key, due.reloads + 1);
-        road_asks(ws, c, asked);
+        asks(ws, uses, asked);
         return;
     }
     let a = decode::ahead(&*ws);
@@ -211,7 +205,7 @@ fn road_needs(ws: &mut [u32; crate::WORDS], c: Cache, fix: Fix, found: Matched, 
     let behind = a.behind;
     let none = engine::work::no_road();
     let road = road_of(a.generation, fix.at_ms, found, none, samples, behind);
-    road_publish(ws, c, fix.at_ms, road);
+    road_publish(ws, uses, fix.at_ms, road);
 }
 
 // How a step that worked out a road ends.
@@ -219,31 +213,30 @@ fn road_ended(
     ws: &mut [u32; crate::WORDS],
     fix: Fix,
     found: Matched,
-    p: Predicted,
+    answer: Outcome,
+    uses: Aging,
     samples: [i16; predict::MAX_SAMPLES],
     behind: [i16; predict::BEHIND_SAMPLES],
 ) -> Status
     requires { ⌜ Words.accepted (now ws) ≡ true ⌝ }
-    ensures { λ r. ⌜ r ≡ Worked.roadEnded (Words.engineOf (now (ws .entry))) fix found p samples behind .answer ⌝ }
-    ensures { λ r. ⌜ now (ws .exit) ≡ Words.words (Worked.roadEnded (Words.engineOf (now (ws .entry))) fix found p samples behind .engine) ⌝ }
+    ensures { λ r. ⌜ r ≡ Worked.roadEnded (Words.engineOf (now (ws .entry))) fix found answer uses samples behind .answer ⌝ }
+    ensures { λ r. ⌜ now (ws .exit) ≡ Words.words (Worked.roadEnded (Words.engineOf (now (ws .entry))) fix found answer uses samples behind .engine) ⌝ }
 {
-    let answer = p.answer;
     if engine::work::road_fails(answer) {
         return Status::Refused(engine::work::road_number(answer));
     }
-    let c = p.cache;
     match answer {
         Outcome::Road(r) => {
             let road = road_of(ws[611], fix.at_ms, found, r, samples, behind);
-            road_publish(ws, c, fix.at_ms, road);
+            road_publish(ws, uses, fix.at_ms, road);
             Status::Working
         }
         Outcome::Need(key) => {
-            road_needs(ws, c, fix, found, key);
+            road_needs(ws, uses, fix, found, key);
             Status::Working
         }
         Outcome::Rematch | Outcome::Refused(_) => {
-            road_rematch(ws, c);
+            road_rematch(ws, uses);
             Status::Working
         }
     }
@@ -261,13 +254,14 @@ pub(crate) fn road_step(
     ensures { λ r. ⌜ r ≡ Work.roadStep (Words.engineOf (now (ws .entry))) (now (arena .entry)) (Work.counted (Words.engineOf (now (ws .entry)) .follower)) fix found .answer ⌝ }
     ensures { λ r. ⌜ now (ws .exit) ≡ Words.words (Work.roadStep (Words.engineOf (now (ws .entry))) (now (arena .entry)) (Work.counted (Words.engineOf (now (ws .entry)) .follower)) fix found .engine) ⌝ }
 {
-    let c = decode::cache(&*ws);
+    let mut looks = crate::look::lookups(&*ws);
     let header = decode::header(&*ws);
     let horizon_m = decode::float(ws[1148]);
     let mut samples = [0i16; predict::MAX_SAMPLES];
     let mut behind = [0i16; predict::BEHIND_SAMPLES];
-    let p = predict::road::predicted(
-        c,
+    let answer = predict::road::from_looks(
+        &mut looks,
+        decode::size(ws[399]),
         arena,
         header,
         found,
@@ -275,7 +269,8 @@ pub(crate) fn road_step(
         &mut samples,
         &mut behind,
     );
-    road_ended(ws, fix, found, p, samples, behind)
+    let uses = cache::ages::uses_from(&looks);
+    road_ended(ws, fix, found, answer, uses, samples, behind)
 }
 
 // A road was due without a match: it is due no more.

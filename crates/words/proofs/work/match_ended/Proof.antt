@@ -29,8 +29,8 @@ size-requires c κs = search needs
 asking-due-requires : tie.Need-asking-due-requires
 asking-due-requires c κs = search needs
 
-match-asks-requires : tie.Need-match-asks-requires
-match-asks-requires c κs = search needs
+asks-requires : tie.Need-asks-requires
+asks-requires c κs = search needs
 
 match-tells-requires : tie.Need-match-tells-requires
 match-tells-requires c κs = search needs
@@ -53,8 +53,8 @@ returns-3 c =
     let start = c .before .before .before .before .before .before .before .before .before .before .before .before .before in
     let ws = start .args .ws .now in (
       rw (c .match-tells .ensures, c .before .before .before .before .size .ensures, c .before .before .before .before .before .before .due .ensures, due-in ws, count-in ws, c .before .before .before .before .before .before .before .before .before .answer2 .given .1),
-      rw (c .before .match-asks .ensures, c .before .before .before .asking-due .ensures, c .before .before .before .before .size .ensures, c .before .before .before .before .before .before .due .ensures, due-in ws, count-in ws, c .before .before .before .before .before .before .before .before .before .answer2 .given .1, asks-due (counted (engineOf ws .follower)) (engineOf ws .shared .cache .pages .count) _),
+      rw (c .before .asks .ensures, c .before .before .before .asking-due .ensures, c .before .before .before .before .size .ensures, c .before .before .before .before .before .before .due .ensures, due-in ws, count-in ws, c .before .before .before .before .before .before .before .before .before .answer2 .given .1, asks-due (counted (engineOf ws .follower)) (engineOf ws .shared .cache .pages .count) _),
     )
 
 pub match-ended-spec : {M : Type 1} → statement M
-match-ended-spec = tie.close (tie.spec enum-known-answer match-made-requires enum-known-answer-2 due-requires element-copy-out-size size-requires asking-due-requires match-asks-requires match-tells-requires returns returns-2 returns-3)
+match-ended-spec = tie.close (tie.spec enum-known-answer match-made-requires enum-known-answer-2 due-requires element-copy-out-size size-requires asking-due-requires asks-requires match-tells-requires returns returns-2 returns-3)

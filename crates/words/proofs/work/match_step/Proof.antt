@@ -1,20 +1,18 @@
--- `work::match_step` meets its contract: by the answers of its callees, with the place read back from its bits; a match leaves the cache as it was but for clock and ages.
-use borrow.Author.Needs.{needs}
+-- `work::match_step` meets its contract: by the answers of its callees, with the place read back from its bits; a match from what its lookups land on leaves the cache as it was but for clock and ages.
+use mathlib.Core.Path.{_∙_}
 use mir.Syntax.{w32}
 use Rattle.pack.proofs.Signed.{got}
-use Rattle.matcher.proofs.GatherLaws.{updated-uses}
+use Rattle.matcher.proofs.GatherLaws.{updated-uses, made-at-cache}
 use Rattle.engine.specs.Fixes.{placeOf}
 use Rattle.engine.specs.Work.{matchStep}
 use Rattle.words.specs.Words.{engineOf}
 use Rattle.words.proofs.WorkLaws.{cache-in, header-in, heading-in, matcher-in}
+use borrow.Author.Needs.{needs}
 use Rattle.words.proofs.work.match_step.Statement.{statement}
 use Rattle.words.proofs.work.match_step.Tie as tie
 
 matcher-requires : tie.Need-matcher-requires
 matcher-requires c κs = search needs
-
-cache-requires : tie.Need-cache-requires
-cache-requires c κs = search needs
 
 header-requires : tie.Need-header-requires
 header-requires c κs = search needs
@@ -28,21 +26,33 @@ element-copy-out-heading-2 c = search needs
 heading-requires : tie.Need-heading-requires
 heading-requires c κs = search needs
 
-made-requires : tie.Need-made-requires
-made-requires c κs = search needs
+near-of-requires : tie.Need-near-of-requires
+near-of-requires c κs = search needs
+
+landings-requires : tie.Need-landings-requires
+landings-requires c κs = search needs
+
+uses-requires : tie.Need-uses-requires
+uses-requires c κs = search needs
+
+made-at-requires : tie.Need-made-at-requires
+made-at-requires c κs = search needs
 
 match-ended-requires : tie.Need-match-ended-requires
-match-ended-requires c κs = search needs
+match-ended-requires c κs = c .before .before .before .before .before .before .before .before .before .before .before .before .before .before .before .before .pre
 
 returns : tie.Need-returns
 unfolding matchStep
 returns c =
-    let start = c .before .before .before .before .before .before .before .before .before .before .before .before .before .before in
+    let start = c .before .before .before .before .before .before .before .before .before .before .before .before .before .before .before .before .before in
     let ws = start .args .ws .now in
-    let e = engineOf ws in (
-      rw (c .match-ended .ensures .0, c .before .before .made .ensures, got w32 {z = start .args .fix .lat} (c .before .before .before .struct-told .given .0 .1), got w32 {z = start .args .fix .lon} (c .before .before .before .struct-told .given .1 .0 .1), c .before .before .before .before .before .before .before .before .before .before .before .matcher .ensures, c .before .before .before .before .before .before .before .before .before .cache .ensures, c .before .before .before .before .before .before .before .header .ensures, c .before .before .before .before .heading .ensures, matcher-in ws, cache-in ws, header-in ws, heading-in ws, updated-uses (e .follower .matcher) (e .shared .cache) (start .args .arena .now) (e .shared .header) (placeOf (start .args .fix)) (e .follower .sight .heading)),
-      rw (c .match-ended .ensures .1, c .before .before .made .ensures, got w32 {z = start .args .fix .lat} (c .before .before .before .struct-told .given .0 .1), got w32 {z = start .args .fix .lon} (c .before .before .before .struct-told .given .1 .0 .1), c .before .before .before .before .before .before .before .before .before .before .before .matcher .ensures, c .before .before .before .before .before .before .before .before .before .cache .ensures, c .before .before .before .before .before .before .before .header .ensures, c .before .before .before .before .heading .ensures, matcher-in ws, cache-in ws, header-in ws, heading-in ws, updated-uses (e .follower .matcher) (e .shared .cache) (start .args .arena .now) (e .shared .header) (placeOf (start .args .fix)) (e .follower .sight .heading)),
-    )
+    let e = engineOf ws in
+    let lands = rw (c .before .before .before .uses .ensures, c .before .before .before .before .before .landings .ensures, c .before .before .before .before .before .before .before .near-of .ensures, cache-in ws) at (c .before .before .made-at .ensures) in
+    let placed = rw (got w32 {z = start .args .fix .lat} (c .before .before .before .before .before .before .before .before .struct-told .given .0 .1), got w32 {z = start .args .fix .lon} (c .before .before .before .before .before .before .before .before .struct-told .given .1 .0 .1)) at lands in
+    let read = rw (c .before .before .before .before .before .before .before .before .before .before .before .before .before .before .matcher .ensures, c .before .before .before .before .before .before .before .before .before .before .before .before .header .ensures, c .before .before .before .before .before .before .before .before .before .heading .ensures, matcher-in ws, header-in ws, heading-in ws) at placed in
+    let made = read ∙ made-at-cache (e .follower .matcher) (e .shared .cache) (start .args .arena .now) (e .shared .header) (placeOf (start .args .fix)) (e .follower .sight .heading) in
+    let kept = updated-uses (e .follower .matcher) (e .shared .cache) (start .args .arena .now) (e .shared .header) (placeOf (start .args .fix)) (e .follower .sight .heading) in
+    (rw (c .match-ended .ensures .0, made, kept), rw (c .match-ended .ensures .1, made, kept))
 
 pub match-step-spec : {M : Type 1} → statement M
-match-step-spec = tie.close (tie.spec matcher-requires cache-requires header-requires element-copy-out-heading element-copy-out-heading-2 heading-requires made-requires match-ended-requires returns)
+match-step-spec = tie.close (tie.spec matcher-requires header-requires element-copy-out-heading element-copy-out-heading-2 heading-requires near-of-requires landings-requires uses-requires made-at-requires match-ended-requires returns)

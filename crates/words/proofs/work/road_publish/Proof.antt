@@ -19,8 +19,8 @@ due-requires c κs = search needs
 road-done-requires : tie.Need-road-done-requires
 road-done-requires c κs = search needs
 
-put-cache-requires : tie.Need-put-cache-requires
-put-cache-requires c κs = accepted-long (c .before .before .before .before .before .before .args .ws .now) (c .before .before .before .before .before .before .pre)
+put-uses-requires : tie.Need-put-uses-requires
+put-uses-requires c κs = accepted-long (c .before .before .before .before .before .before .args .ws .now) (c .before .before .before .before .before .before .pre)
 
 put-due-requires : tie.Need-put-due-requires
 put-due-requires c κs = search needs
@@ -35,7 +35,7 @@ returns : tie.Need-returns
 returns c =
     let start = c .before .before .before .before .before .before .before .before .before .before .before .before .before in
     let ws = start .args .ws .now in
-    rw (c .put-word .ensures .0, c .before .before .put-ahead .ensures .0, c .before .before .before .before .put-due .ensures .0, c .before .before .before .before .before .before .put-cache .ensures .0, c .before .before .before .before .before .before .before .before .road-done .ensures, c .before .before .before .before .before .before .before .before .before .due .ensures, due-in ws) (published-words ws (start .pre) _ (c .before .before .before .before .before .before .before .before .before .before .before .wrapping-add-u32 .ensures) (start .args .c) (roadDone (engineOf ws .follower .due) (start .args .at-ms)) (start .args .road))
+    rw (c .put-word .ensures .0, c .before .before .put-ahead .ensures .0, c .before .before .before .before .put-due .ensures .0, c .before .before .before .before .before .before .put-uses .ensures .0, c .before .before .before .before .before .before .before .before .road-done .ensures, c .before .before .before .before .before .before .before .before .before .due .ensures, due-in ws) (published-words ws (start .pre) _ (c .before .before .before .before .before .before .before .before .before .before .before .wrapping-add-u32 .ensures) (start .args .uses) (roadDone (engineOf ws .follower .due) (start .args .at-ms)) (start .args .road))
 
 pub road-publish-spec : {M : Type 1} → statement M
-road-publish-spec = tie.close (tie.spec element-copy-out-wrapping-add-u32 wrapping-add-u32-requires due-requires road-done-requires put-cache-requires put-due-requires put-ahead-requires put-word-requires returns)
+road-publish-spec = tie.close (tie.spec element-copy-out-wrapping-add-u32 wrapping-add-u32-requires due-requires road-done-requires put-uses-requires put-due-requires put-ahead-requires put-word-requires returns)

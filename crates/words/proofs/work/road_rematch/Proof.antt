@@ -4,7 +4,7 @@ use Rattle.words.proofs.CountLaws.{accepted-long}
 use Rattle.matcher.specs.Calls.{reset}
 use Rattle.engine.specs.Work.{matchingOn}
 use Rattle.words.specs.Words.{engineOf}
-use Rattle.words.proofs.WorkLaws.{due-in, rematched-words}
+use Rattle.words.proofs.WorkLaws.{due-in, found-words}
 use Rattle.words.proofs.work.road_rematch.Statement.{statement}
 use Rattle.words.proofs.work.road_rematch.Tie as tie
 
@@ -20,8 +20,8 @@ due-requires c κs = search needs
 reset-requires : tie.Need-reset-requires
 reset-requires c κs = search needs
 
-put-cache-requires : tie.Need-put-cache-requires
-put-cache-requires c κs = accepted-long (c .before .before .before .before .before .before .args .ws .now) (c .before .before .before .before .before .before .pre)
+put-uses-requires : tie.Need-put-uses-requires
+put-uses-requires c κs = accepted-long (c .before .before .before .before .before .before .args .ws .now) (c .before .before .before .before .before .before .pre)
 
 put-matcher-requires : tie.Need-put-matcher-requires
 put-matcher-requires c κs = search needs
@@ -36,7 +36,7 @@ returns : tie.Need-returns
 returns c =
     let start = c .before .before .before .before .before .before .before .before .before .before .before .before .before in
     let ws = start .args .ws .now in
-    rw (c .put-word .ensures .0, c .before .before .put-due .ensures .0, c .before .before .before .before .put-matcher .ensures .0, c .before .before .before .before .before .before .put-cache .ensures .0, c .before .before .before .before .before .before .before .before .reset .ensures, c .before .before .before .before .before .before .before .before .before .due .ensures, due-in ws) (rematched-words ws (start .pre) _ (c .before .before .before .before .before .before .before .before .before .before .before .wrapping-add-u32 .ensures) (start .args .c) reset (matchingOn (engineOf ws .follower .due)))
+    rw (c .put-word .ensures .0, c .before .before .put-due .ensures .0, c .before .before .before .before .put-matcher .ensures .0, c .before .before .before .before .before .before .put-uses .ensures .0, c .before .before .before .before .before .before .before .before .reset .ensures, c .before .before .before .before .before .before .before .before .before .due .ensures, due-in ws) (found-words ws (start .pre) _ (c .before .before .before .before .before .before .before .before .before .before .before .wrapping-add-u32 .ensures) (start .args .uses) reset (matchingOn (engineOf ws .follower .due)))
 
 pub road-rematch-spec : {M : Type 1} → statement M
-road-rematch-spec = tie.close (tie.spec element-copy-out-wrapping-add-u32 wrapping-add-u32-requires due-requires reset-requires put-cache-requires put-matcher-requires put-due-requires put-word-requires returns)
+road-rematch-spec = tie.close (tie.spec element-copy-out-wrapping-add-u32 wrapping-add-u32-requires due-requires reset-requires put-uses-requires put-matcher-requires put-due-requires put-word-requires returns)

@@ -1,9 +1,9 @@
--- `work::match_asks` meets its contract: the words that change are put.
+-- `work::asks` meets its contract: the words that change are put.
 use borrow.Author.Needs.{needs}
 use Rattle.words.proofs.CountLaws.{accepted-long}
 use Rattle.words.proofs.WorkLaws.{asked-words}
-use Rattle.words.proofs.work.match_asks.Statement.{statement}
-use Rattle.words.proofs.work.match_asks.Tie as tie
+use Rattle.words.proofs.work.asks.Statement.{statement}
+use Rattle.words.proofs.work.asks.Tie as tie
 
 element-copy-out-wrapping-add-u32 : tie.Need-element-copy-out-wrapping-add-u32
 element-copy-out-wrapping-add-u32 c = search needs
@@ -26,5 +26,5 @@ returns c =
     let ws = start .args .ws .now in
     rw (c .put-word .ensures .0, c .before .before .put-due .ensures .0, c .before .before .before .before .put-uses .ensures .0) (asked-words ws (start .pre) _ (c .before .before .before .before .before .before .wrapping-add-u32 .ensures) (start .args .uses) (start .args .due))
 
-pub match-asks-spec : {M : Type 1} → statement M
-match-asks-spec = tie.close (tie.spec element-copy-out-wrapping-add-u32 wrapping-add-u32-requires put-uses-requires put-due-requires put-word-requires returns)
+pub asks-spec : {M : Type 1} → statement M
+asks-spec = tie.close (tie.spec element-copy-out-wrapping-add-u32 wrapping-add-u32-requires put-uses-requires put-due-requires put-word-requires returns)
