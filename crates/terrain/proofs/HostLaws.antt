@@ -1,14 +1,25 @@
--- A step, a delivery and a step over a lent pack as they cross to C: the words' own calls (`Calls` of words), their answers as records.
+-- A step, a delivery and a step over a lent pack as they cross to C: the words' own calls (`Calls` of words), their answers as records. So do a match and a road, past the tests of what
+-- comes beside the engine's words.
 use Prim.Native.Nat.{ℕ}
-use mathlib.Core.Path.{_≡_, refl}
+use mathlib.Core.Path.{_≡_, refl, sym}
 use mathlib.Core.Bool.{Bool, true, false, cond}
 use mathlib.Core.List.{List}
+use lib.Dec.{leb}
+use lib.IntN.{ℤ}
+use lib.Ieee.{Float}
+use Rattle.pack.specs.declared.Header.{Header}
+use Rattle.geo.specs.declared.Point.{Point}
 use Rattle.engine.specs.Calls as Engines
 use Rattle.engine.specs.Deliver.{After}
 use Rattle.engine.specs.declared.Stepped.{Stepped}
 use Rattle.words.specs.Calls as Calls
-use Rattle.words.specs.Words.{accepted, engineOf}
+use Rattle.words.specs.Calls.{left}
+use Rattle.words.specs.Words.{accepted, matcherOf, matcherWords, sharedOf, engineOf}
+use Rattle.words.proofs.SameLaws.{same-is}
 use Rattle.terrain.specs.Host as Host
+use Rattle.terrain.specs.Roads as Roads
+use Rattle.terrain.specs.declared.host.MatchTold.{MatchTold}
+use Rattle.terrain.specs.declared.roads.TerrainHeading.{TerrainHeading}
 
 module _ (ws arena : List ℕ) where
   moved-told : (b : Bool) (s : Stepped) → Host.statusTold (cond b (Calls.moved s) (Calls.stays ws) .answer) ≡ cond b (Host.moved s) (Host.rests ws) .answer
@@ -64,3 +75,47 @@ module _ (ws arena : List ℕ) where
     pub from-arena : Calls.stepFrom ws arena pack .arena ≡ Host.stepFrom ws arena pack .arena
     unfolding Calls.stepFrom Host.stepFrom
     from-arena = given-arena (accepted ws) (Engines.stepFrom (engineOf ws) arena pack)
+
+-- ---- a match and a road
+
+-- words that are a matcher's are its words again
+kept : (ms : List ℕ) → Roads.isMatcher ms ≡ true → matcherWords (matcherOf ms 0) ≡ ms
+unfolding Roads.isMatcher
+kept ms is = same-is (matcherWords (matcherOf ms 0)) ms is
+
+module _ (ms ws arena : List ℕ) (h : Header) (fix : Point) (heading : TerrainHeading) (is : Roads.isMatcher ms ≡ true) (known : leb (heading .known) 1 ≡ true) where
+  pub update-words : Roads.update ms ws arena h fix heading ≡ Calls.update ws arena (matcherOf ms 0) h fix (Roads.headingOf heading)
+  unfolding Calls.update engineOf sharedOf
+  update-words = rw (is, known)
+
+  pub update-matcher : Roads.matcherAfter ms ws arena h fix heading ≡ matcherWords (Calls.update ws arena (matcherOf ms 0) h fix (Roads.headingOf heading) .matcher)
+  unfolding Calls.update engineOf sharedOf
+  update-matcher = by (accepted ws) refl
+    where
+      by : (t : Bool) → accepted ws ≡ t
+          → Roads.matcherAfter ms ws arena h fix heading ≡ matcherWords (Calls.update ws arena (matcherOf ms 0) h fix (Roads.headingOf heading) .matcher)
+      by true e = rw (is, known, e)
+      by false e = rw (is, known, e) (sym (kept ms is))
+
+  pub update-engine : Roads.engineAfter ms ws arena h fix heading ≡ left ws (Calls.update ws arena (matcherOf ms 0) h fix (Roads.headingOf heading) .cache)
+  unfolding Calls.update engineOf sharedOf
+  update-engine = by (accepted ws) refl
+    where
+      by : (t : Bool) → accepted ws ≡ t
+          → Roads.engineAfter ms ws arena h fix heading ≡ left ws (Calls.update ws arena (matcherOf ms 0) h fix (Roads.headingOf heading) .cache)
+      by true e = rw (is, known, e)
+      by false e = rw (is, known, e)
+
+module _ (ws arena : List ℕ) (h : Header) (start : MatchTold) (horizon : Float) (samples behind : List ℤ) (is : Roads.isGiven start ≡ true) where
+  pub predict-words : Roads.predict ws arena h start horizon samples behind ≡ Calls.predict ws arena h (Roads.given start) horizon samples behind
+  unfolding Calls.predict engineOf sharedOf
+  predict-words = rw is
+
+  pub predict-engine : Roads.predictAfter ws arena h start horizon samples behind ≡ left ws (Calls.predict ws arena h (Roads.given start) horizon samples behind .predicted .cache)
+  unfolding Calls.predict engineOf sharedOf
+  predict-engine = by (accepted ws) refl
+    where
+      by : (t : Bool) → accepted ws ≡ t
+          → Roads.predictAfter ws arena h start horizon samples behind ≡ left ws (Calls.predict ws arena h (Roads.given start) horizon samples behind .predicted .cache)
+      by true e = rw (is, e)
+      by false e = rw (is, e)

@@ -1,7 +1,8 @@
--- `roads::terrain_matcher_update` meets its contract: each answer by its case.
+-- `roads::terrain_matcher_update` meets its contract: each return by what the words and the heading are.
 use borrow.Author.Tests.{not-true, not-false, le-leb, lt-leb}
 use mathlib.Core.Path.{refl, sym, _∙_}
--- `roads::terrain_matcher_update` meets its contract: each return by what the words and the heading are.
+use Rattle.terrain.specs.Records.{headerOf, pointOf}
+use Rattle.terrain.proofs.HostLaws.{update-words, update-matcher, update-engine}
 use Rattle.terrain.proofs.roads.terrain_matcher_update.Statement.{statement}
 use Rattle.terrain.proofs.roads.terrain_matcher_update.Tie as tie
 
@@ -18,20 +19,7 @@ no-match-requires-2 : tie.Need-no-match-requires-2
 no-match-requires-2 c κs = tt
 
 returns-2 : tie.Need-returns-2
-returns-2 c =
-    let called = c .before .before .before .before in
-    rw (sym (called .is-matcher .ensures) ∙ not-false _ (c .before .before .before .if1 .left), lt-leb _ _ (c .before .if2 .taken)) (c .no-match2 .ensures, (refl, refl))
-
-held-requires : tie.Need-held-requires
-held-requires c κs = tt
-
-no-match-requires-3 : tie.Need-no-match-requires-3
-no-match-requires-3 c κs = tt
-
-returns-3 : tie.Need-returns-3
-returns-3 c =
-    let called = c .before .before .before .before .before in
-    rw (sym (called .before .before .before .is-matcher .ensures) ∙ not-false _ (called .before .before .if1 .left), le-leb _ _ (called .if2 .left), sym (c .before .before .before .held .ensures .0) ∙ not-true _ (c .before .if3 .taken)) (c .no-match3 .ensures, (refl, refl))
+returns-2 c = rw (sym (c .before .before .before .before .is-matcher .ensures) ∙ not-false _ (c .before .before .before .if1 .left), lt-leb _ _ (c .before .if2 .taken)) (c .no-match2 .ensures, (refl, refl))
 
 header-of-requires : tie.Need-header-of-requires
 header-of-requires c κs = tt
@@ -48,38 +36,21 @@ heading-of-requires c κs = tt
 update-requires : tie.Need-update-requires
 update-requires c κs = tt
 
-leave-requires : tie.Need-leave-requires
-leave-requires c κs = sym (c .before .before .before .before .before .before .before .before .before .held .ensures .0) ∙ not-false _ (c .before .before .before .before .before .before .before .if3 .left)
-
 put-matcher-requires : tie.Need-put-matcher-requires
 put-matcher-requires c κs = tt
 
 updated-out-requires : tie.Need-updated-out-requires
 updated-out-requires c κs = tt
 
-returns-4 : tie.Need-returns-4
-returns-4 c =
-    let called = c .before .before .before .before .before in
-    rw (sym (called .before .before .before .before .before .before .before .before .before .before .before .before .before .is-matcher .ensures) ∙ not-false _ (called .before .before .before .before .before .before .before .before .before .before .before .before .if1 .left), le-leb _ _ (called .before .before .before .before .before .before .before .before .before .before .if2 .left), sym (called .before .before .before .before .before .before .before .before .held .ensures .0) ∙ not-false _ (called .before .before .before .before .before .before .if3 .left)) (rw (called .update .ensures, called .before .before .before .before .before .before .before .before .held .ensures .1, called .before .before .before .before .before .header-of .ensures, called .before .before .before .before .point-of .ensures, called .before .before .matcher-in .ensures, called .before .heading-of .ensures) at (c .updated-out .ensures), (rw (called .update .ensures, called .before .before .before .before .before .before .before .before .held .ensures .1, called .before .before .before .before .before .header-of .ensures, called .before .before .before .before .point-of .ensures, called .before .before .matcher-in .ensures, called .before .heading-of .ensures) at (c .before .put-matcher .ensures), rw (called .update .ensures, called .before .before .before .before .before .before .before .before .held .ensures .1, called .before .before .before .before .before .header-of .ensures, called .before .before .before .before .point-of .ensures, called .before .before .matcher-in .ensures, called .before .heading-of .ensures) at (c .before .before .before .leave .ensures)))
+returns-3 : tie.Need-returns-3
+returns-3 c =
+    let args = c .before .before .before .before .before .before .before .before .before .before .before .before .before .before .before .before .args in
+    let is = sym (c .before .before .before .before .before .before .before .before .before .before .before .before .before .is-matcher .ensures) ∙ not-false _ (c .before .before .before .before .before .before .before .before .before .before .before .before .if1 .left) in
+    let known = le-leb _ _ (c .before .before .before .before .before .before .before .before .before .before .if2 .left) in
+    let called = rw (c .before .before .before .before .before .before .before .before .before .header-of .ensures, c .before .before .before .before .before .before .before .before .point-of .ensures, c .before .before .before .before .before .before .matcher-in .ensures, c .before .before .before .before .heading-of .ensures) at (c .before .before .before .update .ensures) in (
+      rw (c .updated-out .ensures, called .0, update-words (args .matcher .now) (args .engine .now) (args .arena .now) (headerOf (args .header)) (pointOf (args .fix)) (args .heading) is known),
+      (rw (called .1 .0) at (c .before .put-matcher .ensures) ∙ sym (update-matcher (args .matcher .now) (args .engine .now) (args .arena .now) (headerOf (args .header)) (pointOf (args .fix)) (args .heading) is known), called .1 .1 ∙ sym (update-engine (args .matcher .now) (args .engine .now) (args .arena .now) (headerOf (args .header)) (pointOf (args .fix)) (args .heading) is known)),
+    )
 
 pub terrain-matcher-update-spec : {M : Type 1} → statement M
-terrain-matcher-update-spec =
-    tie.close
-    (tie.spec
-    is-matcher-requires
-    no-match-requires
-    returns
-    no-match-requires-2
-    returns-2
-    held-requires
-    no-match-requires-3
-    returns-3
-    header-of-requires
-    point-of-requires
-    matcher-in-requires
-    heading-of-requires
-    update-requires
-    leave-requires
-    put-matcher-requires
-    updated-out-requires
-    returns-4)
+terrain-matcher-update-spec = tie.close (tie.spec is-matcher-requires no-match-requires returns no-match-requires-2 returns-2 header-of-requires point-of-requires matcher-in-requires heading-of-requires update-requires put-matcher-requires updated-out-requires returns-3)
