@@ -1,7 +1,6 @@
 // The matcher's and predict's calls for other languages. A matcher is 22 words of its own, laid out as those of an engine; the cache is the one in an engine's words. Words that
 // nothing has are refused with 12 and stay as they were.
 use crate::host::MatchTold;
-use crate::parts;
 use crate::records::TerrainHeader;
 use crate::records::TerrainKey;
 use crate::records::TerrainPoint;
