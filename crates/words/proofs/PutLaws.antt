@@ -1,11 +1,11 @@
 -- Pieces put one behind the other are put as one (`put-after`, `together`), those of a loop too (`put-spread`), and all of the words in their place are they (`put-all`).
 -- The idea: what stands before a piece and the piece itself is a front of known length, which the next piece leaves alone.
 use Prim.Native.Nat.{ℕ, zero, suc, _+_, _*_, _≤_}
-use mathlib.Core.Path.{_≡_, refl, sym, ap, _∙_}
+use mathlib.Core.Path.{_≡_, sym, ap, _∙_}
 use mathlib.Core.List.{List, [], _∷_, _++_, append-nil, append-assoc}
 use native.Mathlib.Nat.{add-zero}
 use native.Mathlib.Omega.{arith}
-use lib.ListN.{length, take, drop, length-append, length-drop, take-append-drop, drop-of-length-le}
+use lib.ListN.{length, take, drop, length-append, take-append-drop, drop-of-length-le}
 use lib.Seq.{length-take-le, take-at, drop-append-add, drop-drop, take-length}
 use lib.Seq.{paste}
 use Rattle.num.specs.Fold.{upTo}
@@ -43,12 +43,6 @@ reaches : (at n : ℕ) (xs ws : List ℕ) → length xs ≡ n → at ≤ length 
 unfolding put
 reaches at n xs ws e h =
     omega (arith, length-append (take at ws ++ xs) (drop (at + length xs) ws), front at n xs ws e h)
-
-pub length-put : (at : ℕ) (xs ws : List ℕ) → at + length xs ≤ length ws → length (put at xs ws) ≡ length ws
-unfolding put
-length-put at xs ws h =
-    length-append (take at ws ++ xs) (drop (at + length xs) ws)
-    ∙ omega (arith, front at (length xs) xs ws refl (omega arith), length-drop (at + length xs) ws)
 
 -- ---- a loop's pieces
 

@@ -1,4 +1,4 @@
-// A match and a road on words: what they read is taken out first, and then the words that change are put. Of the cache they change clock and ages alone.
+// A match and a road on words, and a fix off the map: what they read is taken out first, and then the words that change are put. Of the cache they change clock and ages alone.
 use crate::decode;
 use crate::encode;
 use cache::Aging;
