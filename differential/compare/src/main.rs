@@ -14,6 +14,7 @@ macro_rules! both {
 mod angles;
 mod bench;
 mod cache;
+mod count;
 mod crc;
 mod crossing;
 mod drive;

@@ -6,6 +6,7 @@
 use super::script::*;
 use super::{Case, joined};
 use crate::cache::script::{Record, record};
+use crate::count::{self, Side};
 use crate::matching::roads::{Grid, Network, Road};
 use crate::road::networks::{highway, plain};
 use crate::{random::Random, replay, tally::Tally};
@@ -132,6 +133,18 @@ impl Bench<'_> {
         let mut engine = Lookahead::new(&mut arena, 10_000.0);
         let calls = setup().chain(self.calls.iter().copied());
         calls.for_each(|call| self.run(&mut engine, call));
+        if count::is_on() {
+            let mut run = |n: usize, times| {
+                black_box(replay::repeat_engine(scripts[n], &packs, &mut lent, times));
+            };
+            count::add(self.name, Side::Port, TIMES, || run(0, TIMES));
+            count::take_off(self.name, Side::Port, TIMES, || run(0, 0));
+            count::take_off(self.name, Side::Port, TIMES, || run(1, TIMES));
+            count::add(self.name, Side::Port, TIMES, || run(1, 0));
+            count::add(self.name, Side::Rust, TIMES, || self.copies(&engine, true));
+            count::take_off(self.name, Side::Rust, TIMES, || self.copies(&engine, false));
+            return tally;
+        }
         let mut port = |n: usize| {
             nanoseconds(|| {
                 black_box(replay::repeat_engine(scripts[n], &packs, &mut lent, TIMES));

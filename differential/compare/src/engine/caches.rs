@@ -8,6 +8,7 @@
 //! that test of the state. Each call runs many times from one state, which is copied back before
 //! it; the copy alone is taken off. Passes take turns, and medians count, of the thread's own time.
 use super::bench::{SOUTH, WEST, median, now};
+use crate::count::{self, Side};
 use crate::ffi_terrain::{self as port, Engine, Point, Status};
 use crate::matching::roads::{Grid, Network, Road};
 use crate::replay::layout::{self as at, WORDS};
@@ -125,37 +126,45 @@ impl Cache {
     }
 }
 
-/// Nanoseconds of each of the calls, less the copies of the state.
-fn timed(before: &Engine, mut call: impl FnMut(&mut Engine)) -> f64 {
+/// The calls, each from the same state, or the copies of the state alone.
+fn repeated(before: &Engine, mut call: impl FnMut(&mut Engine), is_there: bool) {
     let mut words = *before;
-    let mut run = |is_there: bool| {
-        let start = now();
-        for _ in 0..TIMES {
-            words.copy_from_slice(black_box(&before[..]));
-            if is_there {
-                call(&mut words);
-            }
-            black_box(&mut words);
+    for _ in 0..TIMES {
+        words.copy_from_slice(black_box(&before[..]));
+        if is_there {
+            call(&mut words);
         }
-        (now() - start) / TIMES as f64
-    };
-    run(true) - run(false)
+        black_box(&mut words);
+    }
 }
 
 /// The same of the Rust's step, on copies of the engine.
-fn of_rust(cache: &Cache, engine: &Lookahead) -> f64 {
-    let run = |is_there: bool| {
-        let start = now();
-        for _ in 0..TIMES {
-            let mut copy = copied(black_box(engine));
-            if is_there {
-                cache.rust(&mut copy, Call::Step);
-            }
-            black_box(&mut copy);
+fn repeated_rust(cache: &Cache, engine: &Lookahead, is_there: bool) {
+    for _ in 0..TIMES {
+        let mut copy = copied(black_box(engine));
+        if is_there {
+            cache.rust(&mut copy, Call::Step);
         }
+        black_box(&mut copy);
+    }
+}
+
+/// Nanoseconds of each of the calls in `run`, less what they cost without the call.
+fn nanoseconds(mut run: impl FnMut(bool)) -> f64 {
+    let mut time = |is_there| {
+        let start = now();
+        run(is_there);
         (now() - start) / TIMES as f64
     };
-    run(true) - run(false)
+    time(true) - time(false)
+}
+
+fn timed(before: &Engine, mut call: impl FnMut(&mut Engine)) -> f64 {
+    nanoseconds(|is_there| repeated(before, &mut call, is_there))
+}
+
+fn of_rust(cache: &Cache, engine: &Lookahead) -> f64 {
+    nanoseconds(|is_there| repeated_rust(cache, engine, is_there))
 }
 
 fn copied<'a>(engine: &Lookahead<'a>) -> ManuallyDrop<Lookahead<'a>> {
@@ -197,6 +206,10 @@ impl Cache {
         let expected = format!("{:?}", copied(&engine).step(&mut { pack }));
         let mut tally = Tally::new(&format!("{name} in {} of {}", self.pages, self.each));
         tally.count(told == expected, name, &told, &expected);
+        if count::is_on() {
+            self.count(name, &words, &mut arena, &engine);
+            return tally;
+        }
         let mut passes = vec![[0.0; 5]; PASSES];
         for pass in &mut passes {
             let mut step_from = |w: &mut Engine| port::step_from(w, &mut arena, pack);
@@ -211,6 +224,18 @@ impl Cache {
         let times = [0, 1, 2, 3, 4].map(|n| median(passes.iter().map(|pass| pass[n]).collect()));
         self.print(name, fetch.is_some(), times);
         tally
+    }
+
+    /// The instructions of a step, of the port and of the Rust.
+    fn count(&self, name: &str, words: &Engine, arena: &mut [u8], engine: &Lookahead) {
+        let pack = &self.network.pack.bytes[..];
+        let name = &format!("step, {name}, {} pages, tiles of {}", self.pages, self.each);
+        let mut step = |w: &mut Engine| drop(black_box(port::step_from(w, arena, pack)));
+        let times = TIMES as u32;
+        count::add(name, Side::Port, times, || repeated(words, &mut step, true));
+        count::take_off(name, Side::Port, times, || repeated(words, &mut step, false));
+        count::add(name, Side::Rust, times, || repeated_rust(self, engine, true));
+        count::take_off(name, Side::Rust, times, || repeated_rust(self, engine, false));
     }
 
     fn print(&self, name: &str, fetches: bool, [both, step, deliver, words, rust]: [f64; 5]) {
@@ -237,15 +262,19 @@ impl Cache {
 }
 
 pub fn run() -> Vec<Tally> {
-    println!("nanoseconds a call, pages in the arena and a tile, the cache full");
-    println!("arena tile  step     step_from      step   deliver     words      Rust  ratio");
+    if !count::is_on() {
+        println!("nanoseconds a call, pages in the arena and a tile, the cache full");
+        println!("arena tile  step     step_from      step   deliver     words      Rust  ratio");
+    }
     let mut tallies = Vec::new();
     for (pages, each) in [8, 96].into_iter().flat_map(|pages| [1, 2, 4, 6].map(|n| (pages, n))) {
         let cache = Cache::new(each, pages);
         for (name, reads, calls) in cache.rows() {
             tallies.push(cache.row(name, reads, &calls));
         }
-        cache.capacity();
+        if !count::is_on() {
+            cache.capacity();
+        }
     }
     tallies
 }

@@ -6,6 +6,7 @@ use super::roads::{Fate, Grid, Network, Road};
 use super::script::*;
 use super::{Case, Writer};
 use crate::cache::script::{DONE, ends};
+use crate::count::{self, Side};
 use crate::random::Random;
 use crate::{ffi_format, replay, tally::Tally};
 use oracle::{cache::Cache, geo::Point, matcher::Matcher, pack::Header, pack::TileKey};
@@ -59,6 +60,19 @@ fn of_port(case: &Case) -> f64 {
     time(TIMES) - time(0)
 }
 
+/// The same in instructions: the calls are those of `full` less those of `empty`, each less its
+/// setup.
+fn count_port(name: &str, full: &Case, empty: &Case) {
+    let run = |case: &Case, times| {
+        let mut arena = case.arena.clone();
+        black_box(replay::repeat_matches(&case.script, &case.pack, &mut arena, times));
+    };
+    count::add(name, Side::Port, TIMES, || run(full, TIMES));
+    count::take_off(name, Side::Port, TIMES, || run(full, 0));
+    count::take_off(name, Side::Port, TIMES, || run(empty, TIMES));
+    count::add(name, Side::Port, TIMES, || run(empty, 0));
+}
+
 fn case(network: &Network, last: impl Fn(&mut Writer)) -> Case {
     Case::new(&network.pack, vec![0; 8 * PAGE_BYTES], |writer| {
         assert_eq!(writer.settle(0), ends(DONE));
@@ -67,7 +81,7 @@ fn case(network: &Network, last: impl Fn(&mut Writer)) -> Case {
     })
 }
 
-fn of_rust(network: &Network) -> f64 {
+fn of_rust(name: &str, network: &Network) -> f64 {
     let mut arena = vec![0; 8 * PAGE_BYTES];
     let mut cache = Cache::new(&mut arena);
     let sector = network.pack.bytes[..512].try_into().expect("512 bytes");
@@ -80,13 +94,18 @@ fn of_rust(network: &Network) -> f64 {
         .update(&cache, &header, fix(FIX[1] - 100), Some(HEADING))
         .expect("a tile")
         .expect("a match");
-    best(|| {
+    let run = || {
         for _ in 0..TIMES {
             let mut matcher = black_box(before);
             let _ =
                 black_box(matcher.update(&cache, &header, black_box(fix(FIX[1])), Some(HEADING)));
         }
-    })
+    };
+    if count::is_on() {
+        count::add(name, Side::Rust, TIMES, run);
+        return 0.0;
+    }
+    best(run)
 }
 
 fn beside(name: &str, roads: u64, vertices: u64) -> Tally {
@@ -100,8 +119,13 @@ fn beside(name: &str, roads: u64, vertices: u64) -> Tally {
     let (full, empty) = (case_of(UPDATE), case_of(36));
     let mut tally = Tally::new(name);
     full.count(&mut tally, name);
+    if count::is_on() {
+        count_port(name, &full, &empty);
+        of_rust(name, &network);
+        return tally;
+    }
     let port = of_port(&full) - of_port(&empty);
-    let rust = of_rust(&network);
+    let rust = of_rust(name, &network);
     let tile = network.plains[0].bytes();
     let check = best(|| {
         for _ in 0..TIMES {

@@ -8,6 +8,7 @@ use super::start::{self, Summed, Words};
 use super::town::Town;
 use super::{Case, Writer};
 use crate::cache::script::{DONE, ends};
+use crate::count::{self, Side};
 use crate::matching::roads::{Grid, Network};
 use crate::random::Random;
 use crate::{ffi_format, replay, tally::Tally};
@@ -40,6 +41,19 @@ fn of_port(case: &Case) -> f64 {
     time(TIMES) - time(0)
 }
 
+/// The same in instructions: the calls are those of `full` less those of `empty`, each less its
+/// setup.
+fn count_port(name: &str, full: &Case, empty: &Case) {
+    let run = |case: &Case, times| {
+        let mut arena = case.arena.clone();
+        black_box(replay::repeat_roads(&case.script, &case.pack, &mut arena, times));
+    };
+    count::add(name, Side::Port, TIMES, || run(full, TIMES));
+    count::take_off(name, Side::Port, TIMES, || run(full, 0));
+    count::take_off(name, Side::Port, TIMES, || run(empty, TIMES));
+    count::add(name, Side::Port, TIMES, || run(empty, 0));
+}
+
 /// The script that loads all tiles and sets the start; then what `last` writes.
 fn case(network: &Network, from: &Words, last: impl FnOnce(&mut Writer)) -> Case {
     Case::new(&network.pack, vec![0; PAGES * PAGE_BYTES], |writer| {
@@ -68,7 +82,7 @@ fn landed(network: &Network, from: &Words) -> Vec<usize> {
     pages
 }
 
-fn of_rust(network: &Network, words: &Words) -> f64 {
+fn of_rust(name: &str, network: &Network, words: &Words) -> f64 {
     let mut arena = vec![0; PAGES * PAGE_BYTES];
     let mut cache = Cache::new(&mut arena);
     let sector = network.pack.bytes[..512].try_into().expect("512 bytes");
@@ -92,14 +106,19 @@ fn of_rust(network: &Network, words: &Words) -> f64 {
         ridden_m: f32::from_bits(words[12]),
     };
     let (mut ahead, mut behind) = ([0; 501], [0; 11]);
-    best(|| {
+    let run = || {
         for _ in 0..TIMES {
             let start = black_box(&start);
             let road = predict(&cache, &header, start, HORIZON, &mut ahead, &mut behind);
             let _ = black_box(road);
             black_box(ahead[1]);
         }
-    })
+    };
+    if count::is_on() {
+        count::add(name, Side::Rust, TIMES, run);
+        return 0.0;
+    }
+    best(run)
 }
 
 /// The port's checks of the tiles that begin at these pages.
@@ -136,7 +155,12 @@ fn beside(name: &str, network: &Network, from: &Words) -> Tally {
     });
     let mut tally = Tally::new(name);
     full.count(&mut tally, name);
-    let (port, rust) = (of_port(&full) - of_port(&empty), of_rust(network, from));
+    if count::is_on() {
+        count_port(name, &full, &empty);
+        of_rust(name, network, from);
+        return tally;
+    }
+    let (port, rust) = (of_port(&full) - of_port(&empty), of_rust(name, network, from));
     let pages = landed(network, from);
     let check = checks(&full, network, &pages);
     let rest = (port - check) / rust;
