@@ -1,18 +1,19 @@
 -- Words of the message with no table. The generator divides x^300 + x^155 + x^117 + x^89 + 1, so a term of the dividend is as good as the four that are
--- 145, 183, 211 and 300 places behind it.
+-- 145, 183, 211 and 300 places behind it. At the end, parts of the message one after the other, and the word of which four octets are taken as zero.
 use Prim.Native.Nat.{ℕ, zero, suc, _+_, _-_, _*_, _/_, _%_, _^_, _≤_, _<_}
 use mathlib.Core.Path.{_≡_, refl, sym, ap, ap₂, _∙_}
 use mathlib.Core.Bool.{Bool, true, false}
 use mathlib.Core.List.{List, [], _∷_, _++_, append-assoc, append-nil}
 use native.Mathlib.Nat.{zero-add, suc-add, div-eq-of-lt}
 use native.Mathlib.Omega.{arith}
-use lib.ListN.{length, take, drop, length-append, take-append-drop, replicate-append-replicate}
-use lib.Seq.{drop-drop}
+use lib.ListN.{length, take, drop, replicate, length-append, length-drop, take-append-drop, replicate-append-replicate}
+use lib.Seq.{drop-drop, length-take-le}
 use lib.Bits.{bitXor}
 use lib.Pow.{shr-shr, shl-shr, pow-pos}
-use Rattle.crc.specs.Fcs.{plus, add, lower, divide, zeros, bits, message}
-use Rattle.crc.specs.Register.{left, leftBy, words, Takes, TakesWord}
-use Rattle.crc.proofs.Laws.{add-comm, add-assoc, add-length, add-zeros, add-tail, add-append, add-more, zeros-length, linear, divide-more, divide-zeros, divide-append, divide-length, bits-length, bits-xor, bits-zero, bits-split, bits-low, bits-join, message-append}
+use Rattle.crc.specs.Fcs.{plus, add, lower, divide, zeros, bits, message, zeroed}
+use Rattle.crc.specs.Register.{left, leftBy, leftOf, words, Takes, TakesWord, Turns, Spreads, SpreadsOn, Ends}
+use Rattle.crc.specs.declared.Pending.{Pending}
+use Rattle.crc.proofs.Laws.{add-comm, add-assoc, add-length, add-zeros, add-tail, add-append, add-more, zeros-length, linear, divide-more, divide-zeros, divide-append, divide-length, bits-length, bits-xor, bits-zero, bits-split, bits-low, bits-join, message-append, message-length}
 
 -- ---- sums with zeros before them
 
@@ -398,3 +399,61 @@ words-taken a b c d e v w x y z p q r s t u os rest f g h i j k l m =
     ∙ ap (left 0) (sym (five-front (bitXor a v) (bitXor b w) (bitXor c x) (bitXor d y) (bitXor e z) l5))
     ∙ sym (words-end (a ∷ b ∷ c ∷ d ∷ e ∷ []) (v ∷ w ∷ x ∷ y ∷ z ∷ []) l5 refl)
     ∙ ap (leftBy (a ∷ b ∷ c ∷ d ∷ e ∷ [])) (sym (append-assoc (words (v ∷ w ∷ x ∷ y ∷ z ∷ [])) (message rest) m) ∙ ap (λ (n : List Bool). n ++ m) (sym f))
+
+-- ---- what is pending, one part of the message after the other
+
+joined : (a b : List ℕ) (m : List Bool) → message a ++ (message b ++ m) ≡ message (a ++ b) ++ m
+joined a b m = sym (append-assoc (message a) (message b) m) ∙ ap (λ (l : List Bool). l ++ m) (sym (message-append a b))
+
+longer : (a m : List Bool) → 320 ≤ length m → 320 ≤ length (a ++ m)
+longer a m h = omega (arith, length-append a m)
+
+pub spreads-word : (p q : Pending) (x : ℕ) (os : List ℕ) → bits 64 x ≡ message os → Turns p x q → SpreadsOn p os q
+unfolding SpreadsOn Turns
+spreads-word p q x os e f m h = f m h ∙ ap (λ (l : List Bool). leftOf p (l ++ m)) e
+
+pub spreads-more : (p q r : Pending) (a b : List ℕ) → SpreadsOn p a q → SpreadsOn q b r → SpreadsOn p (a ++ b) r
+unfolding SpreadsOn
+spreads-more p q r a b f g m h = g m h ∙ f (message b ++ m) (longer (message b) m h) ∙ ap (leftOf p) (joined a b m)
+
+pub spreads-append : (c : ℕ) (p q : Pending) (a b : List ℕ) → Spreads c a p → SpreadsOn p b q → Spreads c (a ++ b) q
+unfolding Spreads SpreadsOn
+spreads-append c p q a b f g m h = g m h ∙ f (message b ++ m) (longer (message b) m h) ∙ ap (left c) (joined a b m)
+
+pub spreads-end : (c : ℕ) (p : Pending) (r : ℕ) (a b : List ℕ) → 40 ≤ length b → Spreads c a p → Ends p b r → Takes c (a ++ b) r
+unfolding Spreads Ends Takes
+spreads-end c p r a b h f g m =
+    g m ∙ f (message b ++ m) (omega (arith, length-append (message b) m, message-length b)) ∙ ap (left c) (joined a b m)
+
+-- ---- four octets taken as zero, as one word with the four behind them
+
+no-octets : zeros 32 ≡ message (replicate 4 0)
+unfolding zeros message bits
+no-octets = refl
+
+pub word-zeroed : (v : ℕ) (os : List ℕ) → bits 32 v ≡ message os → bits 64 (v * 4294967296) ≡ message (replicate 4 0 ++ os)
+word-zeroed v os e = bits-shl 32 32 v ∙ ap₂ _++_ no-octets e ∙ sym (message-append (replicate 4 0) os)
+
+-- the octets before, that word, those up to n, and the rest
+pub zeroed-word : (os : List ℕ) (at n : ℕ) → at + 8 ≤ n → n ≤ length os
+    → zeroed os at ≡ ((take at os ++ (replicate 4 0 ++ take 4 (drop (at + 4) os))) ++ take (n - (at + 8)) (drop (at + 8) os)) ++ drop n os
+unfolding zeroed
+zeroed-word os at n h l =
+    let before : List ℕ = take at os in
+    let word : List ℕ = replicate 4 0 ++ take 4 (drop (at + 4) os) in
+    let behind : List ℕ = drop (at + 8) os in
+    let k : ℕ = n - (at + 8) in
+    let eight : at + 4 + 4 ≡ at + 8 = omega arith in
+    let up : at + 8 + k ≡ n = omega arith in
+    let four : length (take 4 (drop at os)) ≡ 4 = length-take-le 4 (drop at os) (simp length-drop (omega arith)) in
+    let rest : drop 4 (drop at os) ≡ take 4 (drop (at + 4) os) ++ behind =
+    drop-drop 4 at os
+    ∙ sym (take-append-drop 4 (drop (at + 4) os))
+    ∙ ap (λ (t : List ℕ). take 4 (drop (at + 4) os) ++ t) (drop-drop 4 (at + 4) os ∙ ap (λ (i : ℕ). drop i os) eight) in
+    let parts : behind ≡ take k behind ++ drop n os =
+    sym (take-append-drop k behind) ∙ ap (λ (t : List ℕ). take k behind ++ t) (drop-drop k (at + 8) os ∙ ap (λ (i : ℕ). drop i os) up) in
+    ap₂ (λ (i : ℕ) (t : List ℕ). before ++ (replicate i 0 ++ t)) four rest
+    ∙ ap (λ (t : List ℕ). before ++ t) (sym (append-assoc (replicate 4 0) (take 4 (drop (at + 4) os)) behind))
+    ∙ sym (append-assoc before word behind)
+    ∙ ap (λ (t : List ℕ). (before ++ word) ++ t) parts
+    ∙ sym (append-assoc (before ++ word) (take k behind) (drop n os))

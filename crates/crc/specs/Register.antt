@@ -48,6 +48,10 @@ Turns p x r = (m : List Bool) → 320 ≤ length m → leftOf r m ≡ leftOf p (
 unfoldable pub Spreads : ℕ → List ℕ → Pending → Type 0
 Spreads c os r = (m : List Bool) → 320 ≤ length m → leftOf r m ≡ left c (message os ++ m)
 
+-- r is what is pending after the octets, p what was before them
+unfoldable pub SpreadsOn : Pending → List ℕ → Pending → Type 0
+SpreadsOn p os r = (m : List Bool) → 320 ≤ length m → leftOf r m ≡ leftOf p (message os ++ m)
+
 -- r is the register after the octets, p what is pending before them
 unfoldable pub Ends : Pending → List ℕ → ℕ → Type 0
 Ends p os r = (m : List Bool) → left r m ≡ leftOf p (message os ++ m)

@@ -1,12 +1,13 @@
 // CRC-32 as ITU-T V.42 has it: `crc32`, `crc_update` and `crc32_skipping` of the Rust's tile.rs. Few octets go by a table of half octets, four octets a turn. Many go by
-// words of 64 bits with no table, and only the last 40 to 47 octets by the table. The table is small because a const is written out on the stack where it is used.
+// words of 64 bits with no table, the skipped octets too where they begin a word, and only the last 40 to 47 octets by the table. The table is small because a const
+// is written out on the stack where it is used.
 ghost use mathlib.Core.Path.{_≡_};
 ghost use mathlib.Core.List.{[], _∷_, _++_};
 ghost use Prim.Native.Nat.{_+_, _-_, _%_, _<_, _≤_, min};
 ghost use lib.ListN.{length, take, drop};
 ghost use Rattle.crc.specs.Fcs as Fcs;
 ghost use Rattle.crc.specs.Fcs.{bits, message, remainder, zeros};
-ghost use Rattle.crc.specs.Register.{half, Rule, Takes, TakesWord, Turns, Spreads, Ends};
+ghost use Rattle.crc.specs.Register.{half, Rule, Takes, TakesWord, Turns, Spreads, SpreadsOn, Ends};
 
 // What the register makes of each half octet with 0 to 7 half octets of zero behind it: eight tables of 16, one behind the other.
 const TABLE: [u32; 128] = [
@@ -267,24 +268,33 @@ fn turned(p: Pending, x: u64) -> Pending
     }
 }
 
-// What is pending after whole words.
+// What is pending after whole words, with `p` pending before them.
+fn spread_on(p: Pending, bytes: &[u8]) -> Pending
+    requires { ⌜ length (now bytes) % 8 ≡ 0 ⌝ }
+    ensures { λ r. ⌜ SpreadsOn p (now (bytes .entry)) r ⌝ }
+{
+    let mut q = p;
+    let mut i = 0;
+    while i < bytes.len() {
+        q = turned(q, word_at(bytes, i));
+        i += 8;
+    }
+    q
+}
+
+// What is pending after whole words, with `value` in the register before them.
 fn spread(value: u32, bytes: &[u8]) -> Pending
     requires { ⌜ length (now bytes) % 8 ≡ 0 ⌝ }
     ensures { λ r. ⌜ Spreads value (now (bytes .entry)) r ⌝ }
 {
-    let mut p = Pending {
+    let p = Pending {
         first: value as u64,
         second: 0,
         third: 0,
         fourth: 0,
         fifth: 0,
     };
-    let mut i = 0;
-    while i < bytes.len() {
-        p = turned(p, word_at(bytes, i));
-        i += 8;
-    }
-    p
+    spread_on(p, bytes)
 }
 
 // The register after what is pending is added to the last octets, 40 or more.
@@ -335,6 +345,22 @@ fn skipped(len: usize, at: usize) -> usize
     4
 }
 
+// The register after the bytes with the four at `at` read as zero, where `at` begins a word: the zeros go without the table, as one word with the four
+// octets behind them.
+fn crc_zeroed(table: &[u32; 128], bytes: &[u8], at: usize) -> u32
+    requires { ⌜ Rule (now table) ⌝ }
+    requires { ⌜ at % 8 ≡ 0 ⌝ }
+    requires { ⌜ at + 48 ≤ length (now bytes) ⌝ }
+    ensures { λ r. ⌜ Takes 4294967295 (Fcs.zeroed (now (bytes .entry)) at) r ⌝ }
+{
+    let before = spread(0xffffffff, &bytes[..at]);
+    let word = (four_at(bytes, at + 4) as u64) * 4294967296;
+    let over = turned(before, word);
+    let n = (bytes.len() - 40) / 8 * 8;
+    let p = spread_on(over, &bytes[at + 8..n]);
+    ended(table, p, &bytes[n..])
+}
+
 // CRC-32 of the bytes with the four at `at` read as zero. Past the end there is nothing to read: fewer than four, or none, are skipped.
 pub fn crc32_skipping(bytes: &[u8], at: usize) -> u32
     ensures { λ r. ⌜ r ≡ Fcs.crc32Skipping (now (bytes .entry)) at ⌝ }
@@ -343,6 +369,9 @@ pub fn crc32_skipping(bytes: &[u8], at: usize) -> u32
         return crc32(bytes);
     }
     let table = TABLE;
+    if at % 8 == 0 && 48 <= bytes.len() - at {
+        return !crc_zeroed(&table, bytes, at);
+    }
     let zeros = [0u8; 4];
     let n = skipped(bytes.len(), at);
     let before = crc_update(&table, 0xffffffff, &bytes[..at]);

@@ -1,4 +1,5 @@
--- `crc::crc32_skipping` meets its contract: the register takes the octets before, as many zeros as there are octets to skip, and the octets behind.
+-- `crc::crc32_skipping` meets its contract. Where `crc_zeroed` does not serve, the register takes the octets before, as many zeros as there are octets to skip,
+-- and the octets behind.
 use Prim.Native.Nat.{ℕ, zero, suc, _+_, _-_, _≤_}
 use mathlib.Core.Path.{_≡_, refl, sym, ap, _∙_}
 use mathlib.Core.List.{List, _∷_, _++_}
@@ -12,6 +13,7 @@ use Rattle.crc.specs.Register.{Takes}
 use Rattle.crc.proofs.Laws.{takes-crc, takes-append, zeroed-at, zeroed-past}
 use Rattle.crc.proofs.Rule.{table, rule}
 use borrow.Author.Needs.{needs}
+use borrow.Author.Tests.{leb-true}
 use Rattle.crc.proofs.crc32_skipping.Statement.{statement}
 use Rattle.crc.proofs.crc32_skipping.Tie as tie
 
@@ -29,11 +31,29 @@ returns c =
     let start = c .before .before .before in
     c .crc32 .ensures ∙ ap Fcs.crc32 (sym (zeroed-past (start .args .bytes .now) (start .args .at) (c .before .if1 .taken)))
 
+sub-if3 : tie.Need-sub-if3
+sub-if3 c = search needs
+
+crc-zeroed-requires : tie.Need-crc-zeroed-requires
+unfolding table
+crc-zeroed-requires c κs =
+    let start = c .before .before .before .before .before in
+    let bytes : List ℕ = start .args .bytes .now in
+    let at : ℕ = start .args .at in
+    let enough : at + 48 ≤ length bytes = omega (arith, leb-true 48 (length bytes - at) (c .before .if3 .taken)) in
+    (rule, (c .before .before .if2 .taken, enough))
+
+returns-2 : tie.Need-returns-2
+unfolding crc32Skipping
+returns-2 c =
+    let start = c .before .before .before .before .before .before in
+    sym (takes-crc (Fcs.zeroed (start .args .bytes .now) (start .args .at)) (c .crc-zeroed .result) (omega (arith, c .crc-zeroed .ok)) (c .crc-zeroed .ensures))
+
 skipped-requires : tie.Need-skipped-requires
 skipped-requires c κs = search needs
 
 slice-aggregate-crc-update : tie.Need-slice-aggregate-crc-update
-slice-aggregate-crc-update c = simp length-take (sym (min-eq-left (le-of-lt (c .before .before .before .if1 .left))))
+slice-aggregate-crc-update c = simp length-take (sym (min-eq-left (le-of-lt (c .before .before .before .before .if1 .left))))
 
 crc-update-requires : tie.Need-crc-update-requires
 unfolding table
@@ -43,7 +63,7 @@ array-share-prefix-zeros : tie.Need-array-share-prefix-zeros
 array-share-prefix-zeros c = search needs
 
 slice-aggregate-crc-update-2 : tie.Need-slice-aggregate-crc-update-2
-slice-aggregate-crc-update-2 c = sym (length-take-le (c .before .before .before .before .before .skipped .result) (replicate 4 0) (omega (arith, c .before .before .before .before .before .skipped .ensures, min-le-left 4 (length (c .before .before .before .before .before .before .before .before .args .bytes .now) - c .before .before .before .before .before .before .before .before .args .at))))
+slice-aggregate-crc-update-2 c = sym (length-take-le (c .before .before .before .before .before .skipped .result) (replicate 4 0) (omega (arith, c .before .before .before .before .before .skipped .ensures, min-le-left 4 (length (c .before .before .before .before .before .before .before .before .before .args .bytes .now) - c .before .before .before .before .before .before .before .before .before .args .at))))
 
 crc-update-requires-2 : tie.Need-crc-update-requires-2
 unfolding table
@@ -65,10 +85,10 @@ crc-update-requires-3 : tie.Need-crc-update-requires-3
 unfolding table
 crc-update-requires-3 c κs = rule
 
-returns-2 : tie.Need-returns-2
+returns-3 : tie.Need-returns-3
 unfolding crc32Skipping
-returns-2 c =
-    let start = c .before .before .before .before .before .before .before .before .before .before .before .before in
+returns-3 c =
+    let start = c .before .before .before .before .before .before .before .before .before .before .before .before .before in
     let bytes : List ℕ = start .args .bytes .now in
     let at : ℕ = start .args .at in
     let found = c .before .before .before .before .before .before .before .before .before in
@@ -84,7 +104,7 @@ returns-2 c =
     (takes-append (first .result) (second .result) (c .crc-update3 .result) (replicate n o) (drop (at + n) bytes)
     (rw z at (second .ensures)) (rw behind at (c .crc-update3 .ensures))) in
     sym
-    (ap Fcs.crc32 (zeroed-at bytes at (found .before .if1 .left)
+    (ap Fcs.crc32 (zeroed-at bytes at (found .before .before .if1 .left)
     ∙ ap (λ (k : ℕ). take at bytes ++ (replicate k o ++ drop (at + k) bytes)) (sym (found .skipped .ensures)))
     ∙ takes-crc (take at bytes ++ (replicate n o ++ drop (at + n) bytes)) (c .crc-update3 .result) (omega (arith, c .crc-update3 .ok)) whole)
 
@@ -94,6 +114,9 @@ crc32-skipping-spec =
     (tie.spec
     crc32-requires
     returns
+    sub-if3
+    crc-zeroed-requires
+    returns-2
     skipped-requires
     slice-aggregate-crc-update
     crc-update-requires
@@ -105,4 +128,4 @@ crc32-skipping-spec =
     part-crc-update-start
     part-crc-update-end
     crc-update-requires-3
-    returns-2)
+    returns-3)

@@ -1,14 +1,11 @@
 -- `crc::crc_update` meets its contract: both of the ways to take the octets do.
-use Prim.Native.Nat.{ℕ, _+_, _-_, _*_, _/_}
-use mathlib.Core.Path.{_≡_, sym, ap, _∙_}
-use mathlib.Core.Bool.{Bool}
-use mathlib.Core.List.{List, _++_, append-assoc}
+use Prim.Native.Nat.{ℕ, _-_, _*_, _/_, _≤_}
+use mathlib.Core.Path.{_≡_, sym}
+use mathlib.Core.List.{List}
 use native.Mathlib.Omega.{arith}
-use lib.ListN.{length, take, drop, length-append, length-drop, take-append-drop}
+use lib.ListN.{length, take, drop, length-drop, take-append-drop}
 use lib.Seq.{length-take-le, take-all}
-use Rattle.crc.specs.Fcs.{message}
-use Rattle.crc.specs.Register.{left, Takes, Spreads, Ends}
-use Rattle.crc.proofs.Laws.{message-append, message-length}
+use Rattle.crc.proofs.Words.{spreads-end}
 use borrow.Author.Needs.{needs}
 use Rattle.crc.proofs.crc_update.Statement.{statement}
 use Rattle.crc.proofs.crc_update.Tie as tie
@@ -49,19 +46,15 @@ ended-requires : tie.Need-ended-requires
 ended-requires c κs = search needs
 
 returns-2 : tie.Need-returns-2
-unfolding Takes Spreads Ends
-returns-2 c = λ m.
+returns-2 c =
     let start = c .before .before .before .before .before .before in
     let bytes : List ℕ = start .args .bytes .now in
     let n : ℕ = (length bytes - 40) / 8 * 8 in
-    let l : length (message (drop n bytes) ++ m) ≡ 8 * (length bytes - n) + length m =
-    length-append (message (drop n bytes)) m ∙ ap (λ (k : ℕ). k + length m) (message-length (drop n bytes) ∙ ap (λ (k : ℕ). 8 * k) (length-drop n bytes)) in
+    let p = c .before .before .spread in
     let behind : take (length bytes - n) (drop n bytes) ≡ drop n bytes = take-all (length bytes - n) (drop n bytes) (simp length-drop (omega arith)) in
-    (rw behind at (c .ended .ensures m))
-    ∙ c .before .before .spread .ensures (message (drop n bytes) ++ m) (omega (arith, c .before .before .before .before .if1 .left))
-    ∙ ap (left (start .args .value))
-    (sym (append-assoc (message (take n bytes)) (message (drop n bytes)) m)
-    ∙ ap (λ (k : List Bool). k ++ m) (sym (message-append (take n bytes) (drop n bytes)) ∙ ap message (take-append-drop n bytes)))
+    let last : 40 ≤ length (drop n bytes) = simp length-drop (omega (arith, c .before .before .before .before .if1 .left)) in
+    rw (take-append-drop n bytes) at
+    (spreads-end (start .args .value) (p .result) (c .ended .result) (take n bytes) (drop n bytes) last (p .ensures) (rw behind at (c .ended .ensures)))
 
 pub crc-update-spec : {M : Type 1} → statement M
 crc-update-spec =
