@@ -1,15 +1,16 @@
--- Laws of the pack's definitions, for callers to cite without unfolding one: the readers past the end and their size; a list of clauses
--- by its index; what a header within its rules tells; its tiles' corners and directory entries; keys in the grid; an accepted sector;
+-- Laws of the pack's definitions, for callers to cite without unfolding one: the readers past the end, their size and what they
+-- read out of a slice; a list of clauses by its index; what a header within its rules tells; its tiles' corners and directory entries; keys in the grid; an accepted sector;
 -- a located tile; a range of a lent pack.
 use Prim.Native.Nat.{ℕ, zero, suc, _+_, _*_, _^_, _<_, _≤_}
-use mathlib.Core.Path.{_≡_, refl, sym}
+use mathlib.Core.Path.{_≡_, refl, sym, ap, _∙_}
 use mathlib.Core.Bool.{Bool, true, false, _&&_, cond, true≢false}
 use mathlib.Core.List.{List, [], _∷_}
 use native.Mathlib.Nat.{mul-le-mul-right}
 use native.Mathlib.Omega.{arith}
 use lib.Dec.{leb, ltb, eqb}
 use lib.IntN.{ℤ, pos, negsuc, _+ℤ_, _-ℤ_}
-use lib.ListN.{length, getD, List·getD-eq-default}
+use lib.ListN.{length, take, drop, getD, List·getD-eq-default}
+use lib.Seq.{getD-take, getD-drop}
 use lib.Signed.{leZ, ltZ}
 use borrow.Author.Tests.{ltb-true, leb-true, eqb-true, eqb-false}
 use Rattle.pack.specs.Bytes.{u16At, u32At, u64At}
@@ -58,6 +59,19 @@ module _ (bs : List ℕ) (bytes : (i : ℕ) → getD bs i 0 < 256) where
   pub u64-below : (at : ℕ) → u64At bs at < 2 ^ 64
   unfolding u64At
   u64-below at = omega (arith, u32-below at, u32-below (at + 4))
+
+-- ---- a number read out of n bytes from `at` on stands in all of them that much further
+
+byte-slice : (bs : List ℕ) (at n i k : ℕ) → i < n → at + i ≡ k → getD (take n (drop at bs)) i 0 ≡ getD bs k 0
+byte-slice bs at n i k h e = getD-take n (drop at bs) i 0 h ∙ getD-drop at bs i 0 ∙ ap (λ (j : ℕ). getD bs j 0) e
+
+pub u16-slice : (bs : List ℕ) (at n i k : ℕ) → i + 2 ≤ n → at + i ≡ k → u16At (take n (drop at bs)) i ≡ u16At bs k
+unfolding u16At
+u16-slice bs at n i k h e = rw (byte-slice bs at n i k (omega arith) e, byte-slice bs at n (i + 1) (k + 1) (omega arith) (omega arith))
+
+pub u32-slice : (bs : List ℕ) (at n i k : ℕ) → i + 4 ≤ n → at + i ≡ k → u32At (take n (drop at bs)) i ≡ u32At bs k
+unfolding u32At
+u32-slice bs at n i k h e = rw (u16-slice bs at n i k (omega arith) e, u16-slice bs at n (i + 2) (k + 2) (omega arith) (omega arith))
 
 -- ---- a list of clauses
 

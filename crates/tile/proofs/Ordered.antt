@@ -1,12 +1,12 @@
 -- The order of places by y, then x, and nodes that stand in it. Of nodes each of which follows the one before it, no later one lies below any earlier
--- one; and what a pass over the nodes asks of the next one, with the place of the one before it at hand.
-use Prim.Native.Nat.{ℕ, zero, suc, _+_, _≤_, _<_}
-use mathlib.Core.Path.{_≡_, refl, sym, _∙_}
+-- one; and what a pass over the nodes asks of the next one, with the place of the one before it at hand as one number.
+use Prim.Native.Nat.{ℕ, zero, suc, _+_, _*_, _≤_, _<_}
+use mathlib.Core.Path.{_≡_, refl, sym}
 use mathlib.Core.Bool.{Bool, true, false, _&&_, _||_, not, true≢false}
 use native.Mathlib.Numerals.{add-one}
 use native.Mathlib.Omega.{arith}
 use lib.Dec.{ltb, eqb}
-use borrow.Author.Tests.{ltb-false, eqb-true, eqb-false, le-ltb, eq-eqb, not-true}
+use borrow.Author.Tests.{ltb-true, ltb-false, eqb-true, eqb-false, lt-ltb, le-ltb, eq-eqb}
 use Rattle.tile.specs.Order.{before, isBelow, follows, inOrder}
 use Rattle.tile.specs.declared.Node.{Node}
 use Rattle.tile.proofs.Laws.{all-at}
@@ -61,6 +61,24 @@ not-before-past ay ax by bx cy cx e f =
     let right : by ≡ cy = omega arith in
     omega (arith, one .1 left, two .1 right))
 
+-- ---- a place as one number, which tells the order where each x is below 65,536
+
+abbrev pub placeNumber : Node → ℕ
+placeNumber n = n .y * 65536 + n .x
+
+number-below : (a b : Node) → a .x < 65536 → b .x < 65536 → ltb (placeNumber a) (placeNumber b) ≡ isBelow a b
+number-below a b h k = go (ltb (a .y) (b .y)) refl (eqb (a .y) (b .y)) refl (ltb (a .x) (b .x)) refl
+  where
+    go : (lower : Bool) → ltb (a .y) (b .y) ≡ lower → (same : Bool) → eqb (a .y) (b .y) ≡ same → (left : Bool) → ltb (a .x) (b .x) ≡ left
+        → ltb (placeNumber a) (placeNumber b) ≡ isBelow a b
+    go true e same f left g = rw e (lt-ltb (placeNumber a) (placeNumber b) (omega (arith, ltb-true (a .y) (b .y) e)))
+    go false e true f true g =
+        rw (e, f, g) (lt-ltb (placeNumber a) (placeNumber b) (omega (arith, eqb-true (a .y) (b .y) f, ltb-true (a .x) (b .x) g)))
+    go false e true f false g =
+        rw (e, f, g) (le-ltb (placeNumber a) (placeNumber b) (omega (arith, eqb-true (a .y) (b .y) f, ltb-false (a .x) (b .x) g)))
+    go false e false f left g =
+        rw (e, f) (le-ltb (placeNumber a) (placeNumber b) (omega (arith, ltb-false (a .y) (b .y) e, eqb-false (a .y) (b .y) f)))
+
 -- ---- nodes in order
 
 not-back : (b : Bool) → not b ≡ true → b ≡ false
@@ -68,15 +86,16 @@ not-back true e = absurd (true≢false (sym e))
 not-back false e = refl
 
 module _ (node : ℕ → Node) where
-  -- at the first node a pass holds (0, 0), below which nothing lies
-  pub follows-first : not (before (node 0 .y) (node 0 .x) 0 0) ≡ follows node 0
+  -- at the first node a pass holds 0, below which nothing lies
+  pub follows-first : not (ltb (placeNumber (node 0)) 0) ≡ follows node 0
   unfolding follows
-  follows-first = rw (is-not-before (node 0 .y) (node 0 .x) 0 0 (omega arith) (λ (same : node 0 .y ≡ 0). omega arith))
+  follows-first = rw (le-ltb (placeNumber (node 0)) 0 (omega arith))
 
   -- behind it, the node before
-  pub follows-next : (i : ℕ) → not (before (node (i + 1) .y) (node (i + 1) .x) (node i .y) (node i .x)) ≡ follows node (i + 1)
+  pub follows-next : (i : ℕ) → node (i + 1) .x < 65536 → node i .x < 65536
+      → not (ltb (placeNumber (node (i + 1))) (placeNumber (node i))) ≡ follows node (i + 1)
   unfolding follows
-  follows-next i = rw (add-one)
+  follows-next i h k = rw (number-below (node (i + 1)) (node i) h k) (rw (add-one))
 
   pub in-order-all : (n i j : ℕ) → inOrder node n ≡ true → i < j → j < n → isBelow (node j) (node i) ≡ false
   unfolding follows

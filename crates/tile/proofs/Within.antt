@@ -23,6 +23,7 @@ use Rattle.tile.specs.declared.EdgeRead.the-variants as EdgeRead
 use Rattle.tile.specs.declared.Entries.the-variants as Entries
 use Rattle.tile.specs.declared.EntryRead.the-variants as EntryRead
 use Rattle.tile.proofs.Laws.{and-left, and-right, all-at, clause}
+use Rattle.tile.proofs.Slices.{length-right, node-there, entry-there, edge-there}
 
 -- ---- records
 
@@ -112,7 +113,7 @@ module _ (bs : List ℕ) (key : TileKey) (size : ℕ) (ok : accepts bs key size 
   holds k = clause k (clauses bs key size) ok
 
   pub length-is : length (nodesOf bs) (edgesOf bs) (verticesOf bs) ≡ ListN.length bs
-  length-is = eqb-true (length (nodesOf bs) (edgesOf bs) (verticesOf bs)) (ListN.length bs) (holds 5)
+  length-is = length-right bs (holds 5)
 
   pub key-is : headOf bs .key ≡ key
   key-is =
@@ -126,13 +127,13 @@ module _ (bs : List ℕ) (key : TileKey) (size : ℕ) (ok : accepts bs key size 
   -- the bytes of a record lie within the slice
 
   pub node-within : (i : ℕ) → i < nodesOf bs → nodeStart i + 8 ≤ ListN.length bs
-  node-within i h = omega (arith, length-is)
+  node-within i h = node-there bs (holds 5) i h
 
   pub entry-within : (j : ℕ) → j < edgesOf bs * 2 → entryStart bs j + 2 ≤ ListN.length bs
-  entry-within j h = omega (arith, length-is)
+  entry-within j h = entry-there bs (holds 5) j h
 
   pub edge-within : (i : ℕ) → i < edgesOf bs → edgeStart bs i + 16 ≤ ListN.length bs
-  edge-within i h = omega (arith, length-is)
+  edge-within i h = edge-there bs (holds 5) i h
 
   pub vertex-within : (v : ℕ) → v < verticesOf bs → vertexStart bs v + 6 ≤ ListN.length bs
   vertex-within v h = omega (arith, length-is)

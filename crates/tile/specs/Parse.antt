@@ -42,12 +42,12 @@ hasLon bs = ltb 0 (u32At bs At.lonUmAt)
 
 -- ---- the records
 
--- a node lies within the tile, its adjacency start within the entries
+-- the node that stands at `at` lies within the tile, its adjacency start within the entries
+abbrev pub nodeFits : List ℕ → ℕ → ℕ → ℕ → Bool
+nodeFits bs size last at = leb (u16At bs at) size && (leb (u16At bs (at + At.yAt)) size && leb (u16At bs (at + At.startAt)) last)
+
 unfoldable pub nodeOk : List ℕ → ℕ → ℕ → Bool
-nodeOk bs size i =
-    leb (u16At bs (nodeStart i)) size
-    && (leb (u16At bs (nodeStart i + At.yAt)) size
-    && leb (u16At bs (nodeStart i + At.startAt)) (edgesOf bs * 2))
+nodeOk bs size i = nodeFits bs size (edgesOf bs * 2) (nodeStart i)
 
 -- any size is cut to 65,535
 abbrev pub nodesGood : List ℕ → ℕ → Bool

@@ -8,14 +8,14 @@ use native.Mathlib.Numerals.{add-one}
 use native.Mathlib.Omega.{arith}
 use lib.Dec.{eqb, leb, ltb}
 use lib.ListN.{length, take, drop, getD, length-append, length-drop}
-use lib.Seq.{take-at, drop-at, drop-drop, take-length, take-append-le, drop-append-le, getD-take, getD-drop, getD-append-add, length-take-le}
+use lib.Seq.{take-at, drop-at, drop-drop, take-length, take-append-le, drop-append-le, getD-append-add, length-take-le}
 use borrow.Author.Tests.{eqb-true, eqb-false, eq-eqb, ne-eqb, le-leb, leb-true, ltb-true, ltb-false, not-true}
 use Rattle.pack.specs.Bytes.{u16At, u32At}
 use Rattle.pack.specs.Grid.{inGrid, entryOf, locateOf}
 use Rattle.pack.specs.declared.TileKey.{TileKey}
 use Rattle.pack.specs.declared.Header.{Header}
 use Rattle.pack.specs.declared.Located.the-variants as Located
-use Rattle.pack.proofs.Laws.{row-below, col-below}
+use Rattle.pack.proofs.Laws.{u32-slice, row-below, col-below}
 use Rattle.tile.proofs.Laws.{and-left, and-right}
 use Rattle.writer.specs.PackWritten.{GivenPack, keyIn, keyAt, sameKey, hasKey, noKeyTwice, tileOf, tilesOf, tileAt, tilesBelow, places, dataStart, total, headerOf, sectorBytes, directoryBytes, packGood, packBytes}
 use Rattle.writer.specs.PackSteps.{numbered, tilesFrom, offsetOf, offset, entries}
@@ -27,20 +27,7 @@ use Rattle.writer.proofs.TileSums.{tiles-long, has-same, once}
 use Rattle.writer.proofs.LayLaws.{directory-entries}
 use Rattle.writer.proofs.SectorReads.{length-sector}
 
--- ---- a number in eight bytes of a longer list, and behind a front
-
-byte-part : (bs : List ℕ) (at k i : ℕ) → k < 8 → at + k ≡ i → getD (take 8 (drop at bs)) k 0 ≡ getD bs i 0
-byte-part bs at k i h e = getD-take 8 (drop at bs) k 0 h ∙ getD-drop at bs k 0 ∙ ap (λ (n : ℕ). getD bs n 0) e
-
-u32-part : (bs : List ℕ) (at k : ℕ) → k + 4 ≤ 8 → u32At (take 8 (drop at bs)) k ≡ u32At bs (at + k)
-unfolding u32At u16At
-u32-part bs at k h =
-    rw (
-      byte-part bs at k (at + k) (omega arith) refl,
-      byte-part bs at (k + 1) (at + k + 1) (omega arith) (omega arith),
-      byte-part bs at (k + 2) (at + k + 2) (omega arith) (omega arith),
-      byte-part bs at (k + 2 + 1) (at + k + 2 + 1) (omega arith) (omega arith),
-    )
+-- ---- a number behind a front
 
 byte-behind : (front rest : List ℕ) (n k i : ℕ) → length front ≡ n → n + k ≡ i → getD (front ++ rest) i 0 ≡ getD rest k 0
 byte-behind front rest n k i e d =
@@ -133,13 +120,9 @@ module _ (g : GivenPack) (good : packGood g ≡ true) (small : total g ≤ 0xfff
   in-pack : (k : ℕ) → k + 4 ≤ 8 → u32At entry k ≡ u32At (entries (offset g) (λ p. length (tileAt g p)) (places g) ++ tilesBelow g (places g)) (place * 8 + k)
   unfolding entryOf packBytes
   in-pack k h =
-      u32-part (packBytes g) (512 + place * 8) k h
-      ∙ ap (u32At (packBytes g)) (sums k)
+      u32-slice (packBytes g) (512 + place * 8) 8 k (512 + (place * 8 + k)) h (omega arith)
       ∙ u32-behind (sectorBytes (headerOf g)) (directoryBytes g ++ tilesBelow g (places g)) 512 (place * 8 + k) (length-sector (headerOf g))
       ∙ ap (λ (d : List ℕ). u32At (d ++ tilesBelow g (places g)) (place * 8 + k)) directory-is
-    where
-      sums : (k : ℕ) → 512 + place * 8 + k ≡ 512 + (place * 8 + k)
-      sums k = omega arith
 
   offset-small : offset g place < 0x1_0000_0000
   unfolding offset

@@ -42,19 +42,19 @@ returns-5 : tie.Need-returns-5
 returns-5 c = refused-by _ _ _ 6 (rw (← c .before .u32-at .ensures, c .if5 .taken))
 
 nodes-good-requires : tie.Need-nodes-good-requires
-nodes-good-requires c κs = search needs
+nodes-good-requires c κs = sym (c .before .before .before .is-length .ensures) ∙ not-false _ (c .before .before .if4 .left)
 
 returns-6 : tie.Need-returns-6
 returns-6 c = refused-by-nodes _ _ _ (sym (c .before .nodes-good .ensures) ∙ not-true _ (c .if6 .taken))
 
 edges-good-requires : tie.Need-edges-good-requires
-edges-good-requires c κs = search needs
+edges-good-requires c κs = sym (c .before .before .before .before .before .is-length .ensures) ∙ not-false _ (c .before .before .before .before .if4 .left)
 
 returns-7 : tie.Need-returns-7
 returns-7 c = refused-by _ _ _ 8 (sym (c .before .edges-good .ensures) ∙ not-true _ (c .if7 .taken))
 
 entries-good-requires : tie.Need-entries-good-requires
-entries-good-requires c κs = search needs
+entries-good-requires c κs = sym (c .before .before .before .before .before .before .before .is-length .ensures) ∙ not-false _ (c .before .before .before .before .before .before .if4 .left)
 
 returns-8 : tie.Need-returns-8
 returns-8 c = refused-by _ _ _ 9 (sym (c .before .entries-good .ensures) ∙ not-true _ (c .if8 .taken))

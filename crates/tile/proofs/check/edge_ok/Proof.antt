@@ -12,9 +12,6 @@ returns : tie.Need-returns
 unfolding edgeFits
 returns c = rw (← c .before .u16-at .ensures, le-ltb _ _ (c .if1 .taken))
 
-add-u16-at : tie.Need-add-u16-at
-add-u16-at c = search needs
-
 u16-at-requires-2 : tie.Need-u16-at-requires-2
 u16-at-requires-2 c κs = search needs
 
@@ -22,17 +19,11 @@ returns-2 : tie.Need-returns-2
 unfolding edgeFits
 returns-2 c = rw (← c .before .before .before .u16-at .ensures, lt-ltb _ _ (c .before .before .if1 .left), ← c .before .u16-at2 .ensures, le-ltb _ _ (c .if2 .taken))
 
-add-u32-at : tie.Need-add-u32-at
-add-u32-at c = search needs
-
 u32-at-requires : tie.Need-u32-at-requires
 u32-at-requires c κs = search needs
 
 cast-first : tie.Need-cast-first
 cast-first c = search needs
-
-add-u16-at-2 : tie.Need-add-u16-at-2
-add-u16-at-2 c = search needs
 
 u16-at-requires-3 : tie.Need-u16-at-requires-3
 u16-at-requires-3 c κs = search needs
@@ -61,13 +52,10 @@ edge-ok-spec =
     (tie.spec
     u16-at-requires
     returns
-    add-u16-at
     u16-at-requires-2
     returns-2
-    add-u32-at
     u32-at-requires
     cast-first
-    add-u16-at-2
     u16-at-requires-3
     cast-count
     add-result

@@ -1,13 +1,16 @@
 -- `tile::check::entries_good` meets its contract. The loop's invariant: every entry passed names an edge.
-use Prim.Native.Nat.{_≤_, _-_, _*_}
+use Prim.Native.Nat.{ℕ, _+_, _-_, _*_, _≤_}
 use mathlib.Core.Bool.{true}
+use mathlib.Core.List.{List}
 use mathlib.Core.Path.{_≡_, sym}
 use native.Mathlib.Omega.{arith}
 use borrow.Author.Needs.{needs}
 use borrow.Author.Tests.{lt-ltb, le-ltb}
+use Rattle.pack.proofs.Laws.{u16-slice}
 use Rattle.tile.specs.Parse.{entryOk, allBelow}
 use Rattle.tile.specs.Layout.{edgesOf}
 use Rattle.tile.proofs.Laws.{all-none, all-more, all-miss, all-end}
+use Rattle.tile.proofs.Slices.{entry-there}
 use Rattle.tile.proofs.check.entries_good.Statement.{statement}
 use Rattle.tile.proofs.check.entries_good.Tie as tie
 
@@ -41,14 +44,26 @@ add-base c = search needs
 loop-holds : tie.Need-loop-holds Inv-loop μ-loop
 loop-holds c = (search needs, all-none _)
 
-cast-u16-at : tie.Need-cast-u16-at Inv-loop μ-loop
-cast-u16-at c = search needs
+cast-at : tie.Need-cast-at Inv-loop μ-loop
+cast-at c = search needs
 
-mul-u16-at : tie.Need-mul-u16-at Inv-loop μ-loop
-mul-u16-at c = search needs
+mul-at : tie.Need-mul-at Inv-loop μ-loop
+mul-at c = search needs
+
+add-at : tie.Need-add-at Inv-loop μ-loop
+add-at c = search needs
 
 add-u16-at : tie.Need-add-u16-at Inv-loop μ-loop
 add-u16-at c = search needs
+
+sub-u16-at : tie.Need-sub-u16-at Inv-loop μ-loop
+sub-u16-at c = search needs
+
+part-u16-at-start : tie.Need-part-u16-at-start Inv-loop μ-loop
+part-u16-at-start c = search needs
+
+part-u16-at-end : tie.Need-part-u16-at-end Inv-loop μ-loop
+part-u16-at-end c = omega (arith, entry-there (c .before .before .before .before .before .args .bytes .now) (c .before .before .before .before .before .pre) (c .before .loop .entry) (omega arith), c .before .before .before .u16-at .ensures, c .before .before .u16-at2 .ensures)
 
 u16-at-requires-3 : tie.Need-u16-at-requires-3 Inv-loop μ-loop
 u16-at-requires-3 c κs = search needs
@@ -56,11 +71,15 @@ u16-at-requires-3 c κs = search needs
 returns : tie.Need-returns Inv-loop μ-loop
 unfolding entryOk
 returns c =
+    let bytes : List ℕ = c .before .before .before .before .before .before .before .before .args .bytes .now in
+    let entry : ℕ = c .before .before .before .before .loop .entry in
+    let at : ℕ = 32 + c .before .before .before .before .before .before .u16-at .result * 8 + entry * 2 in
     sym
-    (all-miss _ (c .before .before .before .loop .entry) (edgesOf (c .before .before .before .before .before .before .before .args .bytes .now) * 2) (omega arith)
+    (all-miss _ entry (edgesOf bytes * 2) (omega arith)
     (rw (
-      ← c .before .before .before .before .before .u16-at .ensures,
-      ← c .before .before .before .before .u16-at2 .ensures,
+      ← c .before .before .before .before .before .before .u16-at .ensures,
+      ← c .before .before .before .before .before .u16-at2 .ensures,
+      ← u16-slice bytes at (at + 2 - at) 0 at (omega arith) (omega arith),
       ← c .before .u16-at3 .ensures,
     )
     (le-ltb _ _ (c .if1 .taken))))
@@ -73,16 +92,20 @@ loop-less c = search needs
 
 loop-again : tie.Need-loop-again Inv-loop μ-loop
 unfolding entryOk
-loop-again c = (
-  omega arith,
-  all-more _ (c .before .before .before .loop .entry) (c .before .before .before .loop .inv .1)
-      (rw (
-        ← c .before .before .before .before .before .u16-at .ensures,
-        ← c .before .before .before .before .u16-at2 .ensures,
-        ← c .before .u16-at3 .ensures,
-      )
-      (lt-ltb _ _ (c .if1 .left))),
-)
+loop-again c =
+    let bytes : List ℕ = c .before .before .before .before .before .before .before .before .args .bytes .now in
+    let entry : ℕ = c .before .before .before .before .loop .entry in
+    let at : ℕ = 32 + c .before .before .before .before .before .before .u16-at .result * 8 + entry * 2 in (
+      omega arith,
+      all-more _ entry (c .before .before .before .before .loop .inv .1)
+          (rw (
+            ← c .before .before .before .before .before .before .u16-at .ensures,
+            ← c .before .before .before .before .before .u16-at2 .ensures,
+            ← u16-slice bytes at (at + 2 - at) 0 at (omega arith) (omega arith),
+            ← c .before .u16-at3 .ensures,
+          )
+          (lt-ltb _ _ (c .if1 .left))),
+    )
 
 returns-2 : tie.Need-returns-2 Inv-loop μ-loop
 returns-2 c = all-end _ (c .before .loop .entry) (edgesOf (c .before .before .before .before .before .args .bytes .now) * 2) (omega arith) (c .before .loop .inv .1)
@@ -101,9 +124,13 @@ entries-good-spec =
     mul-base
     add-base
     loop-holds
-    cast-u16-at
-    mul-u16-at
+    cast-at
+    mul-at
+    add-at
     add-u16-at
+    sub-u16-at
+    part-u16-at-start
+    part-u16-at-end
     u16-at-requires-3
     returns
     add-entry
