@@ -1,5 +1,5 @@
 -- The numbers of the lookups of one call: the turns of the loops that take them out of the cache, that put the ages back and that look for a
--- key among them; and what stands at each place once they are taken, and once a run is marked.
+-- key among them; what stands at each place once they are taken, and once a run is marked; and that the run found last is on a page.
 use Prim.Native.Nat.{ℕ, zero, suc, _+_, _<_, _≤_}
 use mathlib.Core.Path.{_≡_, refl, sym, _∙_}
 use mathlib.Core.Bool.{Bool, true, false, _&&_, cond}
@@ -7,11 +7,12 @@ use mathlib.Core.List.{List}
 use mathlib.Core.Logic.{⊎-elim}
 use native.Mathlib.Numerals.{add-one}
 use native.Mathlib.Omega.{arith}
-use borrow.Author.Tests.{eq-eqb, ne-eqb, eqb-true, eqb-false}
-use lib.Dec.{eqb}
+use borrow.Author.Tests.{eq-eqb, ne-eqb, eqb-true, eqb-false, ltb-true}
+use lib.Dec.{eqb, ltb}
 use lib.ListN.{length, getD, set, replicate, length-set, length-replicate}
 use lib.Seq.{getD-set-same, getD-set-other, ext-getD}
 use Rattle.pack.specs.declared.TileKey.{TileKey}
+use Rattle.pack.proofs.Laws.{and-left}
 use Rattle.cache.specs.declared.Cache.{Cache}
 use Rattle.cache.specs.declared.Pages.{Pages}
 use Rattle.cache.specs.declared.Ring.{Ring}
@@ -22,7 +23,7 @@ use Rattle.cache.specs.Runs.{slotAt}
 use Rattle.cache.specs.Keys.{holds, keyAt, isReady}
 use Rattle.cache.specs.Lookups.{after}
 use Rattle.cache.proofs.Below.{same-or}
-use Rattle.cache.specs.Ages.{rowOf, colOf, readyKey, pageIn, pagesIn, placeIn, ringIn, agesTo, usesFrom, aged, marked}
+use Rattle.cache.specs.Ages.{rowOf, colOf, readyKey, pageIn, pagesIn, placeIn, ringIn, agesTo, usesFrom, aged, marked, wasFound}
 use Rattle.cache.specs.Uses.{withUses}
 
 -- ---- one page or place more
@@ -105,14 +106,14 @@ module _ (looks : List ℕ) (i age : ℕ) (s : Slot) where
       ∙ (getD-set-other one (192 + i) j (rowOf (readyKey s)) 0 b ∙ getD-set-other looks i j age 0 a)
       )
 
-  module _ (h : i < 96) (size : length looks ≡ 610) where
-    size-one : length one ≡ 610
+  module _ (h : i < 96) (size : length looks ≡ 611) where
+    size-one : length one ≡ 611
     size-one = length-set looks i age ∙ size
 
-    size-two : length two ≡ 610
+    size-two : length two ≡ 611
     size-two = length-set one (192 + i) (rowOf (readyKey s)) ∙ size-one
 
-    size-three : length three ≡ 610
+    size-three : length three ≡ 611
     size-three = length-set two (288 + i) (colOf (readyKey s)) ∙ size-two
 
     page-age : getD (pageIn looks i age s) i 0 ≡ age
@@ -160,7 +161,7 @@ module _ (looks : List ℕ) (g : Pages) where
       (λ (e : j ≡ 384 + n). omega (arith, e, b))
       ∙ pages-marks n j (omega (arith, h)) a b
 
-  module _ (size : length looks ≡ 610) where
+  module _ (size : length looks ≡ 611) where
     pub pages-age : (n i : ℕ) → n ≤ 96 → i < n → getD (pagesIn looks g n) i 0 ≡ getD (g .used) i 0
     unfolding pagesIn
     pages-age zero i h k = absurd (omega (arith, k))
@@ -242,7 +243,7 @@ module _ (looks : List ℕ) (r : Ring) where
   ring-below (suc n) j h =
       place-other n j (λ (e : j ≡ 480 + n). omega (arith, e, h)) (λ (e : j ≡ 544 + n). omega (arith, e, h)) ∙ ring-below n j h
 
-  module _ (size : length looks ≡ 610) where
+  module _ (size : length looks ≡ 611) where
     pub ring-row : (n i : ℕ) → n ≤ 64 → i < n → getD (ringIn looks r n) (480 + i) 0 ≡ rowOf (keyAt r i)
     unfolding ringIn
     ring-row zero i h k = absurd (omega (arith, k))
@@ -301,6 +302,12 @@ pub with-uses-from : (c : Cache) (looks : List ℕ) → withUses c (usesFrom loo
 unfolding aged
 with-uses-from c looks = refl
 
+-- ---- the run found last
+
+pub last-below : (looks : List ℕ) (i : ℕ) (key : TileKey) → wasFound looks i key ≡ true → i < 96
+unfolding wasFound
+last-below looks i key e = ltb-true i 96 (and-left (ltb i 96) _ e)
+
 -- ---- a run marked
 
 module _ (looks : List ℕ) (i : ℕ) where
@@ -313,26 +320,37 @@ module _ (looks : List ℕ) (i : ℕ) where
   abbrev used : List ℕ
   used = set timed i age
 
+  abbrev checked : List ℕ
+  checked = set used (96 + i) 1
+
   pub marked-length : length (marked looks i) ≡ length looks
   unfolding marked
-  marked-length = length-set used (96 + i) 1 ∙ (length-set timed i age ∙ length-set looks 608 age)
+  marked-length = length-set checked 610 i ∙ (length-set used (96 + i) 1 ∙ (length-set timed i age ∙ length-set looks 608 age))
 
-  pub marked-other : (j : ℕ) → (j ≡ 608 → ⊥) → (j ≡ i → ⊥) → (j ≡ 96 + i → ⊥) → getD (marked looks i) j 0 ≡ getD looks j 0
+  pub marked-other : (j : ℕ) → (j ≡ 608 → ⊥) → (j ≡ i → ⊥) → (j ≡ 96 + i → ⊥) → (j ≡ 610 → ⊥) → getD (marked looks i) j 0 ≡ getD looks j 0
   unfolding marked
-  marked-other j a b d = getD-set-other used (96 + i) j 1 0 d ∙ (getD-set-other timed i j age 0 b ∙ getD-set-other looks 608 j age 0 a)
+  marked-other j a b d e =
+      getD-set-other checked 610 j i 0 e
+      ∙ (getD-set-other used (96 + i) j 1 0 d ∙ (getD-set-other timed i j age 0 b ∙ getD-set-other looks 608 j age 0 a))
 
-  module _ (h : i < 96) (size : length looks ≡ 610) where
+  module _ (h : i < 96) (size : length looks ≡ 611) where
     pub marked-clock : getD (marked looks i) 608 0 ≡ after (getD looks 608 0)
     unfolding marked
     marked-clock =
+        getD-set-other checked 610 608 i 0 (λ (e : 608 ≡ 610). omega (arith, e))
+        ∙ (
         getD-set-other used (96 + i) 608 1 0 (λ (e : 608 ≡ 96 + i). omega (arith, e, h))
         ∙ (getD-set-other timed i 608 age 0 (λ (e : 608 ≡ i). omega (arith, e, h)) ∙ getD-set-same looks 608 age 0 (omega (arith, size)))
+        )
 
     pub marked-age : getD (marked looks i) i 0 ≡ after (getD looks 608 0)
     unfolding marked
     marked-age =
+        getD-set-other checked 610 i i 0 (λ (e : i ≡ 610). omega (arith, e, h))
+        ∙ (
         getD-set-other used (96 + i) i 1 0 (λ (e : i ≡ 96 + i). omega (arith, e))
         ∙ getD-set-same timed i age 0 (omega (arith, h, size, length-set looks 608 age))
+        )
 
     pub marked-ages : agesTo (marked looks i) 96 ≡ set (agesTo looks 96) i (after (getD looks 608 0))
     marked-ages =
@@ -341,6 +359,6 @@ module _ (looks : List ℕ) (i : ℕ) where
         ⊎-elim
         (λ (q : j ≡ i). rw q (marked-age ∙ sym (getD-set-same (agesTo looks 96) i age 0 (omega (arith, h, ages-length looks 96)))))
         (λ (q : j ≡ i → ⊥).
-        marked-other j (λ (e : j ≡ 608). omega (arith, e, k)) q (λ (e : j ≡ 96 + i). omega (arith, e, k))
+        marked-other j (λ (e : j ≡ 608). omega (arith, e, k)) q (λ (e : j ≡ 96 + i). omega (arith, e, k)) (λ (e : j ≡ 610). omega (arith, e, k))
         ∙ sym (getD-set-other (agesTo looks 96) i j age 0 q ∙ ages-at looks 96 j (omega arith) k))
         (same-or j i))

@@ -2,7 +2,7 @@
 -- (`stands-found`). While they do, a lookup answers as the look at the cache given (`stands-at`). A run that was
 -- answered, by whatever numbers, lies in the arena (`found-length`).
 -- The idea: row + 1 and column tell a key, so that a lookup by the numbers lands where one by the cache does; and a slot is one key's, so that a
--- mark spares only a check that would pass.
+-- mark spares only a check that would pass, and the run found last only a search that would end there.
 use Prim.Native.Nat.{ℕ, _+_, _*_, _<_, _≤_, min}
 use mathlib.Core.Path.{_≡_, refl, sym, ap, _∙_}
 use mathlib.Core.Bool.{Bool, true, false, _&&_, cond, true≢false}
@@ -50,6 +50,7 @@ use Rattle.cache.specs.Ages.{
   Hit,
   hitRun,
   hitPage,
+  wasFound,
   lookUp,
   bytesOf,
 }
@@ -69,6 +70,7 @@ use Rattle.cache.proofs.LooksLaws.{
   ring-row,
   ring-col,
   ages-are,
+  last-below,
   marked-length,
   marked-other,
   marked-clock,
@@ -102,9 +104,6 @@ lands-ready c key i e =
     by false (Found.At j) e = let z : j ≡ i = cc in ap Found.At z
     by false Found.Nothing e = let z : _≡_ {A = ℕ} 0 1 = cc in absurd (omega arith)
 
-lands-key : (c : Cache) (a b : TileKey) (i : ℕ) → landsOn c a ≡ Landing.At i → landsOn c b ≡ Landing.At i → a ≡ b
-lands-key c a b i p q = slot-key (slotAt (c .pages .slots) i) a b (lands-ready c a i p) (lands-ready c b i q)
-
 -- past the last of the 96 pages stands the empty slot, which is not ready
 module _ (c : Cache) (sized : Sized c) (key : TileKey) where
   past : (i : ℕ) → 96 ≤ i → isReady key (slotAt (c .pages .slots) i) ≡ false
@@ -123,7 +122,7 @@ module _ (c : Cache) (sized : Sized c) (key : TileKey) where
 
 -- ---- before the first lookup
 
-module _ (c : Cache) (none : List ℕ) (size : length none ≡ 610) (zeros : (i : ℕ) → i < 610 → getD none i 0 ≡ 0) where
+module _ (c : Cache) (none : List ℕ) (size : length none ≡ 611) (zeros : (i : ℕ) → i < 611 → getD none i 0 ≡ 0) where
   abbrev paged : List ℕ
   paged = pagesIn none (c .pages) 96
 
@@ -136,13 +135,13 @@ module _ (c : Cache) (none : List ℕ) (size : length none ≡ 610) (zeros : (i 
   abbrev taken : List ℕ
   taken = set timed 609 (most (c .pages .count))
 
-  size-paged : length paged ≡ 610
+  size-paged : length paged ≡ 611
   size-paged = pages-length none (c .pages) 96 ∙ size
 
-  size-ringed : length ringed ≡ 610
+  size-ringed : length ringed ≡ 611
   size-ringed = ring-length paged (c .missing) 64 ∙ size-paged
 
-  size-timed : length timed ≡ 610
+  size-timed : length timed ≡ 611
   size-timed = length-set ringed 608 (c .pages .clock) ∙ size-ringed
 
   taken-low : (j : ℕ) → j < 608 → getD taken j 0 ≡ getD ringed j 0
@@ -185,7 +184,7 @@ module _ (c : Cache) (none : List ℕ) (size : length none ≡ 610) (zeros : (i 
   stands-taken arena cell sized = record {
     sized = sized;
     taken = read-taken;
-    sound = λ (i : ℕ) (key : TileKey) (h : i < 96) (e : getD taken (96 + i) 0 ≡ 1) (l : landsOn c key ≡ Landing.At i).
+    sound = λ (i : ℕ) (key : TileKey) (h : i < 96) (e : getD taken (96 + i) 0 ≡ 1) (r : isReady key (slotAt (c .pages .slots) i) ≡ true).
         absurd (omega (arith, e, taken-mark i h));
     same = rw (taken-ages (sized .used), taken-clock);
   }
@@ -193,7 +192,7 @@ module _ (c : Cache) (none : List ℕ) (size : length none ≡ 610) (zeros : (i 
 pub stands-start : (c : Cache) (arena : List ℕ) (size : ℕ) → Sized c → Stands c arena size (lookupsOf c) []
 unfolding lookupsOf
 stands-start c arena size sized =
-    stands-taken c (replicate 610 0) (length-replicate {A = ℕ} 610 0) (λ (i : ℕ) (h : i < 610). getD-replicate {A = ℕ} 610 i 0 0 h) arena size sized
+    stands-taken c (replicate 611 0) (length-replicate {A = ℕ} 611 0) (λ (i : ℕ) (h : i < 611). getD-replicate {A = ℕ} 611 i 0 0 h) arena size sized
 
 -- ---- by the numbers a lookup lands where it does by the cache
 
@@ -204,6 +203,9 @@ module _ (c : Cache) (sized : Sized c) (looks : List ℕ) (read : Taken c looks)
       ap isFound
       (lowest-same (λ (i : ℕ). isKeyAt looks (480 + i) (544 + i) key) (λ (i : ℕ). holds (keyAt (c .missing) i) key) 64
       (λ (i : ℕ) (h : i < 64). rw (read .ringRows i h, read .ringCols i h) (key-tells (keyAt (c .missing) i) key)))
+
+  same-ready : (i : ℕ) → i < 96 → isKeyAt looks (192 + i) (288 + i) key ≡ isReady key (slotAt (c .pages .slots) i)
+  same-ready i h = rw (read .rows i h, read .cols i h) (ready-tells (slotAt (c .pages .slots) i) key)
 
   abbrev byCache : ℕ → Bool
   byCache i = isReady key (slotAt (c .pages .slots) i)
@@ -216,7 +218,7 @@ module _ (c : Cache) (sized : Sized c) (looks : List ℕ) (read : Taken c looks)
       lowest-same byNumbers byCache n
       (λ (i : ℕ) (h : i < n).
       let k : i < 96 = omega (arith, h, m) in
-      rw (lt-ltb i 96 k, read .rows i k, read .cols i k) (ready-tells (slotAt (c .pages .slots) i) key))
+      rw (lt-ltb i 96 k) (same-ready i k))
 
   same-found : lowest byNumbers (getD looks 609 0) ≡ readyAt (c .pages) key
   unfolding readyAt
@@ -241,9 +243,10 @@ hitAt Landing.Nothing looks arena size key = record { answer = Lookup.Absent; lo
 hitAt (Landing.At i) looks arena size key = hitRun (known looks arena i (getD looks (384 + i) 0) key size) looks i
 
 module _ (c : Cache) (sized : Sized c) (looks : List ℕ) (read : Taken c looks) (arena : List ℕ) (size : ℕ) (key : TileKey) where
-  hit-lands : lookUp looks arena size key ≡ hitAt (landsOn c key) looks arena size key
-  unfolding lookUp landsOn
-  hit-lands =
+  search-lands : cond (inRing looks key) (record { answer = Lookup.Missing; looks = looks }) (hitPage looks arena size key (pageOf looks key))
+      ≡ hitAt (landsOn c key) looks arena size key
+  unfolding landsOn
+  search-lands =
       rw (same-ring c sized looks read key, same-page c sized looks read key) (by (Keys.inRing (c .missing) key) (readyAt (c .pages) key) refl)
     where
       by : (t : Bool) (x : Found) → readyAt (c .pages) key ≡ x
@@ -253,7 +256,28 @@ module _ (c : Cache) (sized : Sized c) (looks : List ℕ) (read : Taken c looks)
       by false (Found.At i) e = rw (lt-leb 96 i (found-below c sized key i e))
       by false Found.Nothing e = refl
 
--- ---- a lookup changes clock, ages and marks alone
+  module _ (sound : Sound c arena size looks) where
+    -- the run found last is marked: if it is the key's, the key lands on it
+    last-lands : (i : ℕ) → wasFound looks i key ≡ true → landsOn c key ≡ Landing.At i
+    unfolding wasFound
+    last-lands i e =
+        let low : i < 96 = last-below looks i key e in
+        let known : (eqb (getD looks (96 + i) 0) 1 && isKeyAt looks (192 + i) (288 + i) key) ≡ true = and-right (ltb i 96) _ e in
+        let mark : getD looks (96 + i) 0 ≡ 1 = eqb-true (getD looks (96 + i) 0) 1 (and-left (eqb (getD looks (96 + i) 0) 1) _ known) in
+        sound i key low mark (sym (same-ready c sized looks read key i low) ∙ and-right (eqb (getD looks (96 + i) 0) 1) _ known) .lands
+
+    hit-lands : lookUp looks arena size key ≡ hitAt (landsOn c key) looks arena size key
+    unfolding lookUp
+    hit-lands = by (wasFound looks (getD looks 610 0) key) refl
+      where
+        by : (t : Bool) → wasFound looks (getD looks 610 0) key ≡ t
+            → cond t (hitAt (Landing.At (getD looks 610 0)) looks arena size key)
+            (cond (inRing looks key) (record { answer = Lookup.Missing; looks = looks }) (hitPage looks arena size key (pageOf looks key)))
+            ≡ hitAt (landsOn c key) looks arena size key
+        by true e = rw (last-lands (getD looks 610 0) e)
+        by false e = search-lands
+
+-- ---- a lookup changes clock, ages, marks and the run found last alone
 
 aged-lands : (c : Cache) (looks : List ℕ) (key : TileKey) → landsOn (aged c looks) key ≡ landsOn c key
 unfolding landsOn readyAt aged
@@ -263,7 +287,7 @@ aged-len : (c : Cache) (looks : List ℕ) (i : ℕ) → lenAt (aged c looks) i �
 unfolding aged
 aged-len c looks i = refl
 
-aged-touched : (c : Cache) (looks : List ℕ) (i : ℕ) → i < 96 → length looks ≡ 610 → touched (aged c looks) i ≡ aged c (marked looks i)
+aged-touched : (c : Cache) (looks : List ℕ) (i : ℕ) → i < 96 → length looks ≡ 611 → touched (aged c looks) i ≡ aged c (marked looks i)
 unfolding touched aged
 aged-touched c looks i h size = rw (marked-ages looks i h size, marked-clock looks i h size)
 
@@ -276,13 +300,21 @@ read-marked c looks i h read = record {
   ringRows = λ (j : ℕ) (k : j < 64). kept (480 + j) (omega arith) (omega (arith, k)) ∙ read .ringRows j k;
   ringCols = λ (j : ℕ) (k : j < 64). kept (544 + j) (omega arith) (omega (arith, k)) ∙ read .ringCols j k;
   count =
-      marked-other looks i 609 (λ (e : 609 ≡ 608). omega (arith, e)) (λ (e : 609 ≡ i). omega (arith, e, h)) (λ (e : 609 ≡ 96 + i). omega (arith, e, h))
+      marked-other looks i 609
+      (λ (e : 609 ≡ 608). omega (arith, e))
+      (λ (e : 609 ≡ i). omega (arith, e, h))
+      (λ (e : 609 ≡ 96 + i). omega (arith, e, h))
+      (λ (e : 609 ≡ 610). omega (arith, e))
       ∙ read .count;
 }
   where
     kept : (j : ℕ) → 192 ≤ j → j < 608 → getD (marked looks i) j 0 ≡ getD looks j 0
     kept j a b =
-        marked-other looks i j (λ (e : j ≡ 608). omega (arith, e, b)) (λ (e : j ≡ i). omega (arith, e, a, h)) (λ (e : j ≡ 96 + i). omega (arith, e, a, h))
+        marked-other looks i j
+        (λ (e : j ≡ 608). omega (arith, e, b))
+        (λ (e : j ≡ i). omega (arith, e, a, h))
+        (λ (e : j ≡ 96 + i). omega (arith, e, a, h))
+        (λ (e : j ≡ 610). omega (arith, e, b))
 
 module _ (c : Cache) (arena : List ℕ) (size : ℕ) (looks : List ℕ) (keys : List TileKey) (stands : Stands c arena size looks keys) where
   -- a mark that tells the truth changes nothing
@@ -296,7 +328,8 @@ module _ (c : Cache) (arena : List ℕ) (size : ℕ) (looks : List ℕ) (keys : 
       by : (t : Bool) → eqb (getD looks (96 + i) 0) 1 ≡ t
           → cond t (inside arena i (lenAt c i)) (passes arena i (lenAt c i) key size) ≡ passes arena i (lenAt c i) key size
       by true e =
-          let p : passes arena i (lenAt c i) key size ≡ true = stands .sound i key low (eqb-true (getD looks (96 + i) 0) 1 e) l in
+          let p : passes arena i (lenAt c i) key size ≡ true =
+          stands .sound i key low (eqb-true (getD looks (96 + i) 0) 1 e) (lands-ready c key i l) .passed in
           le-leb (i * 8192 + lenAt c i) (length arena) (passes-inside arena i (lenAt c i) key size p) ∙ sym p
       by false e = refl
 
@@ -309,7 +342,7 @@ module _ (c : Cache) (arena : List ℕ) (size : ℕ) (looks : List ℕ) (keys : 
 
   pub stands-at : (key : TileKey) → inLooks arena size .at looks key ≡ look c arena size key
   unfolding look
-  stands-at key = rw (hit-lands c (stands .sized) looks (stands .taken) arena size key) (by (landsOn c key) refl)
+  stands-at key = rw (hit-lands c (stands .sized) looks (stands .taken) arena size key (stands .sound)) (by (landsOn c key) refl)
     where
       run : (i : ℕ) → i < 96 → (ok : Bool) → passes arena i (lenAt c i) key size ≡ ok
           → inBytes (hitRun ok looks i .answer) arena ≡ cond ok (ready (runBytes arena i (lenAt c i))) stale
@@ -332,15 +365,16 @@ module _ (c : Cache) (arena : List ℕ) (size : ℕ) (looks : List ℕ) (keys : 
     sound-marked j k h e m =
         ⊎-elim
         (λ (q : j ≡ i).
-        let n : landsOn c k ≡ Landing.At i = m ∙ ap Landing.At q in
-        rw (q, ← lands-key c key k i l n) p)
+        let r : isReady k (slotAt (c .pages .slots) i) ≡ true = rw q at m in
+        rw (q, ← slot-key (slotAt (c .pages .slots) i) key k (lands-ready c key i l) r) (record { lands = l; passed = p }))
         (λ (ne : j ≡ i → ⊥).
         stands .sound j k h
         (sym
         (marked-other looks i (96 + j)
         (λ (x : 96 + j ≡ 608). omega (arith, x, h))
         (λ (x : 96 + j ≡ i). omega (arith, x, low))
-        (λ (x : 96 + j ≡ 96 + i). ne (omega (arith, x))))
+        (λ (x : 96 + j ≡ 96 + i). ne (omega (arith, x)))
+        (λ (x : 96 + j ≡ 610). omega (arith, x, h)))
         ∙ e)
         m)
         (same-or j i)
@@ -362,7 +396,7 @@ module _ (c : Cache) (arena : List ℕ) (size : ℕ) (looks : List ℕ) (keys : 
   pub stands-found : (key : TileKey) (bs : List ℕ) → look c arena size key ≡ ready bs
       → Stands c arena size (inLooks arena size .found looks key) (keys ++ (key ∷ []))
   unfolding look
-  stands-found key bs e = rw (hit-lands c (stands .sized) looks (stands .taken) arena size key) (by (landsOn c key) refl e)
+  stands-found key bs e = rw (hit-lands c (stands .sized) looks (stands .taken) arena size key (stands .sound)) (by (landsOn c key) refl e)
     where
       run : (i : ℕ) → landsOn c key ≡ Landing.At i → (ok : Bool) → passes arena i (lenAt c i) key size ≡ ok
           → cond ok (ready (runBytes arena i (lenAt c i))) stale ≡ ready bs → Stands c arena size (hitRun ok looks i .looks) (keys ++ (key ∷ []))
@@ -411,6 +445,14 @@ module _ (looks arena : List ℕ) (size : ℕ) (key : TileKey) where
     ring-found true e = let z : _≡_ {A = ℕ} 0 1 = cc in absurd (omega arith)
     ring-found false e = page-found (pageOf looks key) (leb 96 (pageOf looks key)) e
 
+    last-found : (i : ℕ) (last : Bool)
+        → cond last (hitRun (known looks arena i (getD looks (384 + i) 0) key size) looks i)
+        (cond (inRing looks key) (record { answer = Lookup.Missing; looks = looks }) (hitPage looks arena size key (pageOf looks key))) .answer
+        ≡ Lookup.Ready first len
+        → length (bytesOf arena first len) ≡ len
+    last-found i true e = run-found i (known looks arena i (getD looks (384 + i) 0) key size) refl e
+    last-found i false e = ring-found (inRing looks key) e
+
     pub found-length : lookUp looks arena size key .answer ≡ Lookup.Ready first len → length (bytesOf arena first len) ≡ len
     unfolding lookUp
-    found-length e = ring-found (inRing looks key) e
+    found-length e = last-found (getD looks 610 0) (wasFound looks (getD looks 610 0) key) e

@@ -1,11 +1,13 @@
 -- The lookups of one call that makes many: "A call checks each run it lands on once" (document 01, "Refused"). Each is `Lookups.got`'s, but that a
--- marked run is not read again. This restates private code: what a road means by its lookups is `Reader.plain` of the cache's look, and that
--- these give the same is `stands-at`, `stands-found` (`Stands`). What they read and change is taken out of the cache once, as 610 numbers:
+-- marked run is not read again, and that the run found last is tried first. This restates private code: what a road means by its lookups is
+-- `Reader.plain` of the cache's look, and that these give the same is `stands-at`, `stands-found` (`Stands`). What they read and change is taken
+-- out of the cache once, as 611 numbers:
 --   i, 96 + i             the age of page i; 1 where its run was checked
 --   192 + i, 288 + i      row + 1 and column of the ready tile on page i; row 0 where there is none
 --   384 + i               the length of the run that begins there
 --   480 + i, 544 + i      row + 1 and column of the ring's key i; row 0 where there is none
 --   608, 609              the clock; how many pages there are, at most 96
+--   610                   the page of the run that was found last
 use Prim.Native.Nat.{ℕ, zero, suc, _+_, _*_, min}
 use mathlib.Core.Bool.{Bool, _&&_, cond}
 use mathlib.Core.List.{List, []}
@@ -65,7 +67,7 @@ most count = min count 96
 -- no run is marked
 unfoldable pub lookupsOf : Cache → List ℕ
 lookupsOf c =
-    set (set (ringIn (pagesIn (replicate 610 0) (c .pages) 96) (c .missing) 64) 608 (c .pages .clock)) 609 (most (c .pages .count))
+    set (set (ringIn (pagesIn (replicate 611 0) (c .pages) 96) (c .missing) 64) 608 (c .pages .clock)) 609 (most (c .pages .count))
 
 -- ---- afterwards
 
@@ -115,9 +117,9 @@ inside arena first len = leb (first * 8192 + len) (length arena)
 abbrev pub known : List ℕ → List ℕ → ℕ → ℕ → TileKey → ℕ → Bool
 known looks arena i len key size = cond (eqb (getD looks (96 + i) 0) 1) (inside arena i len) (passes arena i len key size)
 
--- the run from page i on is the most recently used, and checked
+-- the run from page i on is the most recently used, checked, and found last
 unfoldable pub marked : List ℕ → ℕ → List ℕ
-marked looks i = let age = after (getD looks 608 0) in set (set (set looks 608 age) i age) (96 + i) 1
+marked looks i = let age = after (getD looks 608 0) in set (set (set (set looks 608 age) i age) (96 + i) 1) 610 i
 
 -- an answer, and the numbers after it
 pub record Hit : Type 0 where
@@ -128,14 +130,24 @@ abbrev pub hitRun : Bool → List ℕ → ℕ → Hit
 hitRun ok looks i =
     cond ok (record { answer = Lookup.Ready i (getD looks (384 + i) 0); looks = marked looks i }) (record { answer = Lookup.Refused 12; looks = looks })
 
-abbrev pub hitPage : List ℕ → List ℕ → ℕ → TileKey → ℕ → Hit
-hitPage looks arena size key i =
-    cond (leb 96 i) (record { answer = Lookup.Absent; looks = looks }) (hitRun (known looks arena i (getD looks (384 + i) 0) key size) looks i)
+-- on the run from page i on
+abbrev pub hitHere : List ℕ → List ℕ → ℕ → TileKey → ℕ → Hit
+hitHere looks arena size key i = hitRun (known looks arena i (getD looks (384 + i) 0) key size) looks i
 
--- the ring first, then the lowest ready run
+abbrev pub hitPage : List ℕ → List ℕ → ℕ → TileKey → ℕ → Hit
+hitPage looks arena size key i = cond (leb 96 i) (record { answer = Lookup.Absent; looks = looks }) (hitHere looks arena size key i)
+
+-- the run from page i on is the key's, and was found before: a run that is marked was found, so that its key is not in the ring and is ready on no
+-- lower page
+unfoldable pub wasFound : List ℕ → ℕ → TileKey → Bool
+wasFound looks i key = ltb i 96 && (eqb (getD looks (96 + i) 0) 1 && isKeyAt looks (192 + i) (288 + i) key)
+
+-- the run that was found last, if it is the key's; else the ring first, then the lowest ready run
 unfoldable pub lookUp : List ℕ → List ℕ → ℕ → TileKey → Hit
 lookUp looks arena size key =
-    cond (inRing looks key) (record { answer = Lookup.Missing; looks = looks }) (hitPage looks arena size key (pageOf looks key))
+    let last = getD looks 610 0 in
+    cond (wasFound looks last key) (hitHere looks arena size key last)
+    (cond (inRing looks key) (record { answer = Lookup.Missing; looks = looks }) (hitPage looks arena size key (pageOf looks key)))
 
 -- the bytes of a run; none where it would pass the arena's end, which a run that a lookup answered never does
 unfoldable pub bytesOf : List ℕ → ℕ → ℕ → List ℕ

@@ -9,7 +9,7 @@ use Rattle.pack.specs.declared.TileKey.{TileKey}
 use Rattle.cache.specs.declared.Cache.{Cache}
 use Rattle.cache.specs.declared.look.Landing.the-variants as Landing
 use Rattle.cache.specs.Runs.{slotAt}
-use Rattle.cache.specs.Keys.{keyAt}
+use Rattle.cache.specs.Keys.{keyAt, isReady}
 use Rattle.cache.specs.Lookups.{landsOn, passes, lenAt}
 use Rattle.cache.specs.Direct.{looked}
 use Rattle.cache.specs.Ages.{rowOf, colOf, readyKey, most, aged}
@@ -21,7 +21,7 @@ pub record Sized (c : Cache) : Type 0 where
 
 -- the numbers that no lookup changes are those of the cache
 pub record Taken (c : Cache) (looks : List ℕ) : Type 0 where
-  pub long : length looks ≡ 610
+  pub long : length looks ≡ 611
   pub rows : (i : ℕ) → i < 96 → getD looks (192 + i) 0 ≡ rowOf (readyKey (slotAt (c .pages .slots) i))
   pub cols : (i : ℕ) → i < 96 → getD looks (288 + i) 0 ≡ colOf (readyKey (slotAt (c .pages .slots) i))
   pub lens : (i : ℕ) → i < 96 → getD looks (384 + i) 0 ≡ lenAt c i
@@ -29,10 +29,15 @@ pub record Taken (c : Cache) (looks : List ℕ) : Type 0 where
   pub ringCols : (i : ℕ) → i < 64 → getD looks (544 + i) 0 ≡ colOf (keyAt (c .missing) i)
   pub count : getD looks 609 0 ≡ most (c .pages .count)
 
--- every marked run passes for the key that lands on it
+-- the key lands on the run from page i on, which passes for it
+pub record Checked (c : Cache) (arena : List ℕ) (size : ℕ) (i : ℕ) (key : TileKey) : Type 0 where
+  pub lands : landsOn c key ≡ Landing.At i
+  pub passed : passes arena i (lenAt c i) key size ≡ true
+
+-- on every marked run the key that is ready there lands, and it passes for that key
 abbrev pub Sound : Cache → List ℕ → ℕ → List ℕ → Type 0
 Sound c arena size looks =
-    (i : ℕ) (key : TileKey) → i < 96 → getD looks (96 + i) 0 ≡ 1 → landsOn c key ≡ Landing.At i → passes arena i (lenAt c i) key size ≡ true
+    (i : ℕ) (key : TileKey) → i < 96 → getD looks (96 + i) 0 ≡ 1 → isReady key (slotAt (c .pages .slots) i) ≡ true → Checked c arena size i key
 
 pub record Stands (c : Cache) (arena : List ℕ) (size : ℕ) (looks : List ℕ) (keys : List TileKey) : Type 0 where
   pub sized : Sized c

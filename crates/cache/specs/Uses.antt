@@ -1,5 +1,5 @@
--- What the lookups of one match change, the clock and the ages, beside the cache: this restates private code. A lookup is `Lookups.got`'s, and what it
--- does to the cache is done to these.
+-- The clock and the ages by themselves, which a match moves: this restates private code. A lookup is `Lookups.got`'s, and what it does to the cache is
+-- done to these.
 use Prim.Native.Nat.{ℕ}
 use lib.ListN.{set}
 use Rattle.cache.specs.declared.Aging.{Aging}

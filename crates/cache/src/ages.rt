@@ -14,7 +14,7 @@ ghost use Prim.Native.Nat.{_<_};
 ghost use Rattle.cache.specs.Ages as Ages;
 
 // How many numbers they are; specs/Ages has what stands where.
-pub const LOOKUPS: usize = 610;
+pub const LOOKUPS: usize = 611;
 
 // A number of those, as a place or a length.
 fn wide(n: u32) -> usize
@@ -221,7 +221,7 @@ fn known(
     crate::look::passes(arena, i, len, key, size)
 }
 
-// The run from page `i` on as the most recently used, and checked.
+// The run from page `i` on as the most recently used, checked, and found last.
 fn mark(looks: &mut [u32; LOOKUPS], i: usize)
     requires { ⌜ i < 96 ⌝ }
     ensures { λ r. ⌜ now (looks .exit) ≡ Ages.marked (now (looks .entry)) i ⌝ }
@@ -230,13 +230,48 @@ fn mark(looks: &mut [u32; LOOKUPS], i: usize)
     looks[608] = age;
     looks[i] = age;
     looks[96 + i] = 1;
+    looks[610] = i as u32;
 }
 
-// A lookup: the ring first, then the lowest ready run.
+// Whether the run from page `i` on is the key's, and was found before in this call.
+fn was_found(looks: &[u32; LOOKUPS], i: usize, key: TileKey) -> bool
+    ensures { λ r. ⌜ r ≡ Ages.wasFound (now (looks .entry)) i key ⌝ }
+{
+    if crate::MAX_PAGES <= i {
+        return false;
+    }
+    if looks[96 + i] != 1 {
+        return false;
+    }
+    if looks[192 + i] != (key.row as u32) + 1 {
+        return false;
+    }
+    looks[288 + i] == key.col as u32
+}
+
+// What a lookup that lands on the run from page `i` on answers.
+fn hit(looks: &mut [u32; LOOKUPS], arena: &[u8], size: u32, key: TileKey, i: usize) -> Lookup
+    requires { ⌜ i < 96 ⌝ }
+    ensures { λ r. ⌜ r ≡ Ages.hitHere (now (looks .entry)) (now (arena .entry)) size key i .answer ⌝ }
+    ensures { λ r. ⌜ now (looks .exit) ≡ Ages.hitHere (now (looks .entry)) (now (arena .entry)) size key i .looks ⌝ }
+{
+    let len = wide(looks[384 + i]);
+    if known(&*looks, arena, i, len, key, size) {
+        mark(looks, i);
+        return Lookup::Ready(i, len);
+    }
+    Lookup::Refused(12)
+}
+
+// A lookup: the run that was found last, if it is the key's, which it is at nearly every one of a road's; else the ring first, then the lowest ready run.
 pub fn look_up(looks: &mut [u32; LOOKUPS], arena: &[u8], size: u32, key: TileKey) -> Lookup
     ensures { λ r. ⌜ r ≡ Ages.lookUp (now (looks .entry)) (now (arena .entry)) size key .answer ⌝ }
     ensures { λ r. ⌜ now (looks .exit) ≡ Ages.lookUp (now (looks .entry)) (now (arena .entry)) size key .looks ⌝ }
 {
+    let last = wide(looks[610]);
+    if was_found(&*looks, last, key) {
+        return hit(looks, arena, size, key, last);
+    }
     if in_ring(&*looks, key) {
         return Lookup::Missing;
     }
@@ -244,12 +279,7 @@ pub fn look_up(looks: &mut [u32; LOOKUPS], arena: &[u8], size: u32, key: TileKey
     if crate::MAX_PAGES <= i {
         return Lookup::Absent;
     }
-    let len = wide(looks[384 + i]);
-    if known(&*looks, arena, i, len, key, size) {
-        mark(looks, i);
-        return Lookup::Ready(i, len);
-    }
-    Lookup::Refused(12)
+    hit(looks, arena, size, key, i)
 }
 
 // The bytes of a run that a lookup answered; none where it lies outside the arena.

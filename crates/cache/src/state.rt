@@ -195,7 +195,7 @@ pub(crate) fn lent_ok(c: Cache, size: usize) -> bool
 }
 
 // Whether an open entry is of a key in the header's grid.
-fn entry_in(pending: Pending, header: Header) -> bool
+pub fn entry_in(pending: Pending, header: Header) -> bool
     ensures { λ r. ⌜ r ≡ State.entryIn pending header ⌝ }
 {
     match pending {

@@ -1,4 +1,4 @@
-// What the lookups of one match change, the clock and the ages, beside the cache that they look into: so no lookup hands the state back.
+// The clock and the ages by themselves, which a match moves once it is made: no lookup of it changes the state.
 use crate::Aging;
 use crate::Cache;
 ghost use mathlib.Core.Path.{_≡_};

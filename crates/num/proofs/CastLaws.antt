@@ -1,4 +1,5 @@
 -- Laws of the casts, those of a float for any width. A float past an end of the range is cast to that end (`signed-above`, `signed-below`, `unsigned-above`, `unsigned-below`), and one that no test places is cast to 0 (`signed-none`).
+-- So a clamp to the range before the cast changes nothing (`signed-clamped`).
 -- A cast to fewer bits is the cast to more, held to the smaller range (`signed-held`, `unsigned-held`; of an i64 that the code read, `signed-narrowed`, `unsigned-narrowed`).
 -- Then whole numbers by their sign (`as-pos`, `as-neg`), the complement -1 - z (`flip-neg`, `flip-pos`), and the size of `lowBits`.
 use Prim.Native.Nat.{ℕ, zero, suc, _+_, _-_, _*_, _/_, _^_, _<_, _≤_, min}
@@ -18,6 +19,7 @@ use mir.Syntax.{w64}
 use mir.Val.{ofZ, toZ}
 use borrow.Author.Tests.{ltb-true, ltb-false, leb-false, le-ltb}
 use Rattle.num.specs.Cast.{lowBits}
+use Rattle.num.specs.Order.{clamp}
 
 -- ---- a float past an end of the range
 
@@ -25,9 +27,12 @@ or-left : (a b : Bool) → (a || b) ≡ false → a ≡ false
 or-left true b e = e
 or-left false b e = refl
 
+past : (n m : ℕ) (e : ℤ) → n * down e ≤ m * up e → n ≤ m * up e / down e
+past n m e h = le-div-iff-mul-le (down-pos e) .1 h
+
 -- ±m * 2 ^ e is not nearer to 0 than 2 ^ h
 reaches : (h m : ℕ) (e : ℤ) → ltb (m * up e * 1) (1 * 2 ^ h * down e) ≡ false → 2 ^ h ≤ m * up e / down e
-reaches h m e q = le-div-iff-mul-le (down-pos e) .1 (omega (arith, ltb-false (m * up e * 1) (1 * 2 ^ h * down e) q))
+reaches h m e q = past (2 ^ h) m e (omega (arith, ltb-false (m * up e * 1) (1 * 2 ^ h * down e) q))
 
 minus-is : (n : ℕ) → 0 < n → negsuc (n - 1) ≡ negℤ (pos n)
 minus-is zero h = absurd (omega arith)
@@ -72,6 +77,44 @@ unsigned-below w (inf true) p = refl
 unsigned-below w (inf false) p = absurd (true≢false p)
 unsigned-below w (fin true m e) p = refl
 unsigned-below w (fin false m e) p = absurd (omega (arith, ltb-false 0 (1 * 1 * down e + m * up e * 1) p, down-pos e))
+
+-- ---- a float held to the range before the cast, which holds it by itself
+
+module _ (h : ℕ) where
+  -- the ends of the range
+  abbrev least : Float
+  least = fin true 1 (pos h)
+
+  abbrev most : Float
+  most = fin false (2 ^ h - 1) (pos 0)
+
+  under : (x : Float) → lt x least ≡ true → toSigned h least ≡ toSigned h x
+  unfolding lt toSigned
+  under nan l = absurd (true≢false (sym l))
+  under (inf true) l = ap (λ n. negℤ (pos n)) {x = min (1 * 2 ^ h / 1) (2 ^ h)} {y = 2 ^ h} (omega arith)
+  under (inf false) l = absurd (true≢false (sym l))
+  under (fin true m e) l =
+      let far : 2 ^ h ≤ m * up e / down e = past (2 ^ h) m e (omega (arith, ltb-true (1 * 2 ^ h * down e) (m * up e * 1) l)) in
+      ap (λ n. negℤ (pos n)) {x = min (1 * 2 ^ h / 1) (2 ^ h)} {y = min (m * up e / down e) (2 ^ h)} (omega arith)
+  under (fin false m e) l = absurd (true≢false (sym l))
+
+  over : (x : Float) → lt most x ≡ true → toSigned h most ≡ toSigned h x
+  unfolding lt toSigned
+  over nan l = absurd (true≢false (sym l))
+  over (inf true) l = absurd (true≢false (sym l))
+  over (inf false) l = ap pos {x = min ((2 ^ h - 1) * 1 / 1) (2 ^ h - 1)} {y = 2 ^ h - 1} (omega arith)
+  over (fin true m e) l = absurd (true≢false (sym l))
+  over (fin false m e) l =
+      let far : 2 ^ h - 1 ≤ m * up e / down e = past (2 ^ h - 1) m e (omega (arith, ltb-true ((2 ^ h - 1) * 1 * down e) (m * up e * 1) l)) in
+      ap pos {x = min ((2 ^ h - 1) * 1 / 1) (2 ^ h - 1)} {y = min (m * up e / down e) (2 ^ h - 1)} (omega arith)
+
+  pub signed-clamped : (x : Float) → toSigned h (clamp x least most) ≡ toSigned h x
+  signed-clamped x = go (lt x least) (lt most x) refl refl
+    where
+      go : (low high : Bool) → lt x least ≡ low → lt most x ≡ high → toSigned h (cond low least (cond high most x)) ≡ toSigned h x
+      go true high l g = under x l
+      go false true l g = over x g
+      go false false l g = refl
 
 -- ---- a cast to fewer bits
 

@@ -7,6 +7,8 @@ pub mod Narrow
 -- not-a-number, signs and finiteness by the bits; casts held to a range
 pub mod OrderLaws
 pub mod CastLaws
+-- the whole part of a single float by its bits
+pub mod WholeLaws
 -- the whole root, the rounding of a float's root, and that it is to nearest, in squares
 pub mod RootLaws
 pub mod RootRounded

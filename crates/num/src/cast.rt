@@ -1,12 +1,47 @@
 // Rust's casts from floats to whole numbers, which cut toward zero, hold to the range and make 0 of not-a-number, and the casts that keep low bits.
 ghost use mathlib.Core.Path.{_≡_};
-ghost use lib.Ieee.{toSigned, toUnsigned};
+ghost use Prim.Native.Nat.{min};
+ghost use lib.Dec.{T};
+ghost use lib.IntN.{pos};
+ghost use lib.Ieee.{fin, lt, toSigned, toUnsigned};
+ghost use mathlib.Core.Bool.{true, false};
 ghost use Rattle.num.specs.Cast.{bits32, lowBits, low16};
+
+// By how many digits a float is shifted, 31 at most: from 24 on nothing of its 24 digits is left.
+fn cut(n: u32) -> u32
+    ensures { λ r. ⌜ r ≡ min n 31 ⌝ }
+{
+    if n < 31 {
+        return n;
+    }
+    31
+}
+
+// The whole part of a float between -2^24 and 2^24, which is its digits times 2^(exponent - 150). Each choice is between two numbers, which the compiler
+// makes without a jump: the floats of a match go either way.
+fn whole_part(x: f32) -> i32
+    requires { ⌜ T (lt (fin true 1 (pos 24)) x) ⌝ ∗ ⌜ T (lt x (fin false 1 (pos 24))) ⌝ }
+    ensures { λ r. ⌜ r ≡ toSigned 31 x ⌝ }
+{
+    let bits = f32::to_bits(x);
+    let size = bits % 2147483648;
+    let digits = size % 8388608 + 8388608;
+    let n = digits >> cut(150 - size / 8388608);
+    if bits < 2147483648 {
+        return n as i32;
+    }
+    0 - (n as i32)
+}
 
 // Rust's `x as i64`. The others hold its answer to their own range as whole numbers.
 pub fn i64_of_f32(x: f32) -> i64
     ensures { λ r. ⌜ r ≡ toSigned 63 x ⌝ }
 {
+    if x > -16777216.0 {
+        if x < 16777216.0 {
+            return whole_part(x) as i64;
+        }
+    }
     if x >= -9223372036854775808.0 {
         if x < 9223372036854775808.0 {
             return std::num::truncating_f32_to_i64(x);

@@ -175,7 +175,7 @@ module _ (arena : List ℕ) (trip : Trip) (budget : ℕ) where
           step-over m ends over = step-driven ∙ drive-by true over ∙ rw ends
 
           pub step-on : (x : Stride (List ℕ))
-              → x ≡ crossed (e .looks) (e .visited) arena (trip .header) (e .entered .walk) (b .track) bs leg
+              → x ≡ crossed (e .looks) (e .visited) arena (leg .header) (e .entered .walk) (b .track) bs leg
               → b .track .over ≡ false
               → edgeStep rd trip budget (runOf o k looks hs)
               ≡ runOf (record { walk = x .walk; visited = e .visited; met = e .met }) (b .track) (x .carried) (b .heights)

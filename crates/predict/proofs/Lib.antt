@@ -1,6 +1,6 @@
 -- Laws of the samples, for their proofs.
 -- SampleLiterals: the figures that the code writes as literals. Signed: a difference of two i32 fits 64 bits. SampleTurns: the turns of `sloped` and
--- `level`, and that `pushed` writes what they do. Lent: what the walks of `push` and `push_on` share.
+-- `level`, that `pushed` writes what they do, and that the cast holds a height to 16 bits by itself. Lent: what the walks of `push` and `push_on` share.
 mod Lent
 pub mod SampleLiterals
 pub mod Signed
@@ -22,11 +22,13 @@ pub mod BackLaws
 pub mod CrossLaws
 pub mod ForkLaws
 -- Laws of a walk, for its proofs and for callers to cite. Arms: what an arm of several variants knows. FollowLaws: the turns of `follow`.
--- Looks: the lookups by the numbers. WalkLaws: its edges one by one, by two readers, and by two looks that agree.
+-- Looks: the lookups by the numbers. WalkLaws: its edges one by one, by two readers, and by two looks that agree. VisitLaws: the edges followed
+-- last, by the places taken as by all.
 pub mod Arms
 pub mod FollowLaws
 pub mod Looks
 pub mod WalkLaws
+pub mod VisitLaws
 -- Laws of the road ahead, for its proofs and for callers to cite. RoadLaws: by two readers, and by two looks that agree.
 -- InCache: what the code answers. Literals: the figure that the code writes. Exact: what is held to 32 bits is never reached.
 pub mod RoadLaws

@@ -10,7 +10,7 @@ use lib.ListN.{getD}
 use Rattle.pack.specs.declared.TileKey.{TileKey}
 use Rattle.cache.specs.declared.Lookup.{Lookup}
 use Rattle.cache.specs.declared.Lookup.the-variants as Lookup
-use Rattle.cache.specs.Ages.{inRing, pageOf, known, hitRun, hitPage, lookUp}
+use Rattle.cache.specs.Ages.{inRing, pageOf, known, Hit, hitRun, hitPage, wasFound, lookUp}
 use Rattle.cache.specs.Reader.{Reader, inBytes, inLooks}
 use Rattle.predict.specs.declared.Ending.{Ending}
 use Rattle.predict.specs.declared.Ending.the-variants as Ending
@@ -40,9 +40,19 @@ module _ (looks arena : List ℕ) (size : ℕ) (key : TileKey) where
   ring-missed true i e = refl
   ring-missed false i e = page-missed (leb 96 i) i (known looks arena i (getD looks (384 + i) 0) key size) e
 
+  abbrev searched : Hit
+  searched = cond (inRing looks key) (record { answer = Lookup.Missing; looks = looks }) (hitPage looks arena size key (pageOf looks key))
+
+  last-missed : (last ok : Bool) (i : ℕ) → isReady (cond last (hitRun ok looks i) searched .answer) ≡ false
+      → cond last (hitRun ok looks i) searched .looks ≡ looks
+  last-missed true ok i e = run-missed ok i e
+  last-missed false ok i e = ring-missed (inRing looks key) (pageOf looks key) e
+
   pub missed : isReady (lookUp looks arena size key .answer) ≡ false → lookUp looks arena size key .looks ≡ looks
   unfolding lookUp
-  missed e = ring-missed (inRing looks key) (pageOf looks key) e
+  missed e =
+      let last : ℕ = getD looks 610 0 in
+      last-missed (wasFound looks last key) (known looks arena last (getD looks (384 + last) 0) key size) last e
 
   pub look-carried : carriedBy (inLooks arena size .at looks key) (inLooks arena size) looks key ≡ lookUp looks arena size key .looks
   look-carried = by (lookUp looks arena size key .answer) refl

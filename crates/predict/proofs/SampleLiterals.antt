@@ -10,11 +10,3 @@ literal-0 = refl
 pub literal-20 : ofBits binary32 1101004800 ≡ whole 20
 unfolding ofBits ofInt
 literal-20 = refl
-
-pub literal-32767 : ofBits binary32 1191181824 ≡ whole 32767
-unfolding ofBits ofInt
-literal-32767 = refl
-
-pub literal-32768 : ofBits binary32 1191182336 ≡ whole 32768
-unfolding ofBits ofInt
-literal-32768 = refl

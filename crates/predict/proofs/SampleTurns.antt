@@ -1,16 +1,22 @@
 -- The samples one by one, on the definitions. The turns of `sloped` and `level`: out of room, past the distance, and one sample more, each one step
 -- of the recursion. And that `pushed` writes what they do (`push-slope`, `push-level`): its heights lie on a straight line, or are all one, by
--- whether the road point lies beyond the last one. Assumes nothing.
+-- whether the road point lies beyond the last one. Before these, that the cast holds a height by itself (`held-is`). Assumes nothing.
 use Prim.Native.Nat.{ℕ, zero, suc, _+_}
 use mathlib.Core.Path.{_≡_, refl}
 use mathlib.Core.Bool.{Bool, true, false, cond}
 use mathlib.Core.List.{List}
 use native.Mathlib.Omega.{arith}
 use lib.IntN.{ℤ, _-ℤ_}
-use lib.Ieee.{Float, binary32, ofInt, sub, lt}
+use lib.Ieee.{Float, binary32, ofInt, toSigned, sub, neg, lt}
 use lib.ListN.{set}
+use Rattle.num.proofs.CastLaws.{signed-clamped}
 use Rattle.predict.specs.declared.Mark.{Mark}
 use Rattle.predict.specs.Samples.{whole, sampleAt, heightAt, Pushed, stopped, pushFrom, Filled, filled, held, slope}
+
+-- the ends that a height is clamped to are those of 16 bits
+pub held-is : (value : Float) → held value ≡ toSigned 15 value
+unfolding ofInt neg
+held-is value = signed-clamped 15 value
 
 -- one height at every distance
 abbrev pub always : ℤ → Float → ℤ

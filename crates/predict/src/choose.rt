@@ -6,20 +6,6 @@ use pack::TileKey;
 ghost use mathlib.Core.Path.{_≡_};
 ghost use Rattle.predict.specs.Choose as Choose;
 
-// A choice behind those so far; past the twelfth it is dropped.
-pub(crate) fn push(c: Choices, choice: Choice) -> Choices
-    ensures { λ r. ⌜ r ≡ Choose.push c choice ⌝ }
-{
-    if 12 <= c.len {
-        return c;
-    }
-    let mut d = c;
-    let at = d.len;
-    d.v[at] = choice;
-    d.len = at + 1;
-    d
-}
-
 fn no_choice() -> Choice
     ensures { λ r. ⌜ r ≡ Choose.noChoice ⌝ }
 {

@@ -62,25 +62,8 @@ fn is_way_on(
     !crate::visits::was_visited(visited, key, entry.edge)
 }
 
-// One edge at the node.
-fn consider_step(
-    c: Choices,
-    a: Arrival,
-    visited: &[u32; crate::VISITED],
-    bytes: &[u8],
-    key: TileKey,
-    entry: Incident,
-) -> Choices
-    ensures { λ r. ⌜ r ≡ Consider.considerStep c a (now (visited .entry)) (now (bytes .entry)) key entry ⌝ }
-{
-    if is_way_on(a, visited, bytes, key, entry) {
-        let choice = choice_of(a, bytes, key, entry);
-        return crate::choose::push(c, choice);
-    }
-    c
-}
-
-// The edges at a node of a tile, in order.
+// The edges at a node of a tile, in order. A choice is written into its place, so that the choices are not copied from edge to edge; past the twelfth
+// none is.
 pub(crate) fn consider(
     c: Choices,
     a: Arrival,
@@ -96,8 +79,17 @@ pub(crate) fn consider(
     let mut i = tile::raw::adjacency_start(bytes, node as u32) as u32;
     while i < end {
         let entry = tile::raw::entry(bytes, i);
-        d = consider_step(d, a, visited, bytes, key, entry);
         i += 1;
+        if 12 <= d.len {
+            continue;
+        }
+        if !is_way_on(a, visited, bytes, key, entry) {
+            continue;
+        }
+        let choice = choice_of(a, bytes, key, entry);
+        let at = d.len;
+        d.v[at] = choice;
+        d.len = at + 1;
     }
     d
 }

@@ -115,7 +115,6 @@ fn edges(
             w,
             t,
             arena,
-            header,
             looks,
             &*visited,
             bytes,
@@ -127,6 +126,22 @@ fn edges(
         n += 1;
     }
     Walked { walk: w, course: t }
+}
+
+// A track without the arrays of its history.
+fn course_of(first: Track) -> Course
+    ensures { λ r. ⌜ r ≡ Vertex.courseOf first ⌝ }
+{
+    let h = first.history;
+    let here = first.here;
+    let mark = first.mark;
+    Course {
+        here,
+        distance: first.distance,
+        mark,
+        len: h.len,
+        over: first.over,
+    }
 }
 
 // The road ahead: the arrays of its history are taken out, lent from point to point, and put back at its end.
@@ -151,15 +166,7 @@ pub(crate) fn follow(
     let mut lats = h.lats;
     let mut lons = h.lons;
     let mut distances = h.distances;
-    let here = first.here;
-    let mark = first.mark;
-    let course = Course {
-        here,
-        distance: first.distance,
-        mark,
-        len: h.len,
-        over: first.over,
-    };
+    let course = course_of(first);
     let walked = edges(
         start,
         course,

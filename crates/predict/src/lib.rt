@@ -120,7 +120,7 @@ pub enum Ending {
 }
 
 // The numbers that the edges followed last take (`visits`).
-pub(crate) const VISITED: usize = 385;
+pub(crate) const VISITED: usize = 386;
 
 // The numbers that the tiles met take (`meets`).
 pub(crate) const MET: usize = 194;

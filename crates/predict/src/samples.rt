@@ -13,11 +13,11 @@ pub(crate) fn sample_at(i: usize) -> f32
     num::convert::f32_of_usize(i) * 20.0
 }
 
-// A height held to 16 bits.
+// A height held to 16 bits, which the cast does by itself (`held-is`).
 fn held(value: f32) -> i16
     ensures { λ r. ⌜ r ≡ Samples.held value ⌝ }
 {
-    num::cast::i16_of_f32(num::order::clamp(value, -32768.0, 32767.0))
+    num::cast::i16_of_f32(value)
 }
 
 // The samples on the straight line from one road point to the next, `span` metres on.

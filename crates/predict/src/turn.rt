@@ -10,7 +10,6 @@ use crate::cost::Road;
 use crate::outgoing::Leg;
 use cache::Lookup;
 use matcher::Heading;
-use pack::Header;
 use tile::Edge;
 ghost use mathlib.Core.Path.{_≡_};
 ghost use Rattle.predict.specs.Vertex as Vertex;
@@ -199,7 +198,6 @@ pub(crate) fn crossed(
     w: Walk,
     t: Course,
     arena: &[u8],
-    header: Header,
     looks: &mut [u32; cache::ages::LOOKUPS],
     visited: &[u32; crate::VISITED],
     bytes: &[u8],
@@ -208,8 +206,8 @@ pub(crate) fn crossed(
     lons: &[i32; 16],
     distances: &[f32; 16],
 ) -> Walk
-    ensures { λ r. ⌜ r ≡ Walks.crossed (now (looks .entry)) (now (visited .entry)) (now (arena .entry)) header w (Vertex.trackOf t (now (lats .entry)) (now (lons .entry)) (now (distances .entry))) (now (bytes .entry)) leg .walk ⌝ }
-    ensures { λ r. ⌜ now (looks .exit) ≡ Walks.crossed (now (looks .entry)) (now (visited .entry)) (now (arena .entry)) header w (Vertex.trackOf t (now (lats .entry)) (now (lons .entry)) (now (distances .entry))) (now (bytes .entry)) leg .carried ⌝ }
+    ensures { λ r. ⌜ r ≡ Walks.crossed (now (looks .entry)) (now (visited .entry)) (now (arena .entry)) (leg .header) w (Vertex.trackOf t (now (lats .entry)) (now (lons .entry)) (now (distances .entry))) (now (bytes .entry)) leg .walk ⌝ }
+    ensures { λ r. ⌜ now (looks .exit) ≡ Walks.crossed (now (looks .entry)) (now (visited .entry)) (now (arena .entry)) (leg .header) w (Vertex.trackOf t (now (lats .entry)) (now (lons .entry)) (now (distances .entry))) (now (bytes .entry)) leg .carried ⌝ }
 {
     let head = tile::read::head(bytes);
     let incoming = incoming_of(t, w.approach, head.lon_um, lats, lons, distances);
@@ -218,6 +216,7 @@ pub(crate) fn crossed(
     let road = d.road;
     let entry = d.entry;
     let bound = bound_of(entry, incoming);
+    let header = leg.header;
     let arrival = Arrival {
         header,
         way,

@@ -28,6 +28,12 @@ mul-looks-2 c = search needs
 element-write-looks-3 : tie.Need-element-write-looks-3
 element-write-looks-3 c = search needs
 
+cast-looks : tie.Need-cast-looks
+cast-looks c = search needs
+
+element-write-looks-4 : tie.Need-element-write-looks-4
+element-write-looks-4 c = search needs
+
 returns : tie.Need-returns
 unfolding marked
 returns c = rw (c .wrapping-add-u32 .ensures)
@@ -44,4 +50,6 @@ mark-spec =
     add-looks
     mul-looks-2
     element-write-looks-3
+    cast-looks
+    element-write-looks-4
     returns)

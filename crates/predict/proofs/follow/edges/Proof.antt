@@ -285,12 +285,12 @@ edges-again c =
       (
         points .inv .1 .1 .0 ∙ edges .inv .1 .0,
         walk-on (arena q) (trip q) (budget q) (start q) (runOf (behind q) (track q) (looks q) (heights q))
-            (runOf (onto (crossed .result) (entered q .visited) (entered q .met)) (b .track) (crossed .last .1 .1 .1 .1 .0) (points .heights))
+            (runOf (onto (crossed .result) (entered q .visited) (entered q .met)) (b .track) (crossed .last .1 .1 .1 .0) (points .heights))
             (edges .n) (edges .inv .1 .1)
             (step-on (arena q) (trip q) (budget q) (behind q) (track q) (looks q) (heights q) (entered q) (came q) (goes p)
             (bytes p) (c .before .before .before .before .before .before .before .before .before .before .before .before .before .before .run-bytes .ensures) (c .before .before .before .before .before .before .before .before .before .before .before .before .before .head .result) (c .before .before .before .before .before .before .before .before .before .before .before .before .before .head .ensures) (leg p) (p .leg-of .ensures)
             b (sym (points .inv .1 .1 .1 .1 .1 ∙ ap (along p) all))
-            (record { walk = crossed .result; carried = crossed .last .1 .1 .1 .1 .0 })
+            (record { walk = crossed .result; carried = crossed .last .1 .1 .1 .0 })
             (rw (points .inv .1 .1 .1 .0) at (crossed-is (crossed .ensures .0) (crossed .ensures .1))) (points .inv .1 .1 .1 .1 .0)),
       ),
     )

@@ -85,11 +85,11 @@ returns c =
     let twinned = junction .before .before in
     let noded = twinned .before .before in
     let chosen = noded .before in
-    let bound = chosen .before .before .before in
+    let bound = chosen .before .before .before .before in
     let turn = bound .before .before .before in
     let args = turn .before .before .before .before .before .args in
     let whole =
-    crossed-is (now (args .looks)) (now (args .visited)) (now (args .arena)) (args .header) (args .w)
+    crossed-is (now (args .looks)) (now (args .visited)) (now (args .arena)) (args .leg .header) (args .w)
     (trackOf (args .t) (now (args .lats)) (now (args .lons)) (now (args .distances))) (now (args .bytes)) (args .leg)
     (turn .before .before .head .ensures)
     (turn .before .incoming-of .ensures)

@@ -1,7 +1,8 @@
--- `predict::visits::visit` meets its contract: the place is cut to the array, so that every store lies in it.
-use mathlib.Core.Path.{refl}
+-- `predict::visits::visit` meets its contract: the place is cut to the array, so that every store lies in it, and none but the last changes how many
+-- places are taken (`visit-stores`).
+use denote.Ref.{now}
 use borrow.Author.Needs.{needs}
-use Rattle.predict.specs.Visits.{visit}
+use Rattle.predict.proofs.VisitLaws.{visit-stores}
 use Rattle.predict.proofs.visits.visit.Statement.{statement}
 use Rattle.predict.proofs.visits.visit.Tie as tie
 
@@ -53,9 +54,25 @@ cast-visited-3 c = search needs
 element-write-visited-4 : tie.Need-element-write-visited-4
 element-write-visited-4 c = search needs
 
+element-copy-out-larger : tie.Need-element-copy-out-larger
+element-copy-out-larger c = search needs
+
+cast-larger : tie.Need-cast-larger
+cast-larger c = search needs
+
+add-larger : tie.Need-add-larger
+add-larger c = search needs
+
+larger-requires : tie.Need-larger-requires
+larger-requires c κs = tt
+
+element-write-visited-5 : tie.Need-element-write-visited-5
+element-write-visited-5 c = search needs
+
 returns : tie.Need-returns
-unfolding visit
-returns c = refl
+returns c =
+    let args = c .before .before .before .before .before .args in
+    rw (c .larger .ensures) (visit-stores (now (args .visited)) (args .key) (args .edge))
 
 pub visit-spec : {M : Type 1} → statement M
 visit-spec =
@@ -77,4 +94,9 @@ visit-spec =
     add-visited-4
     cast-visited-3
     element-write-visited-4
+    element-copy-out-larger
+    cast-larger
+    add-larger
+    larger-requires
+    element-write-visited-5
     returns)
