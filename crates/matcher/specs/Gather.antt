@@ -1,7 +1,7 @@
 -- A match over a lookup: `matcher.rs`, `update`. The tiles around the fix are looked up in order; each that is found is searched; one that is
 -- not loaded ends the match with its key, and one that no longer passes with 12. `updateOver` knows no cache: the direct engine shares it.
 -- `updated` is it at the cache's look, with what the lookups did to clock and ages.
-use Prim.Native.Nat.{ℕ}
+use Prim.Native.Nat.{ℕ, _+_}
 use mathlib.Core.Bool.{Bool, cond}
 use mathlib.Core.List.{List, [], _∷_, _++_}
 use lib.ListN.{getD}
@@ -33,6 +33,7 @@ use Rattle.matcher.specs.declared.Matcher.{Matcher}
 use Rattle.matcher.specs.declared.NearKeys.{NearKeys}
 use Rattle.matcher.specs.declared.Outcome.{Outcome}
 use Rattle.matcher.specs.declared.Outcome.the-variants as Outcome
+use Rattle.matcher.specs.declared.Searched.{Searched}
 use Rattle.matcher.specs.declared.Updated.{Updated}
 use Rattle.matcher.specs.declared.gather.Ending.{Ending}
 use Rattle.matcher.specs.declared.gather.Ending.the-variants as Ending
@@ -108,47 +109,14 @@ updated m c arena h fix heading =
     let u = updateOver at m h fix heading in
     record { answer = u .answer; matcher = u .matcher; cache = cacheAfter (r .end) c (looked c arena (h .tile) (r .found)) }
 
--- ---- the code's steps: this restates private code. Clock and ages are carried beside the cache, which every lookup looks into as it was given
+-- ---- the code's steps: this restates private code. A match is made from what the lookups of the tiles around the fix land on, which a caller that
+-- keeps the cache in a form of its own has found; what it does to clock and ages follows from how many of them it went through
 
--- the candidates so far, clock and ages as the lookups left them, and how they ended
+-- the candidates so far, how many tiles were gone through, and how the lookups ended
 pub record Gathered : Type 0 where
   pub kept : Kept
-  pub uses : Aging
+  pub tiles : ℕ
   pub end : Ending
-
--- what was gathered: clock and ages as the lookups of the keys found left them
-abbrev pub gatheredOf : Cache → List ℕ → ℕ → Run → Gathered
-gatheredOf c arena size r = record { kept = r .kept; uses = usesOf (looked c arena size (r .found)); end = r .end }
-
-unfoldable pub gathered : Cache → List ℕ → Query → NearKeys → Gathered
-gathered c arena q near = gatheredOf c arena (q .header .tile) (runTo (look c arena (q .header .tile)) near q 4)
-
-abbrev pub gatheredWith : Gathered → Lookup → List ℕ → Query → TileKey → Gathered
-gatheredWith g (Lookup.Ready first len) arena q key =
-    record { kept = search (g .kept) q (bytesOf arena first len); uses = usedAt (g .uses) first; end = Ending.All }
-gatheredWith g Lookup.Missing arena q key = g
-gatheredWith g Lookup.Absent arena q key = record { kept = g .kept; uses = g .uses; end = Ending.Need key }
-gatheredWith g (Lookup.Refused number) arena q key = record { kept = g .kept; uses = g .uses; end = Ending.Stale }
-
--- what was gathered while no lookup ended the match
-abbrev pub soFar : Kept → Aging → Gathered
-soFar kept uses = record { kept = kept; uses = uses; end = Ending.All }
-
-unfoldable pub finished : Matcher → Kept → Aging → Heading → Made
-finished m kept uses heading =
-    let next = matched m kept heading in record { answer = outcome (next .current); matcher = next; uses = uses }
-
--- `from` has clock and ages before the first lookup
-abbrev pub endedBy : Ending → Matcher → Aging → Heading → Gathered → Made
-endedBy Ending.All m from heading g = finished m (g .kept) (g .uses) heading
-endedBy (Ending.Need key) m from heading g = record { answer = Outcome.Need key; matcher = m; uses = g .uses }
-endedBy Ending.Stale m from heading g = record { answer = Outcome.Refused 12; matcher = m; uses = from }
-
--- what a match makes of what was gathered
-abbrev pub ended : Matcher → Aging → Heading → Gathered → Made
-ended m from heading g = endedBy (g .end) m from heading g
-
--- ---- from what the lookups land on, which a caller that keeps the cache in a form of its own has found
 
 abbrev pub land : MaybeKey → Cache → Landed
 land MaybeKey.Nothing c = record { lookup = Lookup.Missing }
@@ -161,8 +129,18 @@ landings c near = record { v = land (keyAt near 0) c ∷ land (keyAt near 1) c �
 abbrev pub landedAt : Landings → ℕ → Lookup
 landedAt at i = getD (at .v) i (record { lookup = Lookup.Ready 0 0 }) .lookup
 
+-- what was gathered while no lookup ended the match
+abbrev pub soFar : Kept → ℕ → Gathered
+soFar kept tiles = record { kept = kept; tiles = tiles; end = Ending.All }
+
+abbrev pub gatheredWith : Gathered → Lookup → List ℕ → Query → TileKey → Gathered
+gatheredWith g (Lookup.Ready first len) arena q key = soFar (search (g .kept) q (bytesOf arena first len)) (g .tiles + 1)
+gatheredWith g Lookup.Missing arena q key = soFar (g .kept) (g .tiles + 1)
+gatheredWith g Lookup.Absent arena q key = record { kept = g .kept; tiles = g .tiles; end = Ending.Need key }
+gatheredWith g (Lookup.Refused number) arena q key = record { kept = g .kept; tiles = g .tiles; end = Ending.Stale }
+
 abbrev pub gatherKey : MaybeKey → Lookup → Gathered → List ℕ → Query → Gathered
-gatherKey MaybeKey.Nothing l g arena q = g
+gatherKey MaybeKey.Nothing l g arena q = soFar (g .kept) (g .tiles + 1)
 gatherKey (MaybeKey.Key key) l g arena q = gatheredWith g (checked l arena (q .header .tile) key) arena q key
 
 -- nothing more once they ended
@@ -172,13 +150,42 @@ gatherStep (Ending.Need key) k l g arena q = g
 gatherStep Ending.Stale k l g arena q = g
 
 -- the first n tiles around the fix
-unfoldable pub gatheredTo : Landings → Aging → List ℕ → Query → NearKeys → ℕ → Gathered
-gatheredTo at from arena q near n =
-    upTo (λ (g : Gathered) (i : ℕ). gatherStep (g .end) (keyAt near i) (landedAt at i) g arena q) (soFar noneKept from) n
+unfoldable pub gatheredTo : Landings → List ℕ → Query → NearKeys → ℕ → Gathered
+gatheredTo at arena q near n =
+    upTo (λ (g : Gathered) (i : ℕ). gatherStep (g .end) (keyAt near i) (landedAt at i) g arena q) (soFar noneKept 0) n
 
-unfoldable pub madeAt : Matcher → Landings → Aging → List ℕ → Header → Point → Heading → NearKeys → Made
-madeAt m at from arena h fix heading near = ended m from heading (gatheredTo at from arena (queryOf m h fix heading) near 4)
+unfoldable pub finished : Matcher → Kept → Heading → Searched
+finished m kept heading = let next = matched m kept heading in record { answer = outcome (next .current); matcher = next; tiles = 4 }
+
+-- of the tiles gone through those that were found are used: all four; those before the one that is not loaded; none on the late 12
+abbrev pub endedBy : Ending → Matcher → Heading → Gathered → Searched
+endedBy Ending.All m heading g = finished m (g .kept) heading
+endedBy (Ending.Need key) m heading g = record { answer = Outcome.Need key; matcher = m; tiles = g .tiles }
+endedBy Ending.Stale m heading g = record { answer = Outcome.Refused 12; matcher = m; tiles = 0 }
+
+-- what a match makes of what was gathered
+abbrev pub ended : Matcher → Heading → Gathered → Searched
+ended m heading g = endedBy (g .end) m heading g
+
+unfoldable pub searched : Matcher → Landings → List ℕ → Header → Point → Heading → NearKeys → Searched
+searched m at arena h fix heading near = ended m heading (gatheredTo at arena (queryOf m h fix heading) near 4)
+
+-- ---- clock and ages
+
+-- the run that a lookup landed on is the most recently used
+abbrev pub usedBy : Lookup → Aging → Aging
+usedBy (Lookup.Ready first len) a = usedAt a first
+usedBy Lookup.Missing a = a
+usedBy Lookup.Absent a = a
+usedBy (Lookup.Refused number) a = a
+
+-- once the first n tiles were gone through; `from` has clock and ages before the first
+unfoldable pub usesAfter : Landings → Aging → ℕ → Aging
+usesAfter at from n = upTo (λ (a : Aging) (i : ℕ). usedBy (landedAt at i) a) from n
 
 -- a match with clock and ages in place of the cache
 abbrev pub madeOf : Updated → Made
 madeOf u = record { answer = u .answer; matcher = u .matcher; uses = usesOf (u .cache) }
+
+abbrev pub madeBy : Landings → Aging → Searched → Made
+madeBy at from s = record { answer = s .answer; matcher = s .matcher; uses = usesAfter at from (s .tiles) }

@@ -10,6 +10,7 @@ use crate::NearKey;
 use crate::NearKeys;
 use crate::Outcome;
 use crate::Query;
+use crate::Searched;
 use crate::Updated;
 use cache::Aging;
 use cache::Cache;
@@ -42,15 +43,15 @@ fn outcome(current: Current) -> Outcome
 }
 
 // Every tile was found or missing: the match is made.
-fn finished(m: Matcher, kept: Kept, uses: Aging, heading: Heading) -> Made
-    ensures { λ r. ⌜ r ≡ Gather.finished m kept uses heading ⌝ }
+fn finished(m: Matcher, kept: Kept, heading: Heading) -> Searched
+    ensures { λ r. ⌜ r ≡ Gather.finished m kept heading ⌝ }
 {
     let next = crate::settle::matched(m, kept, heading);
     let current = next.current;
-    Made {
+    Searched {
         answer: outcome(current),
         matcher: next,
-        uses,
+        tiles: 4,
     }
 }
 
@@ -81,21 +82,20 @@ fn landings(c: Cache, near: NearKeys) -> Landings
     Landings { v }
 }
 
-// The match over the tiles around a fix, from what their lookups land on. Candidates and ages go from tile to tile by themselves, so that no step
-// copies all that was gathered; a tile that is not loaded ends the match with its key, a run that no longer passes with 12 and clock and ages as
-// they were.
-fn gather(m: Matcher, at: Landings, from: Aging, arena: &[u8], q: Query, near: NearKeys) -> Made
-    ensures { λ r. ⌜ r ≡ Gather.ended m from (q .heading) (Gather.gatheredTo at from (now (arena .entry)) q near 4) ⌝ }
+// The match over the tiles around a fix, from what their lookups land on. A tile that is not loaded ends the match with its key, a run that no
+// longer passes with 12 and no tile gone through.
+fn gather(m: Matcher, at: Landings, arena: &[u8], q: Query, near: NearKeys) -> Searched
+    ensures { λ r. ⌜ r ≡ Gather.ended m (q .heading) (Gather.gatheredTo at (now (arena .entry)) q near 4) ⌝ }
 {
     let header = q.header;
     let mut kept = crate::keep::none_kept();
-    let mut uses = from;
     let mut i = 0;
     while i < 4 {
         let place = near.keys[i];
         let key = place.key;
         let here = at.v[i];
         let lookup = here.lookup;
+        let tiles = i;
         i += 1;
         let MaybeKey::Key(k) = key else {
             continue;
@@ -105,42 +105,40 @@ fn gather(m: Matcher, at: Landings, from: Aging, arena: &[u8], q: Query, near: N
                 continue;
             }
             Lookup::Absent => {
-                return Made {
+                return Searched {
                     answer: Outcome::Need(k),
                     matcher: m,
-                    uses,
+                    tiles,
                 };
             }
             Lookup::Refused(_) => {
-                return Made {
+                return Searched {
                     answer: Outcome::Refused(12),
                     matcher: m,
-                    uses: from,
+                    tiles: 0,
                 };
             }
             Lookup::Ready(first, len) => {
                 kept = crate::search(kept, q, cache::ages::run_bytes(arena, first, len));
-                uses = cache::uses::used_at(uses, first);
             }
         }
     }
     let heading = q.heading;
-    finished(m, kept, uses, heading)
+    finished(m, kept, heading)
 }
 
-// A match of a point and a heading that have passed, for a caller that knows what the lookups of the tiles around the point land on, and clock and
-// ages before them.
-pub fn made_at(
+// A match of a point and a heading that have passed, for a caller that knows what the lookups of the tiles around the point land on. It changes no
+// clock and no ages: what it does to them is `uses_after`.
+pub fn searched(
     m: Matcher,
     at: Landings,
-    from: Aging,
     arena: &[u8],
     header: Header,
     fix: Point,
     heading: Heading,
     near: NearKeys,
-) -> Made
-    ensures { λ r. ⌜ r ≡ Gather.madeAt m at from (now (arena .entry)) header fix heading near ⌝ }
+) -> Searched
+    ensures { λ r. ⌜ r ≡ Gather.searched m at (now (arena .entry)) header fix heading near ⌝ }
 {
     let current = m.current;
     let q = Query {
@@ -149,7 +147,35 @@ pub fn made_at(
         heading,
         current,
     };
-    gather(m, at, from, arena, q, near)
+    gather(m, at, arena, q, near)
+}
+
+// Clock and ages with the run that a lookup landed on as the most recently used.
+fn used_by(lookup: Lookup, a: Aging) -> Aging
+    ensures { λ r. ⌜ r ≡ Gather.usedBy lookup a ⌝ }
+{
+    match lookup {
+        Lookup::Missing => a,
+        Lookup::Absent => a,
+        Lookup::Refused(_) => a,
+        Lookup::Ready(first, _) => cache::uses::used_at(a, first),
+    }
+}
+
+// Clock and ages once the first `n` tiles were gone through.
+fn uses_after(at: Landings, from: Aging, n: usize) -> Aging
+    requires { ⌜ n ≤ 4 ⌝ }
+    ensures { λ r. ⌜ r ≡ Gather.usesAfter at from n ⌝ }
+{
+    let mut a = from;
+    let mut i = 0;
+    while i < n {
+        let here = at.v[i];
+        let lookup = here.lookup;
+        a = used_by(lookup, a);
+        i += 1;
+    }
+    a
 }
 
 // A match of a point and a heading that have passed, in a state that has been tested; what it does to clock and ages beside the cache.
@@ -166,7 +192,15 @@ pub fn made(
     let near = crate::near::near_of(header, fix);
     let at = landings(c, near);
     let from = cache::uses::uses_of(c);
-    made_at(m, at, from, arena, header, fix, heading, near)
+    let s = searched(m, at, arena, header, fix, heading, near);
+    let uses = uses_after(at, from, s.tiles);
+    let answer = s.answer;
+    let matcher = s.matcher;
+    Made {
+        answer,
+        matcher,
+        uses,
+    }
 }
 
 // The match with the cache that it leaves.

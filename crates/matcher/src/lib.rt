@@ -201,6 +201,14 @@ pub enum Outcome {
     Refused(u32),
 }
 
+// A match, and how many of the tiles around the fix count as gone through, none on the late 12: those of them that were found are the most recently used
+// now.
+pub struct Searched {
+    pub answer: Outcome,
+    pub matcher: Matcher,
+    pub tiles: usize,
+}
+
 // A match with what it does to clock and ages beside the cache.
 pub struct Made {
     pub answer: Outcome,

@@ -66,18 +66,20 @@ fn rival_step(least: f32, n: usize, i: usize, c: Candidate, chosen: Matched, lef
     least
 }
 
-// The cost of the cheapest other road, infinite where there is none.
+// The cost of the cheapest other road, infinite where there is none. The places are named one by one, so that what is kept is read where it stands.
 fn runner_up(k: Kept, chosen: Matched, left: Current) -> f32
     ensures { λ r. ⌜ r ≡ Settle.runnerUp k chosen left ⌝ }
 {
     let n = k.len;
     let mut least: f32 = 1.0 / 0.0;
-    let mut i = 0;
-    while i < 8 {
-        let c = k.v[i];
-        least = rival_step(least, n, i, c, chosen, left);
-        i += 1;
-    }
+    least = rival_step(least, n, 0, k.v[0], chosen, left);
+    least = rival_step(least, n, 1, k.v[1], chosen, left);
+    least = rival_step(least, n, 2, k.v[2], chosen, left);
+    least = rival_step(least, n, 3, k.v[3], chosen, left);
+    least = rival_step(least, n, 4, k.v[4], chosen, left);
+    least = rival_step(least, n, 5, k.v[5], chosen, left);
+    least = rival_step(least, n, 6, k.v[6], chosen, left);
+    least = rival_step(least, n, 7, k.v[7], chosen, left);
     least
 }
 

@@ -6,7 +6,7 @@
 --
 -- A function that isn't here refuses nothing, or has the definition of one that is: a view's readers that of `tile` and `geo`, geo's `bearing` that of `angle`,
 -- the cache's `settled` that of `loaded` with failure 0 and no bytes; or it is a core whose refusals are the work's of one that is: `look::checked` and,
--- by numbers taken out of the cache, `ages::look_up` the late 12 of `get`, `gather::made` and `made_at` those of `updated`, `road::from_looks` those of `predicted` but 9. What the engine makes of 1, 2, 3 and 4 (Working, NoPack) is `Deliver.delivered`, and
+-- by numbers taken out of the cache, `ages::look_up` the late 12 of `get`, `gather::made` and `searched` those of `updated`, `road::from_looks` those of `predicted` but 9. What the engine makes of 1, 2, 3 and 4 (Working, NoPack) is `Deliver.delivered`, and
 -- which key goes with 5 the core's own answer. The functions on words and for C have definitions over these
 -- (crates words and terrain); `fetch::request` of no fetch, or of a chunk without a load, is 12.
 use Prim.Native.Nat.{ℕ, _+_, max}

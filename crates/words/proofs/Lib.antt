@@ -26,5 +26,7 @@ pub mod WorkLaws
 -- PageSetLaws: one slot or age that is put, and words with other pages. BeginLaws: a load that begins.
 pub mod PageSetLaws
 pub mod BeginLaws
+-- UsesLaws: clock and ages that are put.
+pub mod UsesLaws
 -- CallLaws: the matcher's and predict's own calls.
 pub mod CallLaws

@@ -20,14 +20,11 @@ use Rattle.engine.specs.Summaries.{summaryOf, passes, plan}
 use Rattle.engine.specs.Work.{counted, ended}
 use Rattle.engine.specs.declared.Engine.{Engine}
 use Rattle.engine.specs.declared.Status.the-variants as Status
-use Rattle.engine.specs.declared.Fix.{Fix}
 use Rattle.engine.specs.declared.summary.Summary.{Summary}
 use Rattle.engine.specs.declared.plan.Plan.{Plan}
 use Rattle.engine.specs.declared.plan.Plan.the-variants as Plan
-use Rattle.matcher.specs.declared.Matched.{Matched}
-use Rattle.pack.specs.Grid.{inGrid}
 use Rattle.pack.specs.declared.TileKey.{TileKey}
-use Rattle.engine.proofs.PlanLaws.{plan-step, roadIn, plan-in}
+use Rattle.engine.proofs.PlanLaws.{plan-step}
 use Rattle.engine.proofs.SummaryLaws.{summary-ok}
 use Rattle.words.specs.Calls as Calls
 use Rattle.words.specs.Calls.{moved, stays}
@@ -168,10 +165,6 @@ module _ (ws arena : List ℕ) where
 
     opens-none : isOpen (opensPlan p (e₂ .shared .cache)) ≡ false
     opens-none = sym (ap (λ (x : Plan). isOpen (opensPlan x (e₂ .shared .cache))) works-plan) ∙ closed-plan e₂ works-closed
-
-    -- a road is planned of a match in the grid
-    pub road-inside : {fix : Fix} {found : Matched} → p ≡ Plan.Road fix found → inGrid (e₂ .shared .header) (found .tile .key) ≡ true
-    road-inside r = sym (ap (λ (x : Plan). roadIn x (e₂ .shared .header)) (works-plan ∙ r)) ∙ plan-in e₂ (length arena) works-ok
 
     -- the header opens a fetch
     pub no-header : p ≡ Plan.Header → true ≡ false

@@ -40,7 +40,7 @@ use Rattle.predict.proofs.Outcome as RoadOutcomes
 use Rattle.engine.specs.Plans.{leftMap, roadDropped, matchMade, matchedDue, askingDue, roadFails, roadNumber}
 use Rattle.engine.specs.Publish.{withMatch}
 use Rattle.engine.specs.State.{refused}
-use Rattle.engine.specs.Work.{asking, counted, ended, emptied, isMatched, mayAsk, matched, matchedBy, matchAsks, matchDone, matchEndedBy, matchingOff, offMap, published, rematch, roadDone, roadEndedBy, roadOff, roadStep, withMatcher, withDue, withAhead, withHeights}
+use Rattle.engine.specs.Work.{asking, counted, ended, emptied, isMatched, mayAsk, matched, matchedBy, matchAsks, matchDone, matchEndedBy, matchingOff, matchingOn, offMap, published, rematch, roadDone, roadEndedBy, roadOff, roadStep, withMatcher, withDue, withAhead, withHeights}
 use Rattle.engine.specs.declared.Ahead.{Ahead}
 use Rattle.engine.specs.declared.Due.{Due}
 use Rattle.engine.specs.declared.Engine.{Engine}
@@ -48,7 +48,7 @@ use Rattle.engine.specs.declared.Fix.{Fix}
 use Rattle.engine.specs.declared.Follower.{Follower}
 use Rattle.engine.specs.declared.Status.the-variants as Status
 use Rattle.engine.proofs.StepNeeds.{road-refused, road-ended, road-left}
-use Rattle.words.specs.Put.{put}
+use Rattle.words.specs.Put.{put, usesIn}
 use Rattle.words.specs.Words as Words
 use Rattle.words.specs.Words.{from, floatOf, headerBy, pagesOf, cacheOf, sharedOf, headingOf, sightOf, currentBy, matcherOf, dueOf, aheadOf, followerOf, engineOf, usedWords, matcherWords, dueWords, aheadWords, words, accepted}
 use Rattle.words.specs.Worked as Worked
@@ -121,33 +121,26 @@ module _ (ws : List ℕ) where
 onto : (at : ℕ) (p : List ℕ) {ws xs ys : List ℕ} → ws ≡ xs → put at p xs ≡ ys → put at p ws ≡ ys
 onto at p before law = ap (put at p) before ∙ law
 
+module _ {xs : List ℕ} (e : Engine) (before : xs ≡ words e) where
+  due-put : (d : Due) → put 603 (dueWords d) xs ≡ words (dueAs e d)
+  due-put d = onto 603 (dueWords d) before (due-put-in e d)
+
+  found-put : (m : Matcher) (d : Due) → put 603 (dueWords d) (put 581 (matcherWords m) xs) ≡ words (dueAs (matchedAs e m) d)
+  found-put m d = onto 603 (dueWords d) (onto 581 (matcherWords m) before (matcher-put-in e m)) (due-put-in (matchedAs e m) d)
+
 module _ (ws : List ℕ) (h : accepted ws ≡ true) where
   abbrev here : Engine
   here = engineOf ws
 
+  own : ws ≡ words here
+  own = sym (words-engine ws h)
+
   -- clock and ages
-  abbrev agedBy : Aging → Engine
+  abbrev pub agedBy : Aging → Engine
   agedBy a = clocked (aged here (a .used)) (a .clock)
 
-  abbrev usesPut : Aging → List ℕ
-  usesPut a = put 400 (a .clock ∷ []) (put 303 (usedWords (a .used)) ws)
-
-  pub uses-words : (a : Aging) → usesPut a ≡ words (agedBy a)
-  uses-words a =
-      onto 400 (a .clock ∷ []) (onto 303 (usedWords (a .used)) (sym (words-engine ws h)) (used-put here (a .used))) (clock-put (aged here (a .used)) (a .clock))
-
-  abbrev duePut : Aging → Due → List ℕ
-  duePut a d = put 603 (dueWords d) (usesPut a)
-
-  due-put : (a : Aging) (d : Due) → duePut a d ≡ words (dueAs (agedBy a) d)
-  due-put a d = onto 603 (dueWords d) (uses-words a) (due-put-in (agedBy a) d)
-
-  abbrev foundPut : Aging → Matcher → Due → List ℕ
-  foundPut a m d = put 603 (dueWords d) (put 581 (matcherWords m) (usesPut a))
-
-  found-put : (a : Aging) (m : Matcher) (d : Due) → foundPut a m d ≡ words (dueAs (matchedAs (agedBy a) m) d)
-  found-put a m d =
-      onto 603 (dueWords d) (onto 581 (matcherWords m) (uses-words a) (matcher-put-in (agedBy a) m)) (due-put-in (matchedAs (agedBy a) m) d)
+  pub uses-words : (a : Aging) → usesIn a ws ≡ words (agedBy a)
+  uses-words a = onto 400 (a .clock ∷ []) (onto 303 (usedWords (a .used)) own (used-put here (a .used))) (clock-put (aged here (a .used)) (a .clock))
 
   module _ (n : ℕ) (more : n ≡ after (getD ws 1149 0)) where
     -- the step counted last
@@ -156,25 +149,35 @@ module _ (ws : List ℕ) (h : accepted ws ≡ true) where
         ap (λ (k : ℕ). put 1149 (k ∷ []) xs) (more ∙ ap after (steps-in ws))
         ∙ onto 1149 (after (here .follower .steps) ∷ []) before (steps-put e (after (here .follower .steps)))
 
-    pub asked-words : (a : Aging) (d : Due) → put 1149 (n ∷ []) (duePut a d) ≡ words (Worked.asked here a d)
-    asked-words a d = counts (dueAs (agedBy a) d) (due-put a d)
+    -- a match, once clock and ages are put
+    pub asked-words : (d : Due) → put 1149 (n ∷ []) (put 603 (dueWords d) ws) ≡ words (Worked.asked here d)
+    asked-words d = counts (dueAs here d) (due-put here own d)
 
-    pub found-words : (a : Aging) (m : Matcher) (d : Due) → put 1149 (n ∷ []) (foundPut a m d) ≡ words (Worked.found here a m d)
-    found-words a m d = counts (dueAs (matchedAs (agedBy a) m) d) (found-put a m d)
+    pub found-words : (m : Matcher) (d : Due) → put 1149 (n ∷ []) (put 603 (dueWords d) (put 581 (matcherWords m) ws)) ≡ words (Worked.found here m d)
+    found-words m d = counts (dueAs (matchedAs here m) d) (found-put here own m d)
 
-    pub lost-words : (a : Aging) (m : Matcher) (d : Due) (at : ℕ)
-        → put 1149 (n ∷ []) (put 611 (aheadWords (emptied (here .follower .ahead) at End.Uncertain)) (foundPut a m d)) ≡ words (Worked.lost here a m d at)
-    lost-words a m d at =
-        let e : Engine = dueAs (matchedAs (agedBy a) m) d in
+    pub lost-words : (m : Matcher) (d : Due) (at : ℕ)
+        → put 1149 (n ∷ []) (put 611 (aheadWords (emptied (here .follower .ahead) at End.Uncertain)) (put 603 (dueWords d) (put 581 (matcherWords m) ws)))
+        ≡ words (Worked.lost here m d at)
+    lost-words m d at =
+        let e : Engine = dueAs (matchedAs here m) d in
         let empty : Ahead = emptied (here .follower .ahead) at End.Uncertain in
-        counts (aheadAs e empty) (onto 611 (aheadWords empty) (found-put a m d) (ahead-put-in e empty))
+        counts (aheadAs e empty) (onto 611 (aheadWords empty) (found-put here own m d) (ahead-put-in e empty))
+
+    -- a road, with clock and ages
+    pub rematched-words : (a : Aging)
+        → put 1149 (n ∷ []) (put 603 (dueWords (matchingOn (here .follower .due))) (put 581 (matcherWords reset) (usesIn a ws)))
+        ≡ words (Worked.rematched here a)
+    rematched-words a =
+        let due : Due = matchingOn (here .follower .due) in
+        counts (dueAs (matchedAs (agedBy a) reset) due) (found-put (agedBy a) (uses-words a) reset due)
 
     pub published-words : (a : Aging) (d : Due) (road : Ahead)
-        → put 1149 (n ∷ []) (put 611 (aheadWords road) (duePut a d))
+        → put 1149 (n ∷ []) (put 611 (aheadWords road) (put 603 (dueWords d) (usesIn a ws)))
         ≡ words (Worked.leaves here (withUses (here .shared .cache) a) (withAhead (withDue (counted (here .follower)) d) road))
     published-words a d road =
         let e : Engine = dueAs (agedBy a) d in
-        counts (aheadAs e road) (onto 611 (aheadWords road) (due-put a d) (ahead-put-in e road))
+        counts (aheadAs e road) (onto 611 (aheadWords road) (due-put (agedBy a) (uses-words a) d) (ahead-put-in e road))
 
     pub dropped-words : put 1149 (n ∷ []) (put 604 (0 ∷ []) ws) ≡ words (roadDropped here .engine)
     dropped-words = counts (dueAs here (roadOff (here .follower .due))) (onto 604 (0 ∷ []) (sym (words-engine ws h)) (road-due-put here false))

@@ -29,20 +29,20 @@ use Rattle.engine.specs.declared.Stepped.{Stepped}
 abbrev pub leaves : Engine → Cache → Follower → Engine
 leaves e c f = ended e c f Status.Working .engine
 
-abbrev pub asked : Engine → Aging → Due → Engine
-asked e uses due = leaves e (withUses (e .shared .cache) uses) (withDue (counted (e .follower)) due)
+-- ---- a match, once clock and ages are put
 
-abbrev pub found : Engine → Aging → Matcher → Due → Engine
-found e uses m due = leaves e (withUses (e .shared .cache) uses) (withDue (withMatcher (counted (e .follower)) m) due)
+abbrev pub asked : Engine → Due → Engine
+asked e due = leaves e (e .shared .cache) (withDue (counted (e .follower)) due)
 
-abbrev pub lost : Engine → Aging → Matcher → Due → ℕ → Engine
-lost e uses m due at =
-    leaves e
-    (withUses (e .shared .cache) uses)
-    (withDue (withAhead (withMatcher (counted (e .follower)) m) (emptied (e .follower .ahead) at End.Uncertain)) due)
+abbrev pub found : Engine → Matcher → Due → Engine
+found e m due = leaves e (e .shared .cache) (withDue (withMatcher (counted (e .follower)) m) due)
 
-abbrev pub made : Engine → Fix → Aging → Matcher → Engine
-made e fix uses m = leaves e (withUses (e .shared .cache) uses) (matched (counted (e .follower)) m fix)
+abbrev pub lost : Engine → Matcher → Due → ℕ → Engine
+lost e m due at =
+    leaves e (e .shared .cache) (withDue (withAhead (withMatcher (counted (e .follower)) m) (emptied (e .follower .ahead) at End.Uncertain)) due)
+
+abbrev pub made : Engine → Fix → Matcher → Engine
+made e fix m = leaves e (e .shared .cache) (matched (counted (e .follower)) m fix)
 
 -- ---- a road: of the cache it changes clock and ages alone
 

@@ -1,7 +1,6 @@
 // The matcher's and predict's own calls on the cache in an engine's words. Number 12 is tested on the words, and of them clock and ages alone are written.
 use crate::decode;
 use crate::encode;
-use cache::Pending;
 use geo::Point;
 use matcher::Heading;
 use matcher::Matched;
@@ -9,7 +8,6 @@ use matcher::Matcher;
 use pack::Header;
 use predict::Outcome;
 ghost use mathlib.Core.Path.{_≡_};
-ghost use Rattle.cache.specs.State as State;
 ghost use Rattle.matcher.specs.declared.Outcome.the-variants as Outcomes;
 ghost use Rattle.words.specs.Calls as Calls;
 ghost use Rattle.words.specs.Opens as Opens;
@@ -19,18 +17,6 @@ ghost use Rattle.words.specs.Worked as Worked;
 pub struct Matching {
     pub answer: matcher::Outcome,
     pub matcher: Matcher,
-}
-
-// Whether an open entry is of a key in the header's grid.
-fn entry_in(pending: Pending, header: Header) -> bool
-    ensures { λ r. ⌜ r ≡ State.entryIn pending header ⌝ }
-{
-    match pending {
-        Pending::Nothing => true,
-        Pending::Header => true,
-        Pending::Entry(key) => pack::grid::in_grid(header, key),
-        Pending::Chunk => true,
-    }
 }
 
 // Whether the words are an engine's, and the causes of number 12 in a call that is given its cache, a header and an arena of `size` bytes.
@@ -44,7 +30,7 @@ fn given_ok(ws: &[u32; crate::WORDS], header: Header, size: usize) -> bool
         return false;
     }
     let pending = decode::pending(ws[536], ws[537]);
-    if !entry_in(pending, header) {
+    if !cache::state::entry_in(pending, header) {
         return false;
     }
     decode::size(ws[399]) <= size / cache::PAGE_BYTES
@@ -87,9 +73,8 @@ pub fn update(
     }
     let near = matcher::near::near_of(header, fix);
     let at = crate::look::landings(&*ws, near);
-    let uses = crate::look::uses(&*ws);
-    let u = matcher::gather::made_at(m, at, uses, arena, header, fix, heading, near);
-    encode::put_uses(u.uses, ws);
+    let u = matcher::gather::searched(m, at, arena, header, fix, heading, near);
+    crate::look::use_tiles(ws, at, u.tiles);
     let answer = u.answer;
     let matcher = u.matcher;
     Matching { answer, matcher }

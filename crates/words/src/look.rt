@@ -1,6 +1,6 @@
-// The cache's lookups in the words themselves: what the lookups of a match land on, and the numbers that those of a road go by. No cache is made of the words.
-use crate::decode;
-use cache::Aging;
+// The cache's lookups in the words themselves: what the lookups of a match land on and what they do to clock and ages, and the numbers that those of a road go by. No cache is made of the
+// words.
+use crate::encode;
 use cache::Lookup;
 use cache::MaybeKey;
 use cache::ages::LOOKUPS;
@@ -10,8 +10,9 @@ use matcher::Landings;
 use matcher::NearKey;
 use matcher::NearKeys;
 use pack::TileKey;
+ghost use mathlib.Core.Bool.{true};
 ghost use mathlib.Core.Path.{_≡_};
-ghost use Prim.Native.Nat.{_+_, _/_, _<_};
+ghost use Prim.Native.Nat.{_+_, _/_, _<_, _≤_};
 ghost use lib.ListN.{getD};
 ghost use Rattle.cache.specs.Ages as Ages;
 ghost use Rattle.cache.specs.Keys as Keys;
@@ -19,6 +20,7 @@ ghost use Rattle.cache.specs.Lookups as Lookups;
 ghost use Rattle.cache.specs.Runs as Runs;
 ghost use Rattle.cache.specs.Uses as Uses;
 ghost use Rattle.matcher.specs.Gather as Gather;
+ghost use Rattle.words.specs.Put as Put;
 ghost use Rattle.words.specs.Words as Words;
 
 // What a lookup lands on, with the length of the run, which is not checked yet.
@@ -66,19 +68,46 @@ pub(crate) fn landings(ws: &[u32; crate::WORDS], near: NearKeys) -> Landings
     Landings { v }
 }
 
-// Clock and ages.
-pub(crate) fn uses(ws: &[u32; crate::WORDS]) -> Aging
-    ensures { λ r. ⌜ r ≡ Uses.usesOf (Words.cacheOf (now (ws .entry)) 15) ⌝ }
+// ---- clock and ages after a match
+
+// A run is the most recently used: the clock goes on by one, and is the run's age.
+fn use_run(ws: &mut [u32; crate::WORDS], first: usize)
+    requires { ⌜ Words.accepted (now ws) ≡ true ⌝ }
+    ensures { λ r. ⌜ now (ws .exit) ≡ Put.usesIn (Uses.usedAt (Uses.usesOf (Words.cacheOf (now (ws .entry)) 15)) first) (now (ws .entry)) ⌝ }
 {
-    let mut used = [0u32; cache::MAX_PAGES];
-    let mut i = 0;
-    while i < cache::MAX_PAGES {
-        used[i] = ws[303 + i];
-        i += 1;
+    let age = std::num::wrapping_add_u32(ws[400], 1);
+    encode::put_word(ws, 400, age);
+    if cache::MAX_PAGES <= first {
+        return;
     }
-    Aging {
-        clock: ws[400],
-        used,
+    encode::put_word(ws, 303 + first, age);
+}
+
+// What a lookup landed on, if it is a run, is the most recently used.
+fn use_landed(ws: &mut [u32; crate::WORDS], lookup: Lookup)
+    requires { ⌜ Words.accepted (now ws) ≡ true ⌝ }
+    ensures { λ r. ⌜ now (ws .exit) ≡ Put.usesIn (Gather.usedBy lookup (Uses.usesOf (Words.cacheOf (now (ws .entry)) 15))) (now (ws .entry)) ⌝ }
+{
+    match lookup {
+        Lookup::Missing => {}
+        Lookup::Absent => {}
+        Lookup::Refused(_) => {}
+        Lookup::Ready(first, _) => use_run(ws, first),
+    }
+}
+
+// Of the first `n` tiles around the fix those that were found become the most recently used, in order: `at` says what their lookups land on.
+pub(crate) fn use_tiles(ws: &mut [u32; crate::WORDS], at: Landings, n: usize)
+    requires { ⌜ Words.accepted (now ws) ≡ true ⌝ }
+    requires { ⌜ n ≤ 4 ⌝ }
+    ensures { λ r. ⌜ now (ws .exit) ≡ Put.usesIn (Gather.usesAfter at (Uses.usesOf (Words.cacheOf (now (ws .entry)) 15)) n) (now (ws .entry)) ⌝ }
+{
+    let mut i = 0;
+    while i < n {
+        let here = at.v[i];
+        let lookup = here.lookup;
+        use_landed(ws, lookup);
+        i += 1;
     }
 }
 

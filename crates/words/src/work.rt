@@ -1,4 +1,5 @@
-// A match and a road on words, and a fix off the map: what they read is taken out first, and then the words that change are put. Of the cache they change clock and ages alone.
+// A match and a road on words, and a fix off the map: what they read is taken out, and the words that change are put. Clock and ages come first, which is all that changes of the cache, and
+// a match goes on from the words with them.
 use crate::decode;
 use crate::encode;
 use cache::Aging;
@@ -9,14 +10,17 @@ use engine::Fix;
 use engine::Matched;
 use engine::Status;
 use geo::Point;
-use matcher::Made;
+use matcher::Landings;
 use matcher::Matcher;
+use matcher::Searched;
 use predict::End;
 use predict::Outcome;
 use predict::Prediction;
 ghost use mathlib.Core.Bool.{true};
 ghost use mathlib.Core.Path.{_≡_};
-ghost use Rattle.pack.specs.Grid.{inGrid};
+ghost use Prim.Native.Nat.{_≤_};
+ghost use Rattle.cache.specs.Uses as Uses;
+ghost use Rattle.matcher.specs.Gather as Gather;
 ghost use Rattle.engine.specs.Plans as Plans;
 ghost use Rattle.engine.specs.Work as Work;
 ghost use Rattle.engine.specs.declared.Status.the-variants as Statuses;
@@ -25,38 +29,35 @@ ghost use Rattle.words.specs.Worked as Worked;
 
 // ---- a match
 
-// Clock and ages, the step counted, and what is due.
-fn asks(ws: &mut [u32; crate::WORDS], uses: Aging, due: Due)
+// What is due, and the step counted.
+fn asks(ws: &mut [u32; crate::WORDS], due: Due)
     requires { ⌜ Words.accepted (now ws) ≡ true ⌝ }
-    ensures { λ r. ⌜ now (ws .exit) ≡ Words.words (Worked.asked (Words.engineOf (now (ws .entry))) uses due) ⌝ }
+    ensures { λ r. ⌜ now (ws .exit) ≡ Words.words (Worked.asked (Words.engineOf (now (ws .entry))) due) ⌝ }
 {
     let n = std::num::wrapping_add_u32(ws[1149], 1);
-    encode::put_uses(uses, ws);
     encode::put_due(due, ws);
     encode::put_word(ws, 1149, n);
 }
 
 // And the matcher.
-fn match_found(ws: &mut [u32; crate::WORDS], uses: Aging, m: Matcher, due: Due)
+fn match_found(ws: &mut [u32; crate::WORDS], m: Matcher, due: Due)
     requires { ⌜ Words.accepted (now ws) ≡ true ⌝ }
-    ensures { λ r. ⌜ now (ws .exit) ≡ Words.words (Worked.found (Words.engineOf (now (ws .entry))) uses m due) ⌝ }
+    ensures { λ r. ⌜ now (ws .exit) ≡ Words.words (Worked.found (Words.engineOf (now (ws .entry))) m due) ⌝ }
 {
     let n = std::num::wrapping_add_u32(ws[1149], 1);
-    encode::put_uses(uses, ws);
     encode::put_matcher(m, ws);
     encode::put_due(due, ws);
     encode::put_word(ws, 1149, n);
 }
 
 // And the published road, which goes.
-fn match_lost(ws: &mut [u32; crate::WORDS], uses: Aging, m: Matcher, due: Due, at_ms: u64)
+fn match_lost(ws: &mut [u32; crate::WORDS], m: Matcher, due: Due, at_ms: u64)
     requires { ⌜ Words.accepted (now ws) ≡ true ⌝ }
-    ensures { λ r. ⌜ now (ws .exit) ≡ Words.words (Worked.lost (Words.engineOf (now (ws .entry))) uses m due «at_ms») ⌝ }
+    ensures { λ r. ⌜ now (ws .exit) ≡ Words.words (Worked.lost (Words.engineOf (now (ws .entry))) m due «at_ms») ⌝ }
 {
     let n = std::num::wrapping_add_u32(ws[1149], 1);
     let a = decode::ahead(&*ws);
     let empty = engine::work::emptied(a, at_ms, End::Uncertain);
-    encode::put_uses(uses, ws);
     encode::put_matcher(m, ws);
     encode::put_due(due, ws);
     encode::put_ahead(empty, ws);
@@ -64,41 +65,43 @@ fn match_lost(ws: &mut [u32; crate::WORDS], uses: Aging, m: Matcher, due: Due, a
 }
 
 // The match is made; without one a road that is published goes.
-fn match_made(ws: &mut [u32; crate::WORDS], fix: Fix, uses: Aging, m: Matcher)
+fn match_made(ws: &mut [u32; crate::WORDS], fix: Fix, m: Matcher)
     requires { ⌜ Words.accepted (now ws) ≡ true ⌝ }
-    ensures { λ r. ⌜ now (ws .exit) ≡ Words.words (Worked.made (Words.engineOf (now (ws .entry))) fix uses m) ⌝ }
+    ensures { λ r. ⌜ now (ws .exit) ≡ Words.words (Worked.made (Words.engineOf (now (ws .entry))) fix m) ⌝ }
 {
     let due = decode::due(&*ws);
     let published = decode::current(&*ws, 614);
     let current = m.current;
     let next = engine::work::matched_due(due, current, published, fix.at_ms);
     if engine::work::is_matched(current) || !engine::work::is_matched(published) {
-        match_found(ws, uses, m, next);
+        match_found(ws, m, next);
         return;
     }
-    match_lost(ws, uses, m, next, fix.at_ms);
+    match_lost(ws, m, next, fix.at_ms);
 }
 
-// How a step that matched ends.
-fn match_ended(ws: &mut [u32; crate::WORDS], fix: Fix, u: Made) -> Status
+// How a step that matched ends: clock and ages first, and then what goes by the match. On the late 12 nothing changes.
+fn match_ended(ws: &mut [u32; crate::WORDS], fix: Fix, at: Landings, u: Searched) -> Status
     requires { ⌜ Words.accepted (now ws) ≡ true ⌝ }
-    ensures { λ r. ⌜ r ≡ Plans.matchMade (Words.engineOf (now (ws .entry))) fix u .answer ⌝ }
-    ensures { λ r. ⌜ now (ws .exit) ≡ Words.words (Plans.matchMade (Words.engineOf (now (ws .entry))) fix u .engine) ⌝ }
+    requires { ⌜ u .tiles ≤ 4 ⌝ }
+    ensures { λ r. ⌜ r ≡ Plans.matchMade (Words.engineOf (now (ws .entry))) fix (Gather.madeBy at (Uses.usesOf (Words.engineOf (now (ws .entry)) .shared .cache)) u) .answer ⌝ }
+    ensures { λ r. ⌜ now (ws .exit) ≡ Words.words (Plans.matchMade (Words.engineOf (now (ws .entry))) fix (Gather.madeBy at (Uses.usesOf (Words.engineOf (now (ws .entry)) .shared .cache)) u) .engine) ⌝ }
 {
     let answer = u.answer;
-    let uses = u.uses;
     let m = u.matcher;
     match answer {
         matcher::Outcome::Refused(number) => Status::Refused(number),
         matcher::Outcome::Found(_) | matcher::Outcome::Nothing => {
-            match_made(ws, fix, uses, m);
+            crate::look::use_tiles(ws, at, u.tiles);
+            match_made(ws, fix, m);
             Status::Working
         }
         matcher::Outcome::Need(key) => {
+            crate::look::use_tiles(ws, at, u.tiles);
             let due = decode::due(&*ws);
             let pages = decode::size(ws[399]);
             let asked = engine::work::asking_due(due, pages, key);
-            asks(ws, uses, asked);
+            asks(ws, asked);
             engine::work::match_tells(due, pages, answer)
         }
     }
@@ -119,9 +122,8 @@ pub(crate) fn match_step(ws: &mut [u32; crate::WORDS], arena: &[u8], fix: Fix) -
     };
     let near = matcher::near::near_of(header, point);
     let at = crate::look::landings(&*ws, near);
-    let uses = crate::look::uses(&*ws);
-    let u = matcher::gather::made_at(m, at, uses, arena, header, point, heading, near);
-    match_ended(ws, fix, u)
+    let u = matcher::gather::searched(m, at, arena, header, point, heading, near);
+    match_ended(ws, fix, at, u)
 }
 
 // ---- a road
@@ -197,7 +199,8 @@ fn road_needs(
     let due = decode::due(&*ws);
     if engine::work::may_ask(due, decode::size(ws[399])) {
         let asked = engine::work::asking(due, key, due.reloads + 1);
-        asks(ws, uses, asked);
+        encode::put_uses(uses, ws);
+        asks(ws, asked);
         return;
     }
     let a = decode::ahead(&*ws);
@@ -250,7 +253,6 @@ pub(crate) fn road_step(
     found: Matched,
 ) -> Status
     requires { ⌜ Words.accepted (now ws) ≡ true ⌝ }
-    requires { ⌜ inGrid (Words.engineOf (now ws) .shared .header) (found .tile .key) ≡ true ⌝ }
     ensures { λ r. ⌜ r ≡ Work.roadStep (Words.engineOf (now (ws .entry))) (now (arena .entry)) (Work.counted (Words.engineOf (now (ws .entry)) .follower)) fix found .answer ⌝ }
     ensures { λ r. ⌜ now (ws .exit) ≡ Words.words (Work.roadStep (Words.engineOf (now (ws .entry))) (now (arena .entry)) (Work.counted (Words.engineOf (now (ws .entry)) .follower)) fix found .engine) ⌝ }
 {

@@ -10,10 +10,10 @@ use Rattle.matcher.proofs.gather.gather.Statement.{statement}
 use Rattle.matcher.proofs.gather.gather.Tie as tie
 
 abbrev Inv-loop : tie.InvT-loop
-Inv-loop m from arena q at near header kept₀ uses₀ i₀ kept uses i = (i ≤ 4) × (soFar kept uses ≡ gatheredTo at from arena q near i)
+Inv-loop m arena q at near header kept₀ i₀ kept i = (i ≤ 4) × (soFar kept i ≡ gatheredTo at arena q near i)
 
 abbrev μ-loop : tie.MeasureT-loop
-μ-loop m from arena q at near header kept₀ uses₀ i₀ kept uses i = 4 - i
+μ-loop m arena q at near header kept₀ i₀ kept i = 4 - i
 
 none-kept-requires : tie.Need-none-kept-requires Inv-loop μ-loop
 none-kept-requires c κs = tt
@@ -21,7 +21,7 @@ none-kept-requires c κs = tt
 loop-holds : tie.Need-loop-holds Inv-loop μ-loop
 loop-holds c =
     let args = c .before .before .before .args in
-    (search needs, rw (c .none-kept .ensures) (sym (gather-start (args .t2) (args .from) (args .arena .now) (args .q) (args .t6))))
+    (search needs, rw (c .none-kept .ensures) (sym (gather-start (args .t2) (args .arena .now) (args .q) (args .t5))))
 
 mul-place : tie.Need-mul-place Inv-loop μ-loop
 mul-place c = search needs
@@ -52,7 +52,7 @@ loop-again c =
     let at-loop = c .before .before .before .before .before .loop in
     let args = c .before .before .before .before .before .before .before .before .before .args in (
       omega (arith, c .before .before .before .before .loop-test .taken),
-      gather-none (args .t2) (args .from) (args .arena .now) (args .q) (args .t6) (at-loop .i) (at-loop .kept) (at-loop .uses) (c .enum-told .given .1) (at-loop .inv .1),
+      gather-none (args .t2) (args .arena .now) (args .q) (args .t5) (at-loop .i) (at-loop .kept) (at-loop .i) (c .enum-told .given .1) (at-loop .inv .1),
     )
 
 checked-requires : tie.Need-checked-requires Inv-loop μ-loop
@@ -69,7 +69,7 @@ loop-again-2 c =
     let looked = c .before .before in
     let at-loop = looked .before .before .before .before .before .before .before .loop in
     let args = looked .before .before .before .before .before .before .before .before .before .before .before .args in
-    let turned = gather-turn (args .t2) (args .from) (args .arena .now) (args .q) (args .t6) (at-loop .i) _ _ (at-loop .kept) (at-loop .uses)
+    let turned = gather-turn (args .t2) (args .arena .now) (args .q) (args .t5) (at-loop .i) _ _ (at-loop .kept) (at-loop .i)
     (looked .before .before .key .given .1) (sym (c .enum-told2 .given .1) ∙ looked .checked .ensures) (at-loop .inv .1) in
     (omega (arith, looked .before .before .before .before .before .before .loop-test .taken), turned)
 
@@ -81,10 +81,10 @@ returns c =
     let looked = c .before .before in
     let at-loop = looked .before .before .before .before .before .before .before .loop in
     let args = looked .before .before .before .before .before .before .before .before .before .before .before .args in
-    let turned = gather-turn (args .t2) (args .from) (args .arena .now) (args .q) (args .t6) (at-loop .i) _ _ (at-loop .kept) (at-loop .uses)
+    let turned = gather-turn (args .t2) (args .arena .now) (args .q) (args .t5) (at-loop .i) _ _ (at-loop .kept) (at-loop .i)
     (looked .before .before .key .given .1) (sym (c .enum-told3 .given .1) ∙ looked .checked .ensures) (at-loop .inv .1) in
-    ap (ended (args .m) (args .from) (args .q .heading))
-    (gather-over (args .t2) (args .from) (args .arena .now) (args .q) (args .t6) (at-loop .i) _ (looked .before .before .before .before .before .before .loop-test .taken) refl turned)
+    ap (ended (args .m) (args .q .heading))
+    (gather-over (args .t2) (args .arena .now) (args .q) (args .t5) (at-loop .i) _ (looked .before .before .before .before .before .before .loop-test .taken) refl turned)
 
 enum-told-4 : tie.Need-enum-told-4 Inv-loop μ-loop
 enum-told-4 c = search needs
@@ -94,10 +94,10 @@ returns-2 c =
     let looked = c .before .before in
     let at-loop = looked .before .before .before .before .before .before .before .loop in
     let args = looked .before .before .before .before .before .before .before .before .before .before .before .args in
-    let turned = gather-turn (args .t2) (args .from) (args .arena .now) (args .q) (args .t6) (at-loop .i) _ _ (at-loop .kept) (at-loop .uses)
+    let turned = gather-turn (args .t2) (args .arena .now) (args .q) (args .t5) (at-loop .i) _ _ (at-loop .kept) (at-loop .i)
     (looked .before .before .key .given .1) (sym (c .enum-told4 .given .1) ∙ looked .checked .ensures) (at-loop .inv .1) in
-    ap (ended (args .m) (args .from) (args .q .heading))
-    (gather-over (args .t2) (args .from) (args .arena .now) (args .q) (args .t6) (at-loop .i) _ (looked .before .before .before .before .before .before .loop-test .taken) refl turned)
+    ap (ended (args .m) (args .q .heading))
+    (gather-over (args .t2) (args .arena .now) (args .q) (args .t5) (at-loop .i) _ (looked .before .before .before .before .before .before .loop-test .taken) refl turned)
 
 enum-known-first : tie.Need-enum-known-first Inv-loop μ-loop
 enum-known-first c = search needs
@@ -108,21 +108,18 @@ run-bytes-requires c κs = tt
 search-requires : tie.Need-search-requires Inv-loop μ-loop
 search-requires c κs = tt
 
-used-at-requires : tie.Need-used-at-requires Inv-loop μ-loop
-used-at-requires c κs = tt
-
 loop-less-3 : tie.Need-loop-less-3 Inv-loop μ-loop
 loop-less-3 c = search needs
 
 loop-again-3 : tie.Need-loop-again-3 Inv-loop μ-loop
 loop-again-3 c =
-    let looked = c .before .before .before .before .before .before in
+    let looked = c .before .before .before .before .before in
     let at-loop = looked .before .before .before .before .before .before .before .loop in
     let args = looked .before .before .before .before .before .before .before .before .before .before .before .args in
-    let turned = gather-turn (args .t2) (args .from) (args .arena .now) (args .q) (args .t6) (at-loop .i) _ _ (at-loop .kept) (at-loop .uses)
-    (looked .before .before .key .given .1) (sym (c .before .before .before .before .first .given .1) ∙ looked .checked .ensures) (at-loop .inv .1) in (
+    let turned = gather-turn (args .t2) (args .arena .now) (args .q) (args .t5) (at-loop .i) _ _ (at-loop .kept) (at-loop .i)
+    (looked .before .before .key .given .1) (sym (c .before .before .before .first .given .1) ∙ looked .checked .ensures) (at-loop .inv .1) in (
       omega (arith, looked .before .before .before .before .before .before .loop-test .taken),
-      rw (c .used-at .ensures, c .before .search .ensures, c .before .before .run-bytes .ensures) turned,
+      rw (c .search .ensures, c .before .run-bytes .ensures) turned,
     )
 
 finished-requires : tie.Need-finished-requires Inv-loop μ-loop
@@ -133,7 +130,7 @@ returns-3 c =
     let at-loop = c .before .before .loop in
     let args = c .before .before .before .before .before .before .args in
     let end : at-loop .i ≡ 4 = omega (arith, c .before .loop-test .left, at-loop .inv .0) in
-    c .finished .ensures ∙ ap (ended (args .m) (args .from) (args .q .heading)) (rw end at (at-loop .inv .1))
+    c .finished .ensures ∙ ap (ended (args .m) (args .q .heading)) (rw end at (at-loop .inv .1))
 
 pub gather-spec : {M : Type 1} → statement M
 gather-spec =
@@ -163,7 +160,6 @@ gather-spec =
     enum-known-first
     run-bytes-requires
     search-requires
-    used-at-requires
     loop-less-3
     loop-again-3
     finished-requires

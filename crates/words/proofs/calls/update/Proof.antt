@@ -1,12 +1,15 @@
 -- `calls::update` meets its contract: each return by the tests before it, the point's numbers read back from their bits; of the cache a match changes clock and ages alone.
-use mathlib.Core.Path.{refl, sym, _∙_}
+use mathlib.Core.Path.{_≡_, sym, ap, _∙_}
 use mir.Syntax.{w32}
 use borrow.Author.Tests.{not-true, not-false}
 use Rattle.pack.proofs.Signed.{got}
-use Rattle.matcher.proofs.GatherLaws.{made-at-cache}
+use Rattle.cache.specs.Uses.{usesOf}
+use Rattle.matcher.specs.Gather.{updated, madeOf, madeBy}
+use Rattle.matcher.specs.declared.Made.{Made}
+use Rattle.matcher.proofs.GatherLaws.{searched-tiles, made-by-cache}
+use Rattle.words.specs.Put.{usesIn}
 use Rattle.words.specs.Words.{cacheOf}
 use Rattle.words.proofs.CallLaws.{left-kept, given-accepted, update-is, left-matched}
-use Rattle.words.proofs.CountLaws.{accepted-long}
 use lib.ListN.{length}
 use borrow.Author.Needs.{needs}
 use Rattle.words.proofs.calls.update.Statement.{statement}
@@ -68,27 +71,31 @@ near-of-requires c κs = search needs
 landings-requires : tie.Need-landings-requires
 landings-requires c κs = search needs
 
-uses-requires : tie.Need-uses-requires
-uses-requires c κs = search needs
+searched-requires : tie.Need-searched-requires
+searched-requires c κs = search needs
 
-made-at-requires : tie.Need-made-at-requires
-made-at-requires c κs = search needs
-
-put-uses-requires : tie.Need-put-uses-requires
-put-uses-requires c κs =
-    let args = c .before .before .before .before .before .before .before .before .before .before .before .before .before .before .before .before .before .before .before .args in
-    accepted-long (args .ws .now) (given-accepted (args .ws .now) (args .header) (length (args .arena .now)) (sym (c .before .before .before .before .before .before .before .before .before .before .before .before .before .before .before .before .given-ok .ensures) ∙ not-false _ (c .before .before .before .before .before .before .before .before .before .before .before .before .before .before .before .if1 .left)))
+use-tiles-requires : tie.Need-use-tiles-requires
+use-tiles-requires c κs =
+    let args = c .before .before .before .before .before .before .before .before .before .before .before .before .before .before .before .before .before .args in
+    let given = sym (c .before .before .before .before .before .before .before .before .before .before .before .before .before .before .given-ok .ensures) ∙ not-false _ (c .before .before .before .before .before .before .before .before .before .before .before .before .before .if1 .left) in
+    (given-accepted (args .ws .now) (args .header) (length (args .arena .now)) given, rw (c .before .searched .ensures) (searched-tiles _ _ _ _ _ _ _))
 
 returns-5 : tie.Need-returns-5
 returns-5 c =
-    let args = c .before .before .before .before .before .before .before .before .before .before .before .before .before .before .before .before .before .before .before .before .before .args in
+    let args = c .before .before .before .before .before .before .before .before .before .before .before .before .before .before .before .before .before .before .before .args in
     let ws = args .ws .now in
-    let point = rw (got w32 (c .before .before .before .before .before .before .before .before .before .before .before .before .before .before .struct-told .given .0 .1), got w32 (c .before .before .before .before .before .before .before .before .before .before .before .before .before .struct-told2 .given .1 .0 .1)) at (c .before .before .before .before .before .before .before .before .before .before .before .before .is-point .ensures) in
-    let given = sym (c .before .before .before .before .before .before .before .before .before .before .before .before .before .before .before .before .before .before .given-ok .ensures) ∙ not-false _ (c .before .before .before .before .before .before .before .before .before .before .before .before .before .before .before .before .before .if1 .left) in
-    let lands = rw (c .before .before .before .before .uses .ensures, c .before .before .before .before .before .before .landings .ensures, c .before .before .before .before .before .before .before .before .near-of .ensures) at (c .before .before .before .made-at .ensures) in
-    let made = lands ∙ made-at-cache (args .m) (cacheOf ws 15) (args .arena .now) (args .header) (args .fix) (args .heading) in
-    rw (update-is ws (args .header) (args .arena .now) (args .m) (args .fix) (args .heading), given, sym (c .before .before .before .before .before .before .before .before .before .before .before .before .before .before .before .before .matcher-ok .ensures) ∙ not-false _ (c .before .before .before .before .before .before .before .before .before .before .before .before .before .before .before .if2 .left), sym point ∙ not-false _ (c .before .before .before .before .before .before .before .before .before .before .before .if3 .left), sym (c .before .before .before .before .before .before .before .before .before .before .heading-ok .ensures) ∙ not-false _ (c .before .before .before .before .before .before .before .before .before .if4 .left), c .before .put-uses .ensures .0, made)
-    (refl, (refl, left-matched ws (args .header) (args .arena .now) (args .m) (args .fix) (args .heading) given))
+    let point = rw (got w32 (c .before .before .before .before .before .before .before .before .before .before .before .before .struct-told .given .0 .1), got w32 (c .before .before .before .before .before .before .before .before .before .before .before .struct-told2 .given .1 .0 .1)) at (c .before .before .before .before .before .before .before .before .before .before .is-point .ensures) in
+    let given = sym (c .before .before .before .before .before .before .before .before .before .before .before .before .before .before .before .before .given-ok .ensures) ∙ not-false _ (c .before .before .before .before .before .before .before .before .before .before .before .before .before .before .before .if1 .left) in
+    let made : madeBy (c .before .before .before .before .landings .result) (usesOf (cacheOf ws 15)) (c .before .before .before .searched .result) ≡ madeOf (updated (args .m) (cacheOf ws 15) (args .arena .now) (args .header) (args .fix) (args .heading))
+    = rw (c .before .before .before .searched .ensures, c .before .before .before .before .landings .ensures, c .before .before .before .before .before .before .near-of .ensures) (made-by-cache (args .m) (cacheOf ws 15) (args .arena .now) (args .header) (args .fix) (args .heading)) in
+    rw (
+      update-is ws (args .header) (args .arena .now) (args .m) (args .fix) (args .heading),
+      given,
+      sym (c .before .before .before .before .before .before .before .before .before .before .before .before .before .before .matcher-ok .ensures) ∙ not-false _ (c .before .before .before .before .before .before .before .before .before .before .before .before .before .if2 .left),
+      sym point ∙ not-false _ (c .before .before .before .before .before .before .before .before .before .if3 .left),
+      sym (c .before .before .before .before .before .before .before .before .heading-ok .ensures) ∙ not-false _ (c .before .before .before .before .before .before .before .if4 .left),
+    )
+    (ap (λ (u : Made). u .answer) made, (ap (λ (u : Made). u .matcher) made, c .before .use-tiles .ensures ∙ ap (λ (u : Made). usesIn (u .uses) ws) made ∙ left-matched ws (args .header) (args .arena .now) (args .m) (args .fix) (args .heading) given))
 
 pub update-spec : {M : Type 1} → statement M
-update-spec = tie.close (tie.spec given-ok-requires refused-requires returns matcher-ok-requires refused-requires-2 returns-2 is-point-requires refused-requires-3 returns-3 heading-ok-requires refused-requires-4 returns-4 near-of-requires landings-requires uses-requires made-at-requires put-uses-requires returns-5)
+update-spec = tie.close (tie.spec given-ok-requires refused-requires returns matcher-ok-requires refused-requires-2 returns-2 is-point-requires refused-requires-3 returns-3 heading-ok-requires refused-requires-4 returns-4 near-of-requires landings-requires searched-requires use-tiles-requires returns-5)

@@ -2,7 +2,7 @@
 use mathlib.Core.Bool.{true≢false}
 use mathlib.Core.Path.{sym}
 use denote.Ref.{now}
-use Rattle.words.proofs.StepLaws.{works-accepted, works-by-plan, works-need, road-inside, no-header}
+use Rattle.words.proofs.StepLaws.{works-accepted, works-by-plan, works-need, no-header}
 use Rattle.words.proofs.WordsLaws.{words-engine}
 use borrow.Author.Needs.{needs}
 use Rattle.words.proofs.steps.worked.Statement.{statement}
@@ -24,7 +24,7 @@ enum-known-plan-2 : tie.Need-enum-known-plan-2
 enum-known-plan-2 c = search needs
 
 road-step-requires : tie.Need-road-step-requires
-road-step-requires c κs = (works-accepted (c .before .before .before .before .before .args .ws .now) (now (c .before .before .before .before .before .args .arena)) (c .before .before .before .before .before .pre), road-inside (c .before .before .before .before .before .args .ws .now) (now (c .before .before .before .before .before .args .arena)) (c .before .before .before .before .before .pre) (c .before .before .plan2 .given .1))
+road-step-requires c κs = works-accepted (c .before .before .before .before .before .args .ws .now) (now (c .before .before .before .before .before .args .arena)) (c .before .before .before .before .before .pre)
 
 enum-told-2 : tie.Need-enum-told-2
 enum-told-2 c = search needs

@@ -11,20 +11,16 @@ element-copy-out-wrapping-add-u32 c = search needs
 wrapping-add-u32-requires : tie.Need-wrapping-add-u32-requires
 wrapping-add-u32-requires c κs = search needs
 
-put-uses-requires : tie.Need-put-uses-requires
-put-uses-requires c κs = accepted-long (c .before .before .before .args .ws .now) (c .before .before .before .pre)
-
 put-due-requires : tie.Need-put-due-requires
-put-due-requires c κs = search needs
+put-due-requires c κs = accepted-long (c .before .before .before .args .ws .now) (c .before .before .before .pre)
 
 put-word-requires : tie.Need-put-word-requires
 put-word-requires c κs = search needs
 
 returns : tie.Need-returns
 returns c =
-    let start = c .before .before .before .before .before .before .before .before in
-    let ws = start .args .ws .now in
-    rw (c .put-word .ensures .0, c .before .before .put-due .ensures .0, c .before .before .before .before .put-uses .ensures .0) (asked-words ws (start .pre) _ (c .before .before .before .before .before .before .wrapping-add-u32 .ensures) (start .args .uses) (start .args .due))
+    let start = c .before .before .before .before .before .before in
+    rw (c .put-word .ensures .0, c .before .before .put-due .ensures .0) (asked-words (start .args .ws .now) (start .pre) _ (c .before .before .before .before .wrapping-add-u32 .ensures) (start .args .due))
 
 pub asks-spec : {M : Type 1} → statement M
-asks-spec = tie.close (tie.spec element-copy-out-wrapping-add-u32 wrapping-add-u32-requires put-uses-requires put-due-requires put-word-requires returns)
+asks-spec = tie.close (tie.spec element-copy-out-wrapping-add-u32 wrapping-add-u32-requires put-due-requires put-word-requires returns)

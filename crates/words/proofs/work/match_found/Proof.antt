@@ -11,11 +11,8 @@ element-copy-out-wrapping-add-u32 c = search needs
 wrapping-add-u32-requires : tie.Need-wrapping-add-u32-requires
 wrapping-add-u32-requires c κs = search needs
 
-put-uses-requires : tie.Need-put-uses-requires
-put-uses-requires c κs = accepted-long (c .before .before .before .args .ws .now) (c .before .before .before .pre)
-
 put-matcher-requires : tie.Need-put-matcher-requires
-put-matcher-requires c κs = search needs
+put-matcher-requires c κs = accepted-long (c .before .before .before .args .ws .now) (c .before .before .before .pre)
 
 put-due-requires : tie.Need-put-due-requires
 put-due-requires c κs = search needs
@@ -25,9 +22,8 @@ put-word-requires c κs = search needs
 
 returns : tie.Need-returns
 returns c =
-    let start = c .before .before .before .before .before .before .before .before .before .before in
-    let ws = start .args .ws .now in
-    rw (c .put-word .ensures .0, c .before .before .put-due .ensures .0, c .before .before .before .before .put-matcher .ensures .0, c .before .before .before .before .before .before .put-uses .ensures .0) (found-words ws (start .pre) _ (c .before .before .before .before .before .before .before .before .wrapping-add-u32 .ensures) (start .args .uses) (start .args .m) (start .args .due))
+    let start = c .before .before .before .before .before .before .before .before in
+    rw (c .put-word .ensures .0, c .before .before .put-due .ensures .0, c .before .before .before .before .put-matcher .ensures .0) (found-words (start .args .ws .now) (start .pre) _ (c .before .before .before .before .before .before .wrapping-add-u32 .ensures) (start .args .m) (start .args .due))
 
 pub match-found-spec : {M : Type 1} → statement M
-match-found-spec = tie.close (tie.spec element-copy-out-wrapping-add-u32 wrapping-add-u32-requires put-uses-requires put-matcher-requires put-due-requires put-word-requires returns)
+match-found-spec = tie.close (tie.spec element-copy-out-wrapping-add-u32 wrapping-add-u32-requires put-matcher-requires put-due-requires put-word-requires returns)

@@ -17,11 +17,8 @@ ahead-requires c κs = search needs
 emptied-requires : tie.Need-emptied-requires
 emptied-requires c κs = search needs
 
-put-uses-requires : tie.Need-put-uses-requires
-put-uses-requires c κs = accepted-long (c .before .before .before .before .before .before .args .ws .now) (c .before .before .before .before .before .before .pre)
-
 put-matcher-requires : tie.Need-put-matcher-requires
-put-matcher-requires c κs = search needs
+put-matcher-requires c κs = accepted-long (c .before .before .before .before .before .before .args .ws .now) (c .before .before .before .before .before .before .pre)
 
 put-due-requires : tie.Need-put-due-requires
 put-due-requires c κs = search needs
@@ -34,9 +31,10 @@ put-word-requires c κs = search needs
 
 returns : tie.Need-returns
 returns c =
-    let start = c .before .before .before .before .before .before .before .before .before .before .before .before .before .before .before in
+    let start = c .before .before .before .before .before .before .before .before .before .before .before .before .before in
     let ws = start .args .ws .now in
-    rw (c .put-word .ensures .0, c .before .before .put-ahead .ensures .0, c .before .before .before .before .put-due .ensures .0, c .before .before .before .before .before .before .put-matcher .ensures .0, c .before .before .before .before .before .before .before .before .put-uses .ensures .0, c .before .before .before .before .before .before .before .before .before .before .emptied .ensures, c .before .before .before .before .before .before .before .before .before .before .before .ahead .ensures, ahead-in ws) (lost-words ws (start .pre) _ (c .before .before .before .before .before .before .before .before .before .before .before .before .before .wrapping-add-u32 .ensures) (start .args .uses) (start .args .m) (start .args .due) (start .args .at-ms))
+    rw (c .put-word .ensures .0, c .before .before .put-ahead .ensures .0, c .before .before .before .before .put-due .ensures .0, c .before .before .before .before .before .before .put-matcher .ensures .0, c .before .before .before .before .before .before .before .before .emptied .ensures, c .before .before .before .before .before .before .before .before .before .ahead .ensures, ahead-in ws)
+    (lost-words ws (start .pre) _ (c .before .before .before .before .before .before .before .before .before .before .before .wrapping-add-u32 .ensures) (start .args .m) (start .args .due) (start .args .at-ms))
 
 pub match-lost-spec : {M : Type 1} → statement M
-match-lost-spec = tie.close (tie.spec element-copy-out-wrapping-add-u32 wrapping-add-u32-requires ahead-requires emptied-requires put-uses-requires put-matcher-requires put-due-requires put-ahead-requires put-word-requires returns)
+match-lost-spec = tie.close (tie.spec element-copy-out-wrapping-add-u32 wrapping-add-u32-requires ahead-requires emptied-requires put-matcher-requires put-due-requires put-ahead-requires put-word-requires returns)

@@ -1,10 +1,7 @@
 -- `work::road_rematch` meets its contract: the words that change are put.
 use borrow.Author.Needs.{needs}
 use Rattle.words.proofs.CountLaws.{accepted-long}
-use Rattle.matcher.specs.Calls.{reset}
-use Rattle.engine.specs.Work.{matchingOn}
-use Rattle.words.specs.Words.{engineOf}
-use Rattle.words.proofs.WorkLaws.{due-in, found-words}
+use Rattle.words.proofs.WorkLaws.{due-in, rematched-words}
 use Rattle.words.proofs.work.road_rematch.Statement.{statement}
 use Rattle.words.proofs.work.road_rematch.Tie as tie
 
@@ -36,7 +33,7 @@ returns : tie.Need-returns
 returns c =
     let start = c .before .before .before .before .before .before .before .before .before .before .before .before .before in
     let ws = start .args .ws .now in
-    rw (c .put-word .ensures .0, c .before .before .put-due .ensures .0, c .before .before .before .before .put-matcher .ensures .0, c .before .before .before .before .before .before .put-uses .ensures .0, c .before .before .before .before .before .before .before .before .reset .ensures, c .before .before .before .before .before .before .before .before .before .due .ensures, due-in ws) (found-words ws (start .pre) _ (c .before .before .before .before .before .before .before .before .before .before .before .wrapping-add-u32 .ensures) (start .args .uses) reset (matchingOn (engineOf ws .follower .due)))
+    rw (c .put-word .ensures .0, c .before .before .put-due .ensures .0, c .before .before .before .before .put-matcher .ensures .0, c .before .before .before .before .before .before .put-uses .ensures .0, c .before .before .before .before .before .before .before .before .reset .ensures, c .before .before .before .before .before .before .before .before .before .due .ensures, due-in ws) (rematched-words ws (start .pre) _ (c .before .before .before .before .before .before .before .before .before .before .before .wrapping-add-u32 .ensures) (start .args .uses))
 
 pub road-rematch-spec : {M : Type 1} → statement M
 road-rematch-spec = tie.close (tie.spec element-copy-out-wrapping-add-u32 wrapping-add-u32-requires due-requires reset-requires put-uses-requires put-matcher-requires put-due-requires put-word-requires returns)

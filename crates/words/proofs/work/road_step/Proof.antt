@@ -39,7 +39,7 @@ uses-from-requires : tie.Need-uses-from-requires
 uses-from-requires c κs = search needs
 
 road-ended-requires : tie.Need-road-ended-requires
-road-ended-requires c κs = c .before .before .before .before .before .before .before .before .before .before .before .before .before .before .before .before .before .before .pre .0
+road-ended-requires c κs = c .before .before .before .before .before .before .before .before .before .before .before .before .before .before .before .before .before .before .pre
 
 returns : tie.Need-returns
 returns c =
