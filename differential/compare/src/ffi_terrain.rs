@@ -605,8 +605,9 @@ pub struct Given {
     pub degrees: f32,
 }
 
+/// What a match tells.
 #[repr(C)]
-struct Updated {
+pub struct Updated {
     number: u32,
     outcome: u32,
     matched: MatchTold,
@@ -691,6 +692,19 @@ pub fn matcher_update(
     updated(m, w, arena, header, fix, given)
 }
 
+/// The call by itself, its answer as it is told.
+pub fn update_told(
+    m: &mut MatcherWords,
+    w: &mut Engine,
+    arena: &[u8],
+    header: Header,
+    fix: Point,
+    heading: Given,
+) -> Updated {
+    let (at, len) = (arena.as_ptr(), arena.len());
+    unsafe { terrain_matcher_update(m, w, at, len, header, fix, heading) }
+}
+
 /// The same with a heading as it is given, which may be none that there is.
 pub fn updated(
     m: &mut MatcherWords,
@@ -700,8 +714,7 @@ pub fn updated(
     fix: Point,
     heading: Given,
 ) -> Outcome {
-    let (at, len) = (arena.as_ptr(), arena.len());
-    let told = unsafe { terrain_matcher_update(m, w, at, len, header, fix, heading) };
+    let told = update_told(m, w, arena, header, fix, heading);
     let empty = is_none(&told.matched);
     match (told.number, told.outcome) {
         (0, 0) if !empty && told.key == NO_KEY => Outcome::Found(Matched(told.matched)),

@@ -101,8 +101,13 @@ pub fn repeat(script: &[Record], pack: &[u8], arena: &mut [u8], times: u32) -> u
     repeated::<cache::Session>(script, pack, arena, times)
 }
 
-pub fn repeat_matches(script: &[Record], pack: &[u8], arena: &mut [u8], times: u32) -> u32 {
-    repeated::<matching::State>(script, pack, arena, times)
+/// The state that a script on a matcher leaves, for timing calls on it by themselves.
+pub fn left_by_matches(script: &[Record], pack: &[u8], arena: &mut [u8]) -> matching::State {
+    let mut state = matching::State::new(pack, arena);
+    for record in script {
+        state.taken(record, pack, arena);
+    }
+    state
 }
 
 pub fn repeat_roads(script: &[Record], pack: &[u8], arena: &mut [u8], times: u32) -> u32 {

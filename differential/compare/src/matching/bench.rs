@@ -1,14 +1,14 @@
-//! Nanoseconds a match, the port beside the unaltered Rust, on tiles of three kinds. The port runs
-//! a script and then its last record many times from one state; the time of a record of no kind is
-//! taken off. The port checks the tile again with each lookup: the time of `Tile::parse` on the
-//! same tile is shown beside it, and the ratio with that taken off.
+//! Nanoseconds a match, the port beside the unaltered Rust, on tiles of three kinds: the call alone,
+//! the port's through C, each from a copy of one matcher, while the cache's clock goes on. The port
+//! checks the tile again with each lookup: the time of `Tile::parse` on the same tile is shown beside
+//! it, and the ratio with that taken off.
+use super::Case;
 use super::roads::{Fate, Grid, Network, Road};
 use super::script::*;
-use super::{Case, Writer};
 use crate::cache::script::{DONE, ends};
 use crate::count::{self, Side};
 use crate::random::Random;
-use crate::{ffi_format, replay, tally::Tally};
+use crate::{ffi_format, ffi_terrain as port, replay, tally::Tally};
 use oracle::{cache::Cache, geo::Point, matcher::Matcher, pack::Header, pack::TileKey};
 use oracle_cache::cache::PAGE_BYTES;
 use std::{hint::black_box, time::Instant};
@@ -50,34 +50,34 @@ fn network(roads: u64, vertices: u64) -> Network {
     Network::new(grid, roads, |_| Fate::There)
 }
 
-fn of_port(case: &Case) -> f64 {
-    let (script, arena) = (&case.script, &mut case.arena.clone());
-    let mut time = |times| {
-        best(|| {
-            black_box(replay::repeat_matches(script, &case.pack, arena, times));
-        })
+fn of_port(name: &str, case: &Case) -> f64 {
+    let mut arena = case.arena.clone();
+    let (_, before) = case.script.split_last().expect("the match that is timed");
+    let mut state = replay::left_by_matches(before, &case.pack, &mut arena);
+    let (header, before) = (state.session.header, state.matcher.is);
+    let run = || {
+        for _ in 0..TIMES {
+            let mut matcher = black_box(before);
+            let fix = black_box(port::Point { lat: FIX[0], lon: FIX[1] });
+            let heading = port::Given { known: 1, degrees: HEADING };
+            let words = &mut state.session.words.is;
+            black_box(port::update_told(&mut matcher, words, &arena, header, fix, heading));
+        }
     };
-    time(TIMES) - time(0)
+    if count::is_on() {
+        count::add(name, Side::Port, TIMES, run);
+        return 0.0;
+    }
+    best(run)
 }
 
-/// The same in instructions: the calls are those of `full` less those of `empty`, each less its
-/// setup.
-fn count_port(name: &str, full: &Case, empty: &Case) {
-    let run = |case: &Case, times| {
-        let mut arena = case.arena.clone();
-        black_box(replay::repeat_matches(&case.script, &case.pack, &mut arena, times));
-    };
-    count::add(name, Side::Port, TIMES, || run(full, TIMES));
-    count::take_off(name, Side::Port, TIMES, || run(full, 0));
-    count::take_off(name, Side::Port, TIMES, || run(empty, TIMES));
-    count::add(name, Side::Port, TIMES, || run(empty, 0));
-}
-
-fn case(network: &Network, last: impl Fn(&mut Writer)) -> Case {
+/// The tile loaded, a match beside the road to go on from, and the one that is timed.
+fn case(network: &Network) -> Case {
     Case::new(&network.pack, vec![0; 8 * PAGE_BYTES], |writer| {
         assert_eq!(writer.settle(0), ends(DONE));
-        assert_eq!(writer.update(FIX[0], FIX[1] - 100, Some(HEADING))[0], FOUND);
-        last(writer);
+        for west in [100, 0] {
+            assert_eq!(writer.update(FIX[0], FIX[1] - west, Some(HEADING))[0], FOUND);
+        }
     })
 }
 
@@ -110,22 +110,14 @@ fn of_rust(name: &str, network: &Network) -> f64 {
 
 fn beside(name: &str, roads: u64, vertices: u64) -> Tally {
     let network = network(roads, vertices);
-    let case_of = |kind| {
-        case(&network, |writer| {
-            let heading = HEADING.to_bits();
-            writer.put(kind, &[FIX[0] as u32, FIX[1] as u32, 1, heading]);
-        })
-    };
-    let (full, empty) = (case_of(UPDATE), case_of(36));
+    let case = case(&network);
     let mut tally = Tally::new(name);
-    full.count(&mut tally, name);
+    case.count(&mut tally, name);
+    let port = of_port(name, &case);
+    let rust = of_rust(name, &network);
     if count::is_on() {
-        count_port(name, &full, &empty);
-        of_rust(name, &network);
         return tally;
     }
-    let port = of_port(&full) - of_port(&empty);
-    let rust = of_rust(name, &network);
     let tile = network.plains[0].bytes();
     let check = best(|| {
         for _ in 0..TIMES {
