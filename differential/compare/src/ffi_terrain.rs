@@ -692,19 +692,6 @@ pub fn matcher_update(
     updated(m, w, arena, header, fix, given)
 }
 
-/// The call by itself, its answer as it is told.
-pub fn update_told(
-    m: &mut MatcherWords,
-    w: &mut Engine,
-    arena: &[u8],
-    header: Header,
-    fix: Point,
-    heading: Given,
-) -> Updated {
-    let (at, len) = (arena.as_ptr(), arena.len());
-    unsafe { terrain_matcher_update(m, w, at, len, header, fix, heading) }
-}
-
 /// The same with a heading as it is given, which may be none that there is.
 pub fn updated(
     m: &mut MatcherWords,
@@ -723,6 +710,19 @@ pub fn updated(
         (number @ 1..NONE, 3) if empty && told.key == NO_KEY => Outcome::Refused(number),
         (number, tag) => panic!("an update told as {number}, {tag}"),
     }
+}
+
+/// The call by itself, its answer as it is told, for timing.
+pub fn update_told(
+    m: &mut MatcherWords,
+    w: &mut Engine,
+    arena: &[u8],
+    header: Header,
+    fix: Point,
+    heading: Given,
+) -> Updated {
+    let (at, len) = (arena.as_ptr(), arena.len());
+    unsafe { terrain_matcher_update(m, w, at, len, header, fix, heading) }
 }
 
 /// The keys, no key past the last.

@@ -101,6 +101,14 @@ pub fn repeat(script: &[Record], pack: &[u8], arena: &mut [u8], times: u32) -> u
     repeated::<cache::Session>(script, pack, arena, times)
 }
 
+pub fn repeat_roads(script: &[Record], pack: &[u8], arena: &mut [u8], times: u32) -> u32 {
+    repeated::<road::Roads>(script, pack, arena, times)
+}
+
+pub fn repeat_engine(script: &[Record], packs: &[u8], arena: &mut [u8], times: u32) -> u32 {
+    repeated::<engine::State>(script, packs, arena, times)
+}
+
 /// The state that a script on a matcher leaves, for timing calls on it by themselves.
 pub fn left_by_matches(script: &[Record], pack: &[u8], arena: &mut [u8]) -> matching::State {
     let mut state = matching::State::new(pack, arena);
@@ -108,14 +116,6 @@ pub fn left_by_matches(script: &[Record], pack: &[u8], arena: &mut [u8]) -> matc
         state.taken(record, pack, arena);
     }
     state
-}
-
-pub fn repeat_roads(script: &[Record], pack: &[u8], arena: &mut [u8], times: u32) -> u32 {
-    repeated::<road::Roads>(script, pack, arena, times)
-}
-
-pub fn repeat_engine(script: &[Record], packs: &[u8], arena: &mut [u8], times: u32) -> u32 {
-    repeated::<engine::State>(script, packs, arena, times)
 }
 
 fn repeated<S: Script>(script: &[Record], pack: &[u8], arena: &mut [u8], times: u32) -> u32 {

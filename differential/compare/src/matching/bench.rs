@@ -50,17 +50,22 @@ fn network(roads: u64, vertices: u64) -> Network {
     Network::new(grid, roads, |_| Fate::There)
 }
 
+/// The case's last record, from the state that the others leave.
 fn of_port(name: &str, case: &Case) -> f64 {
     let mut arena = case.arena.clone();
-    let (_, before) = case.script.split_last().expect("the match that is timed");
-    let mut state = replay::left_by_matches(before, &case.pack, &mut arena);
+    let (last, others) = case.script.split_last().expect("the match that is timed");
+    let mut state = replay::left_by_matches(others, &case.pack, &mut arena);
     let (header, before) = (state.session.header, state.matcher.is);
+    let fix = port::Point { lat: last[1] as i32, lon: last[2] as i32 };
+    let degrees = f32::from_bits(last[4]);
+    let words = &mut state.session.words.is;
+    let found =
+        port::matcher_update(&mut before.clone(), words, &arena, header, fix, Some(degrees));
+    assert!(matches!(found, port::Outcome::Found(_)), "a match");
     let run = || {
         for _ in 0..TIMES {
-            let mut matcher = black_box(before);
-            let fix = black_box(port::Point { lat: FIX[0], lon: FIX[1] });
-            let heading = port::Given { known: 1, degrees: HEADING };
-            let words = &mut state.session.words.is;
+            let (mut matcher, fix) = (black_box(before), black_box(fix));
+            let heading = port::Given { known: 1, degrees };
             black_box(port::update_told(&mut matcher, words, &arena, header, fix, heading));
         }
     };
@@ -94,6 +99,10 @@ fn of_rust(name: &str, network: &Network) -> f64 {
         .update(&cache, &header, fix(FIX[1] - 100), Some(HEADING))
         .expect("a tile")
         .expect("a match");
+    assert!(matches!(
+        before.clone().update(&cache, &header, fix(FIX[1]), Some(HEADING)),
+        Ok(Some(_))
+    ));
     let run = || {
         for _ in 0..TIMES {
             let mut matcher = black_box(before);
