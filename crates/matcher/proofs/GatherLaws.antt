@@ -36,42 +36,13 @@ use Rattle.matcher.specs.Keeping.{noneKept}
 use Rattle.matcher.specs.declared.Heading.{Heading}
 use Rattle.matcher.specs.declared.Kept.{Kept}
 use Rattle.matcher.specs.declared.Landings.{Landings}
-use Rattle.matcher.specs.declared.Made.{Made}
 use Rattle.matcher.specs.declared.Matcher.{Matcher}
 use Rattle.matcher.specs.declared.Query.{Query}
 use Rattle.matcher.specs.declared.gather.Ending.{Ending}
 use Rattle.matcher.specs.declared.gather.Ending.the-variants as Ending
 use Rattle.matcher.specs.declared.NearKeys.{NearKeys}
 use Rattle.matcher.specs.Near.{keyAt, nearOf}
-use Rattle.matcher.specs.Gather.{
-  Run,
-  Gathered,
-  lookStep,
-  runStep,
-  runTo,
-  matchingBy,
-  queryOf,
-  runOver,
-  updateOver,
-  cacheAfter,
-  updated,
-  gatheredWith,
-  soFar,
-  finished,
-  endedBy,
-  ended,
-  land,
-  landings,
-  landedAt,
-  gatherKey,
-  gatherStep,
-  gatheredTo,
-  searched,
-  usedBy,
-  usesAfter,
-  madeOf,
-  madeBy,
-}
+use Rattle.matcher.specs.Gather.{Run, Gathered, lookStep, runStep, runTo, matchingBy, queryOf, runOver, updateOver, cacheAfter, updated, gatheredWith, soFar, finished, endedBy, land, landings, landedAt, gatherKey, gatherStep, gatheredTo, searched, usedBy, usesAfter, madeOf, madeBy}
 
 -- a run that passes lies in the arena, so its bytes are all there
 pub bytes-are : (arena : List ℕ) (first len : ℕ) (key : TileKey) (size : ℕ) → passes arena first len key size ≡ true

@@ -6,14 +6,13 @@ use mathlib.Core.List.{List}
 use native.Mathlib.Omega.{arith}
 use lib.Dec.{ltb}
 use borrow.Author.Tests.{lt-ltb, le-ltb, ne-eqb, ltb-true, ltb-false}
-use Rattle.pack.specs.Bytes.{u16At}
 use Rattle.pack.specs.declared.Header.{Header}
 use Rattle.pack.specs.declared.TileKey.{TileKey}
 use Rattle.tile.specs.Layout as Layout
 use Rattle.tile.specs.declared.Edge.{Edge}
 use Rattle.geo.specs.Points as Points
 use Rattle.matcher.specs.Scan.{pointOf}
-use Rattle.matcher.specs.Standing.{nextAt}
+use Rattle.matcher.specs.Standing.{nextAt, xyAt}
 
 -- the place of point i + 1
 place-by : (bs : List ℕ) (e : Edge) (i : ℕ) (t : Bool) → ltb i (e .vertices) ≡ t
@@ -28,12 +27,12 @@ place-by bs e i false h =
 
 -- no elevation goes into a point
 flat : (h : Header) (key : TileKey) (bs : List ℕ) (at : ℕ)
-    → Points.pointOf h key (record { x = u16At bs at; y = u16At bs (at + 2); z = 0 }) ≡ Points.pointOf h key (Layout.placeAt bs at)
+    → Points.pointOf h key (xyAt bs at) ≡ Points.pointOf h key (Layout.placeAt bs at)
 unfolding Points.pointOf Layout.placeAt
 flat h key bs at = refl
 
 pub next-is : (h : Header) (bs : List ℕ) (key : TileKey) (e : Edge) (base i : ℕ) → base ≡ Layout.vertexStart bs (e .«first_vertex»)
-    → Points.pointOf h key (record { x = u16At bs (nextAt base e i); y = u16At bs (nextAt base e i + 2); z = 0 }) ≡ pointOf h bs key e (i + 1)
+    → Points.pointOf h key (xyAt bs (nextAt base e i)) ≡ pointOf h bs key e (i + 1)
 unfolding pointOf
 next-is h bs key e base i is =
     flat h key bs (nextAt base e i)

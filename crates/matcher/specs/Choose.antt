@@ -1,10 +1,9 @@
 -- Which candidate the match goes to: `matcher.rs`, `update`, from the cheapest on.
 use Prim.Native.Nat.{ℕ, _+_}
-use mathlib.Core.Bool.{Bool, true, false, _&&_, _||_, not, cond}
+use mathlib.Core.Bool.{Bool, true, _&&_, _||_, not, cond}
 use lib.Dec.{eqb, ltb}
 use lib.Ieee.{Float, binary32, add, le}
 use Rattle.num.specs.Order.{totalCmp}
-use Rattle.tile.specs.declared.TileId.{TileId}
 use Rattle.geo.specs.Flat.{whole}
 use Rattle.cache.specs.declared.victim.Found.{Found}
 use Rattle.cache.specs.declared.victim.Found.the-variants as Found

@@ -1,9 +1,8 @@
 -- The match that is made of the candidate chosen, or a miss: `matcher.rs`, `update`, its confidence, direction and ridden metres. Each float
 -- operation is rounded once, in the Rust's order.
 use Prim.Native.Nat.{ℕ, _+_}
-use mathlib.Core.Bool.{Bool, true, false, _&&_, _||_, not, cond}
+use mathlib.Core.Bool.{Bool, true, false, _&&_, not, cond}
 use lib.Dec.{ltb}
-use lib.IntN.{ℤ}
 use lib.Ieee.{Float, binary32, inf, ofBits, toUnsigned, sub, mul, div}
 use Rattle.num.specs.Order as Order
 use Rattle.geo.specs.Flat.{whole}

@@ -65,6 +65,26 @@ fn next_at(base: usize, edge: Edge, i: u16) -> usize
     32 + (edge.to as usize) * 8
 }
 
+// The x and y that stand at `at`, with no elevation: out of a slice of their own where the four bytes are there, so that one test is made for both numbers.
+fn xy_at(bytes: &[u8], at: usize) -> Node
+    requires { ⌜ at < 2 ^ 41 ⌝ }
+    ensures { λ r. ⌜ r ≡ Standing.xyAt (now (bytes .entry)) at ⌝ }
+{
+    if bytes.len() < at + 4 {
+        return Node {
+            x: pack::bytes::u16_at(bytes, at),
+            y: pack::bytes::u16_at(bytes, at + 2),
+            z: 0,
+        };
+    }
+    let four = &bytes[at..at + 4];
+    Node {
+        x: pack::bytes::u16_at(four, 0),
+        y: pack::bytes::u16_at(four, 2),
+        z: 0,
+    }
+}
+
 // The point behind segment `i` of an edge. Its elevation is not read.
 fn next_point(header: Header, bytes: &[u8], key: TileKey, edge: Edge, base: usize, i: u16) -> Point
     requires { ⌜ base ≡ Layout.vertexStart (now bytes) (edge .«first_vertex») ⌝ }
@@ -72,11 +92,7 @@ fn next_point(header: Header, bytes: &[u8], key: TileKey, edge: Edge, base: usiz
     ensures { λ r. ⌜ r ≡ Scan.pointOf header (now (bytes .entry)) key edge (i + 1) ⌝ }
 {
     let at = next_at(base, edge, i);
-    let node = Node {
-        x: pack::bytes::u16_at(bytes, at),
-        y: pack::bytes::u16_at(bytes, at + 2),
-        z: 0,
-    };
+    let node = xy_at(bytes, at);
     geo::flat::point(header, key, node)
 }
 

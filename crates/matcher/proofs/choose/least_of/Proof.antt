@@ -5,7 +5,6 @@ use native.Mathlib.Omega.{arith}
 use lib.ListN.{length, length-map}
 use borrow.Author.Needs.{needs}
 use Rattle.geo.proofs.Literals.{literal-0}
-use Rattle.matcher.specs.declared.choose.Least.{Least}
 use Rattle.matcher.specs.Choose.{leastTo}
 use Rattle.matcher.proofs.PlaceLaws.{least-start, least-next}
 use Rattle.matcher.proofs.choose.least_of.Statement.{statement}

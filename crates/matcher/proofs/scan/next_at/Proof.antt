@@ -1,5 +1,4 @@
 -- `matcher::scan::next_at` meets its contract: by whether a vertex is behind the segment.
-use native.Mathlib.Omega.{arith}
 use borrow.Author.Needs.{needs}
 use borrow.Author.Tests.{lt-ltb, le-ltb}
 use Rattle.matcher.proofs.scan.next_at.Statement.{statement}

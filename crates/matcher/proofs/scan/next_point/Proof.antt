@@ -7,26 +7,18 @@ use Rattle.matcher.proofs.scan.next_point.Tie as tie
 next-at-requires : tie.Need-next-at-requires
 next-at-requires c κs = search needs
 
-u16-at-requires : tie.Need-u16-at-requires
-u16-at-requires c κs = tt
-
-add-u16-at : tie.Need-add-u16-at
-add-u16-at c = search needs
-
-u16-at-requires-2 : tie.Need-u16-at-requires-2
-u16-at-requires-2 c κs = tt
+xy-at-requires : tie.Need-xy-at-requires
+xy-at-requires c κs = search needs
 
 point-requires : tie.Need-point-requires
 point-requires c κs = tt
 
 returns : tie.Need-returns
 returns c =
-    let start = c .before .before .before .before .before in
+    let start = c .before .before .before .before in
     let args = start .args in
-    rw (c .point .ensures, c .before .u16-at2 .ensures, c .before .before .u16-at .ensures, c .before .before .before .next-at .ensures .0)
+    rw (c .point .ensures, c .before .xy-at .ensures, c .before .before .next-at .ensures .0)
     (next-is (args .header) (args .bytes .now) (args .key) (args .edge) (args .base) (args .i) (start .pre .0))
 
 pub next-point-spec : {M : Type 1} → statement M
-next-point-spec =
-    tie.close
-    (tie.spec next-at-requires u16-at-requires add-u16-at u16-at-requires-2 point-requires returns)
+next-point-spec = tie.close (tie.spec next-at-requires xy-at-requires point-requires returns)
