@@ -33,7 +33,7 @@ ghost use mathlib.Core.List.{[], _∷_};
 ghost use Prim.Native.Nat.{_+_, _≤_};
 ghost use lib.ListN.{length};
 ghost use Rattle.num.specs.Cast.{bits32};
-ghost use Rattle.words.specs.Put.{put};
+ghost use Rattle.words.specs.Put.{put, usesIn};
 ghost use Rattle.words.specs.Words as Words;
 
 // The words of one piece, at their place.
@@ -231,7 +231,7 @@ fn put_used(used: &[u32; cache::MAX_PAGES], out: &mut [u32; crate::WORDS])
 // What lookups change: when each page was last used, and the clock.
 pub(crate) fn put_uses(a: Aging, out: &mut [u32; crate::WORDS])
     requires { ⌜ length (now out) ≡ 1150 ⌝ }
-    ensures { λ r. ⌜ now (out .exit) ≡ put 400 (a .clock ∷ []) (put 303 (Words.usedWords (a .used)) (now (out .entry))) ⌝ }
+    ensures { λ r. ⌜ now (out .exit) ≡ usesIn a (now (out .entry)) ⌝ }
     ensures { λ r. ⌜ length (now (out .exit)) ≡ 1150 ⌝ }
 {
     put_used(&a.used, out);
