@@ -1,17 +1,16 @@
 -- A step over a lent pack is `fetch` followed by `load` (`from-steps`): what `load_from` does in one pass is what its definition says in two.
 -- The idea: by the next step; the bytes that the pack yields have the read's length, and a chunk of a load that is not refused has at least
 -- one byte, so that failure 2 answers it.
-use Prim.Native.Nat.{ℕ, _+_, _-_, _<_, _≤_}
-use mathlib.Core.Path.{_≡_, refl, sym, ap, _∙_}
-use mathlib.Core.Bool.{Bool, true, false, _&&_, not, cond}
+use Prim.Native.Nat.{ℕ, _+_, _-_, _<_}
+use mathlib.Core.Path.{_≡_, refl}
+use mathlib.Core.Bool.{Bool, true, false, not, cond}
 use mathlib.Core.List.{List, [], _∷_}
 use native.Mathlib.Omega.{arith}
 use borrow.Author.Tests.{ltb-true, leb-true, lt-ltb, eq-eqb}
 use lib.Dec.{eqb, ltb, leb}
-use lib.ListN.{length, take, drop, length-drop}
+use lib.ListN.{length, drop, length-drop}
 use lib.Seq.{length-take-le}
 use Rattle.pack.specs.Grid.{inGrid, entryOf, read}
-use Rattle.pack.specs.Sector.{rules}
 use Rattle.pack.specs.declared.TileKey.{TileKey}
 use Rattle.pack.specs.declared.Header.{Header}
 use Rattle.pack.proofs.Laws.{and-left, and-right, clause}
@@ -26,9 +25,9 @@ use Rattle.cache.specs.declared.next.Next.{Next}
 use Rattle.cache.specs.declared.next.Next.the-variants as Next
 use Rattle.cache.specs.Keys.{sameKey, holds}
 use Rattle.cache.specs.Lookups.{landsOn, nextRead, nextAt, nextStep, passes, lenAt}
-use Rattle.cache.specs.State.{tileLoads, loadsOk, stateOk, arenaOk, cacheOk, runsOk, ringOk, loadOk, pendingOk}
-use Rattle.cache.specs.Loads.{After, chunkLen, chunkOffset, fetched, packBytes, steppedFrom}
-use Rattle.cache.specs.Calls.{fetch, load, loadBy, requestLoad, loadFrom}
+use Rattle.cache.specs.State.{tileLoads, loadsOk, stateOk, cacheOk, runsOk, ringOk, loadOk, pendingOk}
+use Rattle.cache.specs.Loads.{chunkLen, chunkOffset, fetched, packBytes, steppedFrom}
+use Rattle.cache.specs.Calls.{fetch, load, requestLoad, loadFrom}
 
 -- ---- the load of the next chunk
 

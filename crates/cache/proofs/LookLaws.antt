@@ -3,8 +3,8 @@
 -- pages (`got-ready`, `got-missing`), and the late check of what the lookup landed on (`checked-landed`). The idea: `touched` has the record
 -- outside, so that what a lookup reads is the old by computation.
 use Prim.Native.Nat.{ℕ, _+_, _*_, _≤_}
-use mathlib.Core.Path.{_≡_, refl, sym, _∙_}
-use mathlib.Core.Bool.{Bool, true, false, _&&_, cond}
+use mathlib.Core.Path.{_≡_, refl, _∙_}
+use mathlib.Core.Bool.{Bool, true, false, cond}
 use mathlib.Core.List.{List, [], _∷_, _++_}
 use native.Mathlib.Omega.{arith}
 use borrow.Author.Tests.{leb-true}
@@ -14,14 +14,13 @@ use Rattle.pack.specs.declared.TileKey.{TileKey}
 use Rattle.pack.proofs.Laws.{and-left, and-right}
 use Rattle.tile.specs.Parse.{accepts}
 use Rattle.cache.specs.declared.Cache.{Cache}
-use Rattle.cache.specs.declared.Got.{Got}
 use Rattle.cache.specs.declared.Lookup.{Lookup}
 use Rattle.cache.specs.declared.Lookup.the-variants as Lookup
 use Rattle.cache.specs.declared.look.Landing.{Landing}
 use Rattle.cache.specs.declared.look.Landing.the-variants as Landing
 use Rattle.cache.specs.Lookups.{landsOn, runBytes, passes, lenAt, touched, gotReady, gotAt, got, landedBy, landed, checked, nextAt, nextStep}
 use Rattle.cache.specs.Keys.{readyAt}
-use Rattle.cache.specs.Direct.{Look, ready, missing, absent, stale, lookAt, look, looked, Aged}
+use Rattle.cache.specs.Direct.{Look, ready, missing, stale, lookAt, look, looked, Aged}
 use Rattle.cache.specs.Uses.{usesOf, usedAt, withUses}
 
 -- ---- the most recently used changes no lookup

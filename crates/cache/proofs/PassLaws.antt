@@ -14,7 +14,7 @@ use lib.ListN.{length}
 use Rattle.cache.specs.declared.Slot.{Slot}
 use Rattle.cache.specs.declared.Pages.{Pages}
 use Rattle.cache.specs.declared.runs.LastRun.{LastRun}
-use Rattle.cache.specs.Runs.{span, slotAt, Kind, bare, run, piece, kindAt, endOf, isRun, noKey, runsOk, PieceGood, KindGood, Good}
+use Rattle.cache.specs.Runs.{slotAt, Kind, bare, run, piece, kindAt, endOf, isRun, noKey, runsOk, PieceGood, KindGood, Good}
 use Rattle.cache.specs.Pass.{fitsBy, fits, after}
 use Rattle.cache.proofs.Below.{below-or, same-or, and-left, and-right}
 use Rattle.cache.proofs.RunLaws.{past-good, ok-is-good, good-is-ok, run-at}

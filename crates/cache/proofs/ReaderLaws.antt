@@ -33,49 +33,10 @@ use Rattle.cache.specs.Direct.{ready, stale, lookAt, look, looked}
 use Rattle.cache.proofs.Below.{same-or, below-or}
 use Rattle.cache.proofs.SearchLaws.{lowest-at, lowest-same, lowest-end}
 use Rattle.cache.proofs.LookLaws.{looked-more, got-touched, passes-inside}
-use Rattle.cache.specs.Ages.{
-  pagesIn,
-  ringIn,
-  most,
-  lookupsOf,
-  agesTo,
-  aged,
-  isKeyAt,
-  inRing,
-  orPast,
-  pageOf,
-  inside,
-  known,
-  marked,
-  Hit,
-  hitRun,
-  hitPage,
-  wasFound,
-  lookUp,
-  bytesOf,
-}
+use Rattle.cache.specs.Ages.{pagesIn, ringIn, most, lookupsOf, agesTo, aged, isKeyAt, inRing, orPast, pageOf, inside, known, marked, Hit, hitRun, hitPage, wasFound, lookUp, bytesOf}
 use Rattle.cache.specs.Reader.{inBytes, inLooks}
 use Rattle.cache.specs.Stands.{Sized, Taken, Sound, Stands}
-use Rattle.cache.proofs.LooksLaws.{
-  key-tells,
-  ready-tells,
-  pages-length,
-  pages-marks,
-  pages-age,
-  pages-row,
-  pages-col,
-  pages-len,
-  ring-length,
-  ring-below,
-  ring-row,
-  ring-col,
-  ages-are,
-  last-below,
-  marked-length,
-  marked-other,
-  marked-clock,
-  marked-ages,
-}
+use Rattle.cache.proofs.LooksLaws.{key-tells, ready-tells, pages-length, pages-marks, pages-age, pages-row, pages-col, pages-len, ring-length, ring-below, ring-row, ring-col, ages-are, last-below, marked-length, marked-other, marked-clock, marked-ages}
 
 -- ---- a slot is one key's
 

@@ -2,7 +2,7 @@
 -- they are well-formed: document 01's number 12 for "page runs that overlap, pass the page count or lack a part". A later page whose run
 -- does not reach it is of a run that lacks its first part. The test stands here twice, as the Bool that `runs_ok` answers, page by page, and
 -- as facts of each page (`Good`). Every page has a slot: past the last stands the empty one.
-use Prim.Native.Nat.{ℕ, zero, suc, _+_, _-_, _/_, _<_, _≤_}
+use Prim.Native.Nat.{ℕ, _+_, _-_, _/_, _<_, _≤_}
 use mathlib.Core.Bool.{Bool, true, false, _&&_}
 use mathlib.Core.List.{List}
 use mathlib.Core.Path.{_≡_}

@@ -3,7 +3,7 @@
 -- ring; a load without its run, or done not below its length; an open fetch that the state would not make; a header that `Header::parse`
 -- would refuse; an arena shorter than its pages.
 use Prim.Native.Nat.{ℕ, _*_, _/_, min}
-use mathlib.Core.Bool.{Bool, true, false, _&&_, not, cond}
+use mathlib.Core.Bool.{Bool, true, false, _&&_, not}
 use mathlib.Core.List.{List, [], _∷_}
 use lib.Dec.{eqb, ltb, leb}
 use lib.ListN.{length, replicate}

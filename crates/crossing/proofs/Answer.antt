@@ -12,8 +12,8 @@ use Rattle.pack.specs.declared.TileKey.{TileKey}
 use Rattle.tile.specs.Layout.{edgeOf}
 use Rattle.tile.specs.Parse.{accepts}
 use Rattle.geo.specs.declared.Point.{Point}
-use Rattle.crossing.specs.Crossing.{refusal, numberOf, IsSegment, MeetsTransect, pointAt, Crosses}
-use Rattle.crossing.specs.Sides.{placeOf, Passed, Small, meetsAt, InTile}
+use Rattle.crossing.specs.Crossing.{refusal, numberOf, MeetsTransect, pointAt, Crosses}
+use Rattle.crossing.specs.Sides.{placeOf, Passed, meetsAt, InTile}
 use Rattle.crossing.specs.declared.Crossed.{Crossed}
 use Rattle.crossing.specs.declared.Crossed.the-variants as Crossed
 use Rattle.crossing.proofs.Reach.{end-reach, point-reach}

@@ -5,7 +5,7 @@ use mathlib.Core.Path.{_≡_, refl, sym, ap, _∙_}
 use mathlib.Core.Bool.{Bool, true, false, _&&_, _||_, not, cond, true≢false}
 use native.Mathlib.Omega.{arith}
 use lib.Dec.{ltb}
-use lib.IntN.{ℤ, pos, negsuc, _+ℤ_, _*ℤ_}
+use lib.IntN.{ℤ, pos, _+ℤ_, _*ℤ_}
 use borrow.Author.Tests.{ltb-true, ltb-false, lt-ltb, le-ltb}
 use Rattle.pack.proofs.Signed.{up, dn, add, mul, same}
 use Rattle.geo.specs.declared.Point.{Point}
@@ -13,7 +13,7 @@ use Rattle.crossing.specs.Segments.{along, Meet}
 use Rattle.crossing.specs.Sides.{raised, placeOf, side, left, beside, apart, meets}
 use Rattle.crossing.specs.declared.Place.{Place}
 use Rattle.crossing.proofs.Reach.{raised-is, Near}
-use Rattle.crossing.proofs.Plane.{Common, exchanged, no-gap-y, no-gap-x, not-left, not-right, Joined, found}
+use Rattle.crossing.proofs.Plane.{Common, exchanged, no-gap-y, no-gap-x, not-left, not-right, found}
 
 -- ---- the tests over ℕ
 

@@ -1,8 +1,8 @@
 -- The direct engine's last match is the published one, as long as no empty Memory answer was published. The idea: what a step publishes, and what the
 -- direct engine keeps of it, are the same function of what the step shows (`keptOf`).
 use Prim.Native.Nat.{ℕ, _+_}
-use mathlib.Core.Path.{_≡_, refl, sym, ap, subst, _∙_}
-use mathlib.Core.Bool.{Bool, true, false, _&&_, not, cond, true≢false}
+use mathlib.Core.Path.{_≡_, refl, sym, ap, _∙_}
+use mathlib.Core.Bool.{Bool, true, false, not, cond, true≢false}
 use mathlib.Core.List.{List, [], _∷_, _++_}
 use native.Mathlib.Omega.{arith}
 use lib.Dec.{eqb}
@@ -47,16 +47,16 @@ use Rattle.direct.specs.Lists as Calls
 use Rattle.direct.specs.Lists.{World, Call, numberOfTaken, exec, start, Along}
 use Rattle.direct.specs.Finished as Shows
 use Rattle.direct.specs.Finished.{Shown, isRoad, Task, taskOf, matchOf, roadAt, matchShown, roadShown, taskShown, stepShown, shown}
-use Rattle.direct.specs.Direct.{Made, Told, Lookup, headerOf, directly, Held, withMatcher, fixed, Worked, idle, stuck, matchWorked, roadWorked, currentWorked, keyWorked, fixWorked, stepWorkedBy, stepWorked, matchHeld, roadHeld, worked, Waiting, aFix, aLoss, Direct, newDirect, acted, applied, queued, settled, cleared, turned, packAfter, directExec}
-use Rattle.direct.specs.Claims.{isFetching, toldOf, tolds, Fair, AllFair, madeOf, Answers}
+use Rattle.direct.specs.Direct.{Made, Told, Lookup, headerOf, directly, Held, withMatcher, fixed, Worked, idle, stuck, matchWorked, roadWorked, currentWorked, keyWorked, stepWorkedBy, stepWorked, matchHeld, roadHeld, worked, Waiting, aFix, aLoss, Direct, newDirect, acted, applied, queued, settled, cleared, turned, packAfter, directExec}
+use Rattle.direct.specs.Claims.{isFetching, toldOf, tolds, AllFair, madeOf, Answers}
 use Rattle.direct.specs.Story.{after}
-use Rattle.direct.specs.Last.{directAfter, lastOf, taskRemembers, NoMemory, Tells, AllLast}
+use Rattle.direct.specs.Last.{directAfter, lastOf, taskRemembers, NoMemory, AllLast}
 use Rattle.engine_states.proofs.Ways as Ways
 use Rattle.engine_states.proofs.Ways.{Steps, Lends, step-is, lends-is}
 use Rattle.direct.proofs.Beside.{match-asks, deliver-left}
 use Rattle.direct.proofs.Fit.{Fit, fit-after, fit-start}
 use Rattle.direct.proofs.Seen.{toldBy, made-current}
-use Rattle.direct.proofs.Linked.{Linked, isNone, none-shows, Busy, busy, Silent, fetch-silent, Alike, StepTurn, step-turn, lent-turn, turn-alike}
+use Rattle.direct.proofs.Linked.{Linked, isNone, none-shows, busy, Silent, fetch-silent, Alike, StepTurn, step-turn, lent-turn, turn-alike}
 
 -- the match kept of what a step shows
 abbrev keptOf : Shown → Current → Current

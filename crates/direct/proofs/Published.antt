@@ -7,11 +7,8 @@ use mathlib.Core.List.{List, [], _∷_}
 use mathlib.Core.Logic.{_⊎_, inl, inr}
 use native.Mathlib.Omega.{arith}
 use lib.Dec.{eqb}
-use lib.Ieee.{Float}
 use lib.ListN.{length}
 use Rattle.pack.specs.Grid.{isPoint}
-use Rattle.pack.specs.declared.TileKey.{TileKey}
-use Rattle.cache.specs.declared.Cache.{Cache}
 use Rattle.matcher.specs.declared.Current.{Current}
 use Rattle.matcher.specs.declared.Current.the-variants as Current
 use Rattle.matcher.specs.declared.Matched.{Matched}
@@ -21,7 +18,6 @@ use Rattle.matcher.specs.declared.Matcher.{Matcher}
 use Rattle.matcher.specs.declared.Outcome as MatchOutcome
 use Rattle.matcher.specs.declared.Outcome.the-variants as Match
 use Rattle.predict.specs.declared.End.the-variants as End
-use Rattle.predict.specs.Predict as Predict
 use Rattle.predict.specs.declared.Outcome as RoadOutcome
 use Rattle.predict.specs.declared.Outcome.the-variants as Roads
 use Rattle.engine.specs.Fixes as Fixes
@@ -32,7 +28,7 @@ use Rattle.engine.specs.Follow.{isMatched}
 use Rattle.engine.specs.declared.Ahead.{Ahead}
 use Rattle.engine.specs.declared.Fix.{Fix}
 use Rattle.engine.specs.declared.Follower.{Follower}
-use Rattle.engine.specs.State.{refused, unchanged, followed, forgotten, engineOk}
+use Rattle.engine.specs.State.{refused, forgotten, engineOk}
 use Rattle.engine.specs.Work as Work
 use Rattle.engine.specs.Work.{counted, mayAsk, matchEndedBy, roadEndedBy, published}
 use Rattle.engine.specs.Deliver.{After, arrived}
@@ -55,7 +51,7 @@ use Rattle.engine_states.proofs.Ways as Ways
 use Rattle.engine_states.proofs.Ways.{Works, Steps, Lends, step-is, lends-is}
 use Rattle.direct.proofs.Beside.{deliver-left, match-asks, road-asks}
 use Rattle.direct.proofs.Seen.{made-current}
-use Rattle.direct.proofs.Linked.{Silent, fetch-silent}
+use Rattle.direct.proofs.Linked.{fetch-silent}
 use Rattle.direct.proofs.Claim.{all-direct}
 
 -- ---- a step

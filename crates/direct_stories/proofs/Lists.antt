@@ -9,7 +9,6 @@ use mathlib.Core.List.{List, [], _∷_, _++_}
 use native.Mathlib.Omega.{arith}
 use lib.IntN.{pos, negsuc}
 use lib.ListN.{replicate}
-use Rattle.geo.specs.declared.Point.{Point}
 use Rattle.cache.specs.State as Caches
 use Rattle.cache.specs.Calls as CacheCalls
 use Rattle.cache_lists.specs.Lists as Cached

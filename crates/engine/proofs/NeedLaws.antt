@@ -1,7 +1,7 @@
 -- The tile that is needed, by the next step towards it: a step of the engine goes by the read that this makes (`need-is`), in a state that number 12
 -- does not name and towards a key in the grid; and the part that came is the step of a load that it answers (`part-cases`, `part-is`). The code goes by
 -- what the cache answers (`need-reads`, `need-settles`).
-use Prim.Native.Nat.{ℕ, _<_}
+use Prim.Native.Nat.{ℕ}
 use mathlib.Core.Path.{_≡_, refl, sym, ap, _∙_}
 use mathlib.Core.Bool.{Bool, true, false, cond}
 use mathlib.Core.List.{List, []}

@@ -11,7 +11,6 @@ use Rattle.pack.specs.Sector.{parse}
 use Rattle.pack.specs.declared.Answer.{Answer}
 use Rattle.pack.specs.declared.Answer.the-variants as Answer
 use Rattle.pack.specs.declared.Header.{Header}
-use Rattle.pack.specs.declared.Parsed.{Parsed}
 use Rattle.pack.specs.declared.TileKey.{TileKey}
 use Rattle.cache.specs.declared.MaybeKey.{MaybeKey}
 use Rattle.cache.specs.declared.MaybeKey.the-variants as MaybeKey

@@ -1,6 +1,5 @@
 -- A follower from its start, and what a fix, the loss of fixes and a reset do to it: `engine.rs`, `new`, `fix`, `lost` and `reset`: "`reset`
 -- keeps fix, history and heading" (document 01).
-use Prim.Native.Nat.{ℕ}
 use mathlib.Core.Bool.{Bool, true, false, cond}
 use lib.Ieee.{Float}
 use Rattle.num.specs.Order.{min}

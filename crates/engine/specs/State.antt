@@ -5,9 +5,8 @@
 -- would refuse, an arena shorter than its pages (`sharedOk`). A pack that failed keeps what is needed and matched.
 use Prim.Native.Nat.{ℕ, _+_, _*_, min}
 use mathlib.Core.Bool.{Bool, true, false, _&&_, not, cond}
-use mathlib.Core.List.{List, [], _∷_}
+use mathlib.Core.List.{[], _∷_}
 use lib.Dec.{eqb, ltb, leb}
-use lib.IntN.{pos}
 use Rattle.pack.specs.Sector.{allOf, rules}
 use Rattle.pack.specs.Sector as Sector
 use Rattle.pack.specs.Grid.{inGrid, isPoint}

@@ -1,6 +1,6 @@
 -- A step: `engine.rs`, `step`, with its read in the host's hands. While a fetch is open a step repeats it and changes nothing; opening one
 -- changes nothing but that it is open.
-use Prim.Native.Nat.{ℕ, _+_}
+use Prim.Native.Nat.{ℕ}
 use mathlib.Core.Bool.{Bool, false, cond}
 use mathlib.Core.List.{List, []}
 use lib.Dec.{eqb}
@@ -9,7 +9,6 @@ use Rattle.pack.specs.declared.Header.{Header}
 use Rattle.pack.specs.declared.TileKey.{TileKey}
 use Rattle.cache.specs.declared.MaybeKey.{MaybeKey}
 use Rattle.cache.specs.declared.MaybeKey.the-variants as MaybeKey
-use Rattle.cache.specs.declared.Cache.{Cache}
 use Rattle.cache.specs.declared.MaybeLoading.{MaybeLoading}
 use Rattle.cache.specs.declared.MaybeLoading.the-variants as MaybeLoading
 use Rattle.cache.specs.declared.Pending.{Pending}

@@ -1,7 +1,7 @@
 -- What number 12 asks of an engine beside the cache's own state, and what the plan of a step is made of. `SummaryLaws` says that with the cache's own test it is number 12's.
 use Prim.Native.Nat.{ℕ, _*_}
 use mathlib.Core.Bool.{Bool, _&&_}
-use mathlib.Core.List.{List, [], _∷_}
+use mathlib.Core.List.{[], _∷_}
 use lib.Dec.{leb}
 use Rattle.pack.specs.Sector.{allOf}
 use Rattle.engine.specs.Plans.{ofState}

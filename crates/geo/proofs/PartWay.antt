@@ -2,7 +2,6 @@
 -- first than the second does, or than a bound of that which a float can hold (`part-way-bounds`). The part is what a projection gives (`project-part`) or a
 -- clamp to 0 to 1 does (`clamp-part`).
 use Prim.Native.Nat.{ℕ, _+_, _*_, _^_, _≤_, _<_}
-use mathlib.Core.Path.{_≡_}
 use native.Mathlib.Omega.{arith}
 use lib.IntN.{ℤ, pos, negsuc, natAbs, _+ℤ_, _-ℤ_}
 use lib.Ieee.{Float, binary32, mul, ofInt, toSigned}

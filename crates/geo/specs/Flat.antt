@@ -1,7 +1,7 @@
 -- Flat-earth geometry in metres: `geo.rs`, metres_from, length, turn, project. Each operation is one of IEEE 754 on single floats, in the Rust's order, rounded once.
 use Prim.Native.Nat.{ℕ}
-use mathlib.Core.Bool.{Bool, true, false, _&&_, cond}
-use lib.IntN.{ℤ, pos, _-ℤ_}
+use mathlib.Core.Bool.{Bool, _&&_, cond}
+use lib.IntN.{pos, _-ℤ_}
 use lib.Ieee.{Float, binary32, ofBits, ofInt, add, sub, mul, div, neg, lt, le}
 use Rattle.num.specs.Order.{isFinite, clamp}
 use Rattle.num.specs.Root.{squareRoot}

@@ -1,6 +1,6 @@
 -- Points in whole millionths of a degree, exactly: `geo.rs`, Point::of, z_dm and edge_point. No float stands here.
 use Prim.Native.Nat.{ℕ, _*_}
-use mathlib.Core.Bool.{_&&_, cond}
+use mathlib.Core.Bool.{cond}
 use mathlib.Core.List.{List}
 use lib.IntN.{ℤ, pos, _+ℤ_, _-ℤ_}
 use Rattle.pack.specs.Sector.{rules}

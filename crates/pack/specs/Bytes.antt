@@ -1,5 +1,5 @@
 -- Numbers in a list of bytes: document 01, "All numbers little-endian". A byte past the end counts as 0, so every reader is total.
-use Prim.Native.Nat.{ℕ, _+_, _-_, _*_, _^_}
+use Prim.Native.Nat.{ℕ, _+_, _-_, _*_}
 use mathlib.Core.Bool.{cond}
 use mathlib.Core.List.{List}
 use lib.Dec.{ltb}

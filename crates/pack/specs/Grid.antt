@@ -1,7 +1,7 @@
 -- The grid of tiles and its directory: `pack.rs`, key, checked, origin, entry, locate, and reading a lent pack.
 -- Each public function is refused with 12 where the header breaks a rule, then 8 for a point beyond 360 degrees, then 9 for a key outside the grid (document 01, "Refused").
 use Prim.Native.Nat.{ℕ, _+_, _*_, _/_}
-use mathlib.Core.Bool.{Bool, true, false, _&&_, _||_, not, cond}
+use mathlib.Core.Bool.{Bool, _&&_, cond}
 use mathlib.Core.List.{List}
 use lib.Dec.{leb, ltb, eqb}
 use lib.IntN.{ℤ, pos, negsuc, _+ℤ_, _-ℤ_}

@@ -1,7 +1,7 @@
 -- The pack's header: document 01, "pack.rs". A sector of 512 bytes, its fields by their offsets, and the rules as a list of named clauses.
 -- The clauses over a parsed header are also what number 12 tests of a header that is given.
 use Prim.Native.Nat.{ℕ, _+_, _*_}
-use mathlib.Core.Bool.{Bool, true, false, _&&_, cond}
+use mathlib.Core.Bool.{Bool, true, _&&_, cond}
 use mathlib.Core.List.{List, [], _∷_}
 use lib.Dec.{leb, ltb, eqb}
 use lib.IntN.{ℤ, pos, negsuc, _+ℤ_}
@@ -9,9 +9,8 @@ use lib.ListN.{take}
 use lib.Signed.{leZ}
 use Rattle.crc.specs.Fcs.{crc32}
 use Rattle.pack.specs.Offsets as At
-use Rattle.pack.specs.Bytes.{byteAt, u16At, u32At, i32At, u64At}
+use Rattle.pack.specs.Bytes.{u16At, u32At, i32At, u64At}
 use Rattle.pack.specs.declared.Header.{Header}
-use Rattle.pack.specs.declared.Answer.{Answer}
 use Rattle.pack.specs.declared.Answer.the-variants.{Accepted, Refused}
 use Rattle.pack.specs.declared.Parsed.{Parsed}
 

@@ -40,7 +40,6 @@ use Rattle.cache.specs.Runs.{span}
 use Rattle.cache.specs.Direct.{Look, ready, missing, absent, stale}
 use Rattle.cache.specs.Reader.{Reader}
 use Rattle.cache.specs.declared.victim.Found.the-variants as Found
-use Rattle.matcher.specs.declared.Heading.the-variants as Heading
 use Rattle.predict.specs.declared.History.{History}
 use Rattle.predict.specs.declared.Track.{Track}
 use Rattle.predict.specs.declared.Trip.{Trip}

@@ -1,9 +1,9 @@
 -- The choices of a junction, at most twelve, and the best and the second of them: `predict.rs`, `predict`. Choices past the twelfth are
 -- dropped. Of two equal lowest costs the first is the best, and the second's cost is the same: a Fork.
 use Prim.Native.Nat.{ℕ, _+_}
-use mathlib.Core.Bool.{Bool, true, false, _&&_, cond}
+use mathlib.Core.Bool.{true, false, cond}
 use lib.Dec.{ltb, leb}
-use lib.Ieee.{Float, inf, le}
+use lib.Ieee.{inf, le}
 use lib.ListN.{getD, set, replicate}
 use Rattle.num.specs.Fold.{upTo}
 use Rattle.num.specs.Order.{min}

@@ -2,7 +2,7 @@
 -- node, without a decision at any junction", and "The extra last sample of `ridden` keeps the low 16 bits" (document 01). The leg is the
 -- matched edge against the direction of travel. Each float operation is rounded once, in the Rust's order.
 use Prim.Native.Nat.{ℕ, _+_, _-_}
-use mathlib.Core.Bool.{Bool, true, _&&_, not, cond}
+use mathlib.Core.Bool.{true, _&&_, not, cond}
 use mathlib.Core.List.{List}
 use lib.Dec.{ltb}
 use lib.IntN.{ℤ, pos, _-ℤ_}

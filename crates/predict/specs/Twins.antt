@@ -3,7 +3,7 @@
 use Prim.Native.Nat.{ℕ, _+_, _/_, _%_}
 use mathlib.Core.Bool.{Bool, true, _&&_, not, cond}
 use lib.Dec.{eqb, leb}
-use lib.IntN.{ℤ, pos, negsuc}
+use lib.IntN.{pos, negsuc}
 use lib.ListN.{set, replicate}
 use Rattle.num.specs.Fold.{upTo}
 use Rattle.predict.specs.declared.twins.Twin.{Twin}

@@ -2,7 +2,7 @@
 -- (document 01). A walk along an edge goes by the points' numbers along its leg, from 0 at its start, whichever way that is: the Rust counts
 -- its index up or down. Each float operation is rounded once, in the Rust's order.
 use Prim.Native.Nat.{ℕ, _+_, _-_}
-use mathlib.Core.Bool.{Bool, true, cond}
+use mathlib.Core.Bool.{true, cond}
 use mathlib.Core.List.{List}
 use lib.Dec.{leb}
 use lib.IntN.{ℤ, _-ℤ_}

@@ -1,7 +1,7 @@
 -- Heights in their order, for omega, which reads no ℤ: z is `up z` less `dn z`, two numbers of ℕ of which one is 0. How far one lies above another (`gap`, `gap-is`), and the lowest and the
 -- highest of a list (`lowest-each`, `highest-each`).
 use Prim.Native.Nat.{ℕ, zero, suc, _+_, _-_, _<_, _≤_}
-use mathlib.Core.Path.{_≡_, refl, sym, ap, _∙_}
+use mathlib.Core.Path.{_≡_, refl, sym}
 use mathlib.Core.Bool.{Bool, true, false, cond, true≢false}
 use mathlib.Core.List.{List, [], _∷_}
 use native.Mathlib.Omega.{arith}

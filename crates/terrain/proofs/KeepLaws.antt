@@ -1,7 +1,7 @@
 -- A refused call leaves the words, and the arena, as they were: where the words are no engine's by definition, else since the engine's own refused call leaves the engine (`refused-same` of
 -- the engine's states), whose words they are.
 use Prim.Native.Nat.{ℕ}
-use mathlib.Core.Path.{_≡_, refl, sym, ap, _∙_}
+use mathlib.Core.Path.{_≡_, refl, ap, _∙_}
 use mathlib.Core.Bool.{Bool, true, false, cond}
 use mathlib.Core.Logic.{_≢_}
 use mathlib.Core.List.{List}

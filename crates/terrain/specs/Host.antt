@@ -19,7 +19,6 @@ use Rattle.engine.specs.declared.Changed.{Changed}
 use Rattle.engine.specs.declared.Count.{Count}
 use Rattle.engine.specs.declared.Count.the-variants as Count
 use Rattle.engine.specs.declared.Fix.{Fix}
-use Rattle.engine.specs.declared.HeaderRead.{HeaderRead}
 use Rattle.engine.specs.declared.HeadingRead.{HeadingRead}
 use Rattle.engine.specs.declared.HeadingRead.the-variants as HeadingRead
 use Rattle.engine.specs.declared.Known.{Known}

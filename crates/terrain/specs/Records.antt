@@ -1,5 +1,4 @@
 -- The records that cross to C by value, and the library's own: field for field the same, so nothing is cut.
-use Prim.Native.Nat.{ℕ}
 use lib.Ieee.{Float, binary32, ofBits}
 use lib.IntN.{pos}
 use Rattle.pack.specs.declared.Header.{Header}

@@ -9,12 +9,12 @@ use lib.Dec.{ltb, eqb, leb}
 use borrow.Author.Tests.{ltb-true, ltb-false, eqb-true, eqb-false, leb-true, leb-false, lt-ltb, le-ltb, eq-eqb}
 use Rattle.pack.specs.declared.TileKey.{TileKey}
 use Rattle.tile.specs.Layout.{nodesOf, nodeOf}
-use Rattle.tile.specs.Order.{before, inOrder}
+use Rattle.tile.specs.Order.{before}
 use Rattle.tile.specs.Parse.{accepts, nodesOrdered}
 use Rattle.tile.specs.Readers.{search, nodesThere, nodeAt, standsAt, isThere, isFound}
 use Rattle.tile.specs.declared.Found.{Found}
 use Rattle.tile.specs.declared.Found.the-variants as Found
-use Rattle.tile.proofs.Laws.{and-left, and-right, any-at, any-none}
+use Rattle.tile.proofs.Laws.{any-at, any-none}
 use Rattle.tile.proofs.Ordered.{before-itself, same-place, in-order-all}
 use Rattle.tile.proofs.Within.{accepted-order, nodes-there}
 

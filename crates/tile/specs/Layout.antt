@@ -1,10 +1,9 @@
 -- A tile's bytes: document 01, "tile.rs", and the table at the top of src/lib.rt. Where each record stands, and what it holds. Bytes past the end count as 0.
 use Prim.Native.Nat.{ℕ, _+_, _-_, _*_, _/_, _%_}
-use mathlib.Core.Bool.{Bool, cond}
+use mathlib.Core.Bool.{cond}
 use mathlib.Core.List.{List}
-use lib.Dec.{leb, ltb, eqb}
+use lib.Dec.{ltb, eqb}
 use Rattle.pack.specs.Bytes.{byteAt, u16At, u32At}
-use Rattle.pack.specs.declared.TileKey.{TileKey}
 use Rattle.tile.specs.Offsets as At
 use Rattle.tile.specs.declared.Node.{Node}
 use Rattle.tile.specs.declared.Edge.{Edge}

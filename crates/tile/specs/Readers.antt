@@ -8,7 +8,6 @@ use lib.ListN.{length}
 use Rattle.tile.specs.Layout.{nodesOf, edgesOf, verticesOf, nodeStart, edgeStart, entryStart, vertexStart, nodeOf, edgeOf, entryOf, pointOf, adjacencyStart, adjacencyEnd}
 use Rattle.tile.specs.Below.{anyBelow}
 pub use Rattle.tile.specs.Order.{before}
-use Rattle.tile.specs.declared.Node.{Node}
 use Rattle.tile.specs.declared.Edge.{Edge}
 use Rattle.tile.specs.declared.NodeRead.{NodeRead}
 use Rattle.tile.specs.declared.NodeRead.the-variants as NodeRead

@@ -10,7 +10,6 @@ use lib.ListN.{length, getD, drop}
 use Rattle.num.specs.Cast.{bits32}
 use Rattle.pack.specs.Bytes.{signed32}
 use Rattle.pack.specs.declared.Header.{Header}
-use Rattle.tile.specs.declared.TileId.{TileId}
 use Rattle.geo.specs.declared.Point.{Point}
 use Rattle.cache.specs.Keys.{emptyPlace}
 use Rattle.cache.specs.Runs.{emptySlot}
@@ -42,10 +41,10 @@ use Rattle.engine.specs.declared.MaybeTime.the-variants as MaybeTime
 use Rattle.engine.specs.declared.Places.{Places}
 use Rattle.engine.specs.declared.Shared.{Shared}
 use Rattle.engine.specs.declared.Sight.{Sight}
-use Rattle.words.specs.Typed.{Height, TypedKey, TypedHeader, TypedSlot, TypedPages, TypedRing, TypedLoading, TypedPending, TypedCache, TypedFix, TypedPlaces, TypedHeading, TypedSight, TypedId, TypedMatched, TypedCurrent, TypedChallenger, TypedMatcher, TypedDue, TypedAhead, TypedShared, TypedFollower, Typed}
-use Rattle.words.specs.Words.{table, spread, flat, from, bit, isSet, lowWord, highWord, longOf, floatWord, floatOf, heightOf, keyWord, keyTag, keyHeld, maybeKeyWords, maybeKeyOf, phaseWord, phaseOf, headerWords, headerBy, slotWords, slotBy, slotsWords, usedWords, pagesWords, pagesOf, keysWords, ringWords, placeBy, ringOf, loadingWords, loadingBy, pendingWords, pendingOf, cacheWords, cacheOf, sharedWords, sharedOf, fixWords, fixBy, pointWords, pointBy, noPoint, pointsWords, placesWords, placesOf, headingWords, headingOf, sightWords, sightOf, matchedBy, currentWords, currentBy, challengerWords, challengerBy, matcherWords, matcherOf, timeWords, timeOf, dueWords, dueOf, heightsWords, heightsOf, endWord, endOf, aheadWords, aheadOf, followerWords, followerOf, words, engineOf, sameWords, accepted}
+use Rattle.words.specs.Typed.{Height, TypedHeader, TypedSlot, TypedPages, TypedRing, TypedLoading, TypedPending, TypedCache, TypedFix, TypedPlaces, TypedHeading, TypedSight, TypedMatched, TypedCurrent, TypedChallenger, TypedMatcher, TypedDue, TypedAhead, TypedShared, TypedFollower, Typed}
+use Rattle.words.specs.Words.{table, spread, flat, from, bit, isSet, lowWord, highWord, longOf, floatWord, floatOf, heightOf, keyTag, keyHeld, maybeKeyWords, maybeKeyOf, phaseWord, phaseOf, headerWords, headerBy, slotWords, slotBy, slotsWords, usedWords, pagesWords, pagesOf, keysWords, ringWords, placeBy, ringOf, loadingWords, loadingBy, pendingWords, pendingOf, cacheWords, cacheOf, sharedWords, sharedOf, fixWords, fixBy, pointWords, pointBy, noPoint, pointsWords, placesWords, placesOf, headingWords, headingOf, sightWords, sightOf, matchedBy, currentWords, currentBy, challengerWords, challengerBy, matcherWords, matcherOf, timeWords, timeOf, dueWords, dueOf, heightsWords, heightsOf, endWord, endOf, aheadWords, aheadOf, followerWords, followerOf, words, engineOf, accepted}
 use Rattle.words.proofs.NumberLaws.{long-back, word-back, short-back, byte-back, signed-back, height-back, float-back, key-back, bit-back, maybe-back, phase-back, forward-back, end-back, slot-back}
-use Rattle.words.proofs.PieceLaws.{slots-long, used-long, keys-long, points-long, heights-long, pages-long, ring-long, loading-long, pending-long, cache-long, shared-long, fix-long, places-long, heading-long, sight-long, current-long, challenger-long, matcher-long, time-long, due-long, ahead-long}
+use Rattle.words.proofs.PieceLaws.{slots-long, used-long, keys-long, points-long, heights-long, pages-long, ring-long, loading-long, pending-long, shared-long, fix-long, places-long, heading-long, sight-long, current-long, challenger-long, matcher-long, time-long, due-long, ahead-long}
 use Rattle.words.proofs.SameLaws.{same-self}
 use Rattle.words.proofs.TripLaws.{from-is, at-is, here, next, table-back, word-of}
 

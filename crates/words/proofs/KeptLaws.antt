@@ -1,6 +1,6 @@
 -- What `kept` asks of the words, struct by struct: whether the words of what is read from them (`pagesOf`, .., `engineOf`) stand there again (`pages-kept`, .., `engine-kept`). An age is the
 -- word that it is read from, so that nothing is asked of it. Words are some engine's where the slots' words are slots' and all else is held (`accepted-is`).
-use Prim.Native.Nat.{ℕ, zero, suc, _+_, _*_, _%_, _<_}
+use Prim.Native.Nat.{ℕ, zero, suc, _+_, _*_, _<_}
 use mathlib.Core.Path.{_≡_, refl, sym, ap, _∙_}
 use mathlib.Core.Bool.{Bool, true, false, _&&_, and-false}
 use mathlib.Core.List.{List, [], _∷_}
@@ -13,7 +13,7 @@ use Rattle.num.specs.Cast.{bits32}
 use Rattle.tile.specs.Below.{allBelow}
 use Rattle.cache.specs.Runs.{emptySlot}
 use Rattle.cache.specs.Keys.{emptyPlace}
-use Rattle.words.specs.Held.{heldAt, slotHeld, placeHeld, pointHeld, heightHeld, slotsHeld, keysHeld, pointsHeld, heightsHeld, endHeld, roadHeld, besideShared, beside}
+use Rattle.words.specs.Held.{heldAt, slotsHeld, keysHeld, pointsHeld, heightsHeld, endHeld, roadHeld, besideShared, beside}
 use Rattle.pack.specs.Bytes.{signed32}
 use Rattle.words.specs.Words.{table, spread, from, lowWord, highWord, longOf, phaseWord, phaseOf, headerWords, headerBy, loadingWords, loadingBy, pendingWords, pendingOf, cacheWords, cacheOf, sharedOf, followerWords, followerOf, pagesWords, ringWords, placesWords, currentWords, currentBy, aheadWords, aheadOf, heightOf, slotWords, slotBy, slotsWords, usedWords, pagesOf, maybeKeyWords, keysWords, placeBy, ringOf, pointWords, pointBy, noPoint, pointsWords, placesOf, heightsWords, heightsOf, words, engineOf, accepted}
 use Rattle.words.proofs.HeldLaws.{and-true, below-same, held-spread, held-all}

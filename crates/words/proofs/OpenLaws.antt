@@ -38,7 +38,7 @@ use Rattle.predict.specs.declared.Outcome.the-variants as Road
 use Rattle.engine.specs.Calls.{stepFromBy}
 use Rattle.engine.specs.Deliver.{over, failing, arrived, failedPack, loadFailed, loadedBy}
 use Rattle.engine.specs.Fixes.{placeOf}
-use Rattle.engine.specs.Plans.{ofRoad, ofDue, ofFix, ofSight, ofNeed, ofState, planOf, doneBy}
+use Rattle.engine.specs.Plans.{ofRoad, ofFix, ofSight, ofNeed, ofState, planOf, doneBy}
 use Rattle.engine.specs.State.{engineOk, refused}
 use Rattle.engine.specs.Steps.{requestOf, opened, awaitsRead, needStep, steppedBy, stepped}
 use Rattle.engine.specs.Work.{counted, ended, rematch, matchEndedBy, matchStep, roadEndedBy, roadStep, mayAsk}

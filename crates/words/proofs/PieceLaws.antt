@@ -1,8 +1,8 @@
 -- The pieces of each struct's words, with their lengths: put one behind the other they are the struct's words (`pages-put`, .., `engine-put`), held one behind the
 -- other they are held as one (`pages-held`, .., `engine-held`), and an engine has 1,150 words (`words-length`), whatever its arrays hold.
 use Prim.Native.Nat.{ℕ, _+_}
-use mathlib.Core.Path.{_≡_, refl, sym, ap, _∙_}
-use mathlib.Core.List.{List, [], _∷_, _++_}
+use mathlib.Core.Path.{_≡_, refl, sym, _∙_}
+use mathlib.Core.List.{List, [], _∷_}
 use native.Mathlib.Omega.{arith}
 use lib.IntN.{ℤ}
 use lib.ListN.{length, length-append}

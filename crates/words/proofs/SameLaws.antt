@@ -1,6 +1,6 @@
 -- Equal words, word by word from a place on: one that differs decides (`same-miss`), one that is equal leaves the rest to decide (`same-on`), and with none left they are equal (`same-end`);
 -- and words that `sameWords` calls equal are (`same-is`, `same-self`).
-use Prim.Native.Nat.{ℕ, zero, suc, _+_, _<_}
+use Prim.Native.Nat.{ℕ, suc, _+_, _<_}
 use mathlib.Core.Path.{_≡_, refl, sym, ap, _∙_}
 use mathlib.Core.Bool.{Bool, true, false, _&&_, true≢false}
 use mathlib.Core.List.{List, [], _∷_}

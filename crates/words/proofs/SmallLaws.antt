@@ -21,7 +21,7 @@ use Rattle.engine.specs.State.{engineOk, sharedOk, placesOk, fixOk, dueOk, sigh
 use Rattle.engine.specs.declared.Engine.{Engine}
 use Rattle.engine.specs.declared.Places.{Places}
 use Rattle.engine.specs.declared.Shared.{Shared}
-use Rattle.words.specs.Typed.{Word, LoadSmall, Small}
+use Rattle.words.specs.Typed.{LoadSmall, Small}
 use Rattle.words.proofs.SameLaws.{both}
 
 -- ---- counts

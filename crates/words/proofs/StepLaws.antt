@@ -34,7 +34,7 @@ use Rattle.words.specs.Put.{put}
 use Rattle.words.specs.declared.steps.Planned.the-variants as Planned
 use Rattle.words.specs.Words.{words, engineOf, sharedOf, followerOf, cacheOf, accepted, pendingWords}
 use Rattle.words.proofs.OpenLaws.{isOpen, closed-pending, closed-plan, opens-step, need-settled}
-use Rattle.words.proofs.SetLaws.{pending-put, steps-put, counting}
+use Rattle.words.proofs.SetLaws.{pending-put, steps-put}
 use Rattle.words.proofs.WordsLaws.{words-engine}
 
 pub tested-is : (ws : List ℕ) (size : ℕ) → tested ws size ≡ (cacheTested ws && passes (summaryOf (engineOf ws)) size)

@@ -1,12 +1,12 @@
 -- Pieces found again among the words: what stands before a piece is dropped (`here`, `next`), and a loop's pieces are read by their turn (`word-of`, `table-back`).
-use Prim.Native.Nat.{ℕ, zero, suc, _+_, _*_, _%_, _<_}
+use Prim.Native.Nat.{ℕ, zero, suc, _+_, _*_, _<_}
 use mathlib.Core.Path.{_≡_, refl, sym, ap, _∙_, fun-ext}
 use mathlib.Core.Bool.{Bool, true, false}
-use mathlib.Core.List.{List, [], _∷_, _++_, append-assoc, append-nil}
+use mathlib.Core.List.{List, [], _∷_, _++_, append-assoc}
 use native.Mathlib.Omega.{arith}
 use lib.Dec.{ltb}
 use borrow.Author.Tests.{ltb-true, ltb-false}
-use lib.ListN.{length, getD, drop, length-append, List·getD-append}
+use lib.ListN.{length, getD, drop, List·getD-append}
 use lib.Seq.{drop-at, drop-drop, getD-drop, getD-append-add, getD-at, ext-getD}
 use Rattle.words.specs.Words.{table, spread, flat, from}
 use Rattle.words.proofs.ArrayLaws.{length-table}

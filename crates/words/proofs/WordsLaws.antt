@@ -1,11 +1,11 @@
 -- Words and engines: accepted words are those of what is read from them (`words-engine`), and other counts are refused (`refused`).
 use Prim.Native.Nat.{ℕ}
 use mathlib.Core.Path.{_≡_, refl, sym, ap, _∙_}
-use mathlib.Core.Bool.{Bool, true, false, true≢false}
+use mathlib.Core.Bool.{Bool, true, false}
 use mathlib.Core.Logic.{_≢_}
 use mathlib.Core.List.{List}
 use lib.ListN.{length}
-use Rattle.words.specs.Words.{words, engineOf, accepted, sameWords}
+use Rattle.words.specs.Words.{words, engineOf, accepted}
 use Rattle.words.proofs.PieceLaws.{words-length}
 use Rattle.words.proofs.SameLaws.{same-is}
 

@@ -1,8 +1,7 @@
 -- What the Rust types say of an engine, as far as writing it as words asks it: each number that could be cut within its field, each float a single float, each array of its length; and that the counts that the Rust has as `usize` fit a word, which
 -- number 12 says of them (`small` of the proofs). An engine that the code holds is so by its types; that every call's definition leaves one so is `typed-kept` of crate terrain_lists.
-use Prim.Native.Nat.{ℕ, _<_, _^_}
+use Prim.Native.Nat.{ℕ, _<_}
 use mathlib.Core.Path.{_≡_}
-use mathlib.Core.List.{List}
 use lib.Dec.{T}
 use lib.IntN.{ℤ, pos}
 use lib.Ieee.{Float, binary32, fits}
@@ -40,8 +39,6 @@ use Rattle.engine.specs.declared.Engine.{Engine}
 use Rattle.engine.specs.declared.Follower.{Follower}
 use Rattle.engine.specs.declared.MaybeFix.{MaybeFix}
 use Rattle.engine.specs.declared.MaybeFix.the-variants as MaybeFix
-use Rattle.engine.specs.declared.MaybeTime.{MaybeTime}
-use Rattle.engine.specs.declared.MaybeTime.the-variants as MaybeTime
 use Rattle.engine.specs.declared.Places.{Places}
 use Rattle.engine.specs.declared.Shared.{Shared}
 use Rattle.engine.specs.declared.Sight.{Sight}

@@ -23,7 +23,6 @@ use Rattle.geo.specs.declared.Point.{Point}
 use Rattle.cache.specs.Runs.{emptySlot}
 use Rattle.cache.specs.Keys.{emptyPlace}
 use Rattle.cache.specs.declared.Cache.{Cache}
-use Rattle.cache.specs.declared.Loading.{Loading}
 use Rattle.cache.specs.declared.MaybeKey.{MaybeKey}
 use Rattle.cache.specs.declared.MaybeKey.the-variants as MaybeKey
 use Rattle.cache.specs.declared.MaybeLoading.{MaybeLoading}
@@ -51,7 +50,6 @@ use Rattle.predict.specs.declared.End.the-variants as End
 use Rattle.engine.specs.declared.Ahead.{Ahead}
 use Rattle.engine.specs.declared.Due.{Due}
 use Rattle.engine.specs.declared.Engine.{Engine}
-use Rattle.engine.specs.declared.Fix.{Fix}
 use Rattle.engine.specs.declared.Follower.{Follower}
 use Rattle.engine.specs.declared.MaybeFix.{MaybeFix}
 use Rattle.engine.specs.declared.MaybeFix.the-variants as MaybeFix

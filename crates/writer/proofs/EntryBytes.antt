@@ -1,16 +1,16 @@
 -- Entries of a directory as bytes: how long they are, that equal offsets and lengths make equal bytes, one offset or length put in, entries of
 -- zeros, and that each entry reads back.
-use Prim.Native.Nat.{ℕ, zero, suc, _+_, _-_, _*_, _≤_, _<_}
+use Prim.Native.Nat.{ℕ, zero, suc, _+_, _-_, _*_, _<_}
 use mathlib.Core.Path.{_≡_, refl, sym, ap, _∙_}
 use mathlib.Core.Bool.{Bool, true, false}
-use mathlib.Core.List.{List, [], _∷_, _++_, append-assoc, append-nil}
+use mathlib.Core.List.{List, [], _++_, append-assoc, append-nil}
 use native.Mathlib.Omega.{arith}
 use lib.Dec.{eqb}
 use lib.ListN.{length, take, drop, getD, replicate, length-append, replicate-append-replicate, List·getD-append}
 use lib.Seq.{take-at, drop-at, take-all, getD-append-add}
 use borrow.Author.Tests.{eqb-true, eqb-false}
 use Rattle.pack.specs.Bytes.{u32At}
-use Rattle.writer.specs.Fields.{Field, littleEndian, put}
+use Rattle.writer.specs.Fields.{littleEndian, put}
 use Rattle.writer.specs.TileWritten.{field}
 use Rattle.writer.specs.PackSteps.{entries, entryBytes}
 use Rattle.writer.proofs.FieldLaws.{length-little, Holds, u32-read}

@@ -7,14 +7,14 @@ use mathlib.Core.List.{List, [], _∷_, _++_, append-assoc, append-nil}
 use native.Mathlib.Numerals.{add-one}
 use native.Mathlib.Omega.{arith}
 use lib.Dec.{eqb, ltb}
-use lib.ListN.{length, take, drop, getD, replicate, length-append, length-drop, length-take, drop-of-length-le, replicate-append-replicate}
-use lib.Seq.{take-at, drop-at, take-all, drop-drop, paste, length-take-le, take-length}
-use borrow.Author.Tests.{eqb-true, eqb-false, lt-ltb, le-ltb, ltb-true, ltb-false}
+use lib.ListN.{length, take, drop, replicate, length-append, length-drop, drop-of-length-le, replicate-append-replicate}
+use lib.Seq.{take-at, drop-at, take-all, drop-drop, paste, length-take-le}
+use borrow.Author.Tests.{eqb-true, lt-ltb, le-ltb, ltb-true, ltb-false}
 use Rattle.pack.specs.declared.TileKey.{TileKey}
 use Rattle.pack.specs.Bytes.{u32At}
 use Rattle.writer.specs.Fields.{Field, littleEndian, put, puts, holding}
 use Rattle.writer.specs.TileWritten.{field, fieldsBelow}
-use Rattle.writer.specs.PackWritten.{GivenPack, cut, sumOf, keyIn, keyAt, sameKey, tileOf, tilesOf, tileAt, tilesBelow, packGood, places, dataStart, entryFields, directoryBytes}
+use Rattle.writer.specs.PackWritten.{GivenPack, cut, sumOf, keyIn, keyAt, sameKey, tileOf, tileAt, tilesBelow, packGood, places, dataStart, entryFields, directoryBytes}
 use Rattle.writer.specs.PackSteps.{startOf, sourceOf, source, long, offsetOf, offset, offsetAt, entries, entryBytes}
 use Rattle.writer.proofs.FieldLaws.{length-little, below-none, below-more}
 use Rattle.writer.proofs.Putting.{put-left}

@@ -2,27 +2,25 @@
 -- its key finds.
 use Prim.Native.Nat.{ℕ, zero, suc, _+_, _-_, _*_, _≤_, _<_}
 use mathlib.Core.Path.{_≡_, refl, sym, ap, _∙_}
-use mathlib.Core.Bool.{Bool, true, false, _&&_, not, cond, true≢false}
-use mathlib.Core.List.{List, [], _∷_, _++_, append-assoc}
-use native.Mathlib.Numerals.{add-one}
+use mathlib.Core.Bool.{Bool, true, false, cond, true≢false}
+use mathlib.Core.List.{List, _++_, append-assoc}
 use native.Mathlib.Omega.{arith}
-use lib.Dec.{eqb, leb, ltb}
+use lib.Dec.{eqb}
 use lib.ListN.{length, take, drop, getD, length-append, length-drop}
-use lib.Seq.{take-at, drop-at, drop-drop, take-length, take-append-le, drop-append-le, getD-append-add, length-take-le}
-use borrow.Author.Tests.{eqb-true, eqb-false, eq-eqb, ne-eqb, le-leb, leb-true, ltb-true, ltb-false, not-true}
+use lib.Seq.{drop-at, drop-drop, take-length, take-append-le, drop-append-le, getD-append-add}
+use borrow.Author.Tests.{eqb-true, eqb-false, eq-eqb, ne-eqb, le-leb}
 use Rattle.pack.specs.Bytes.{u16At, u32At}
 use Rattle.pack.specs.Grid.{inGrid, entryOf, locateOf}
 use Rattle.pack.specs.declared.TileKey.{TileKey}
-use Rattle.pack.specs.declared.Header.{Header}
 use Rattle.pack.specs.declared.Located.the-variants as Located
 use Rattle.pack.proofs.Laws.{u32-slice, row-below, col-below}
 use Rattle.tile.proofs.Laws.{and-left, and-right}
-use Rattle.writer.specs.PackWritten.{GivenPack, keyIn, keyAt, sameKey, hasKey, noKeyTwice, tileOf, tilesOf, tileAt, tilesBelow, places, dataStart, total, headerOf, sectorBytes, directoryBytes, packGood, packBytes}
-use Rattle.writer.specs.PackSteps.{numbered, tilesFrom, offsetOf, offset, entries}
-use Rattle.writer.proofs.CutLaws.{from-all, from-more, from-end}
-use Rattle.writer.proofs.KeyLaws.{key-here, key-on, once-later}
+use Rattle.writer.specs.PackWritten.{GivenPack, keyIn, keyAt, sameKey, hasKey, tileOf, tilesOf, tileAt, tilesBelow, places, dataStart, total, headerOf, sectorBytes, directoryBytes, packGood, packBytes}
+use Rattle.writer.specs.PackSteps.{numbered, tilesFrom, offset, entries}
+use Rattle.writer.proofs.CutLaws.{from-all, from-more}
+use Rattle.writer.proofs.KeyLaws.{key-here, key-on}
 use Rattle.writer.proofs.EntryBytes.{length-entries, read-offset, read-long}
-use Rattle.writer.proofs.PlaceLaws.{rule, sum-is, same-at, place-below}
+use Rattle.writer.proofs.PlaceLaws.{sum-is, same-at, place-below}
 use Rattle.writer.proofs.TileSums.{tiles-long, has-same, once}
 use Rattle.writer.proofs.LayLaws.{directory-entries}
 use Rattle.writer.proofs.SectorReads.{length-sector}

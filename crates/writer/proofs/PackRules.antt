@@ -1,7 +1,7 @@
 -- Number 13 by its rules: one that is broken refuses the grid, the tile, the pack; what `tile::parse` answers tells whether it accepts; the order
 -- of nodes at a node that is not the first.
 use Prim.Native.Nat.{ℕ, zero, suc, _-_, _<_}
-use mathlib.Core.Path.{_≡_, refl, sym, ap, _∙_}
+use mathlib.Core.Path.{_≡_, refl, ap}
 use mathlib.Core.Bool.{Bool, true, false, not, cond}
 use mathlib.Core.List.{List}
 use native.Mathlib.Omega.{arith}

@@ -1,20 +1,20 @@
 -- Places of the grid and the tiles that stand there: the place of a key, the tile and the start that a key finds among the tiles from a number on.
-use Prim.Native.Nat.{ℕ, zero, suc, _+_, _-_, _*_, _/_, _%_, _≤_, _<_, min}
+use Prim.Native.Nat.{ℕ, zero, suc, _+_, _-_, _*_, _/_, _%_, _≤_, _<_}
 use mathlib.Core.Path.{_≡_, refl, sym, ap, _∙_}
 use mathlib.Core.Bool.{Bool, true, false, _&&_, cond}
-use mathlib.Core.List.{List, [], _∷_, _++_}
+use mathlib.Core.List.{List}
 use native.Mathlib.Numerals.{add-one}
 use native.Mathlib.Nat.{mul-add-div-right, mul-add-mod-self-right, div-eq-of-lt, mod-eq-of-lt, div-add-mod', mul-le-mul-right}
 use native.Mathlib.Omega.{arith}
-use lib.Dec.{eqb, ltb, leb}
+use lib.Dec.{eqb, ltb}
 use lib.ListN.{length, take, drop, getD, drop-of-length-le, length-drop}
 use lib.Seq.{drop-cons, drop-drop, length-take-le}
-use borrow.Author.Tests.{eqb-true, eqb-false, eq-eqb, ltb-true, ltb-false, leb-true}
+use borrow.Author.Tests.{eqb-true, eq-eqb, ltb-true, ltb-false}
 use Rattle.pack.specs.declared.TileKey.{TileKey}
 use Rattle.tile.proofs.Laws.{and-left, and-right, clause}
 use Rattle.writer.specs.Fields.{put}
 use Rattle.writer.specs.TileWritten.{field}
-use Rattle.writer.specs.PackWritten.{GivenPack, cut, sumOf, keyIn, keyAt, sameKey, tileOf, tilesOf, tileRules, tileIsGood, tilesGood, packRules, packGood, places}
+use Rattle.writer.specs.PackWritten.{GivenPack, cut, sumOf, keyIn, keyAt, sameKey, tileOf, tileRules, tileIsGood, tilesGood, packRules, packGood, places}
 use Rattle.writer.specs.PackSteps.{startOf, numbered, tilesFrom, sourceOf, source, long, entries}
 use Rattle.writer.proofs.CutLaws.{from-all, from-more, from-end, start-more, start-within, start-back, part-back, good-more, good-end}
 use Rattle.writer.proofs.EntryBytes.{put-offset, put-long}

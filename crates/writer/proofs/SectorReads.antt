@@ -1,11 +1,11 @@
 -- The sector of a written pack is parsed: each field reads back, bytes without a field are zero, the CRC is that of the bytes before it, and
 -- `Header::parse` gives back the grid.
-use Prim.Native.Nat.{ℕ, zero, suc, _+_, _-_, _*_, _^_, _≤_, _<_}
+use Prim.Native.Nat.{ℕ, _+_, _-_, _*_, _≤_, _<_}
 use mathlib.Core.Path.{_≡_, refl, sym, ap, _∙_}
-use mathlib.Core.Bool.{Bool, true, false, _&&_, cond}
+use mathlib.Core.Bool.{true}
 use mathlib.Core.List.{List, [], _∷_, _++_, append-assoc}
 use native.Mathlib.Omega.{arith}
-use lib.Dec.{eqb, leb, ltb}
+use lib.Dec.{leb}
 use lib.IntN.{ℤ, pos, negsuc, _+ℤ_}
 use lib.Signed.{leZ}
 use lib.ListN.{length, take, drop, getD, replicate, length-replicate, getD-replicate}
@@ -14,13 +14,12 @@ use borrow.Author.Tests.{leb-true, eq-eqb, le-leb, lt-ltb, le-ltb}
 use Rattle.crc.specs.Fcs.{crc32}
 use Rattle.crc.proofs.Below.{crc-below}
 use Rattle.num.specs.Cast.{bits32}
-use Rattle.pack.specs.Bytes.{byteAt, u16At, u32At, i32At, u64At, signed32}
+use Rattle.pack.specs.Bytes.{u16At, u32At, i32At, u64At, signed32}
 use Rattle.pack.specs.Offsets as At
-use Rattle.pack.specs.Sector.{allOf, spans, headerAt, isSum, isMagic, isVersion, rulesOf, rules}
+use Rattle.pack.specs.Sector.{spans, headerAt, isSum, isMagic, isVersion, rules}
 use Rattle.pack.specs.Sector as Sector
 use Rattle.pack.specs.declared.Header.{Header}
 use Rattle.pack.specs.declared.Answer.the-variants as Taken
-use Rattle.pack.proofs.Laws.{side-within}
 use Rattle.pack.proofs.Signed.{le-true, add}
 use Rattle.tile.proofs.Laws.{clause, and-left, and-right}
 use Rattle.writer.specs.Fields.{Field, littleEndian, put, puts, holding}

@@ -1,16 +1,16 @@
 -- The tiles of all places together are as long as the lengths given: each tile stands at one place, and no other has its key.
-use Prim.Native.Nat.{ℕ, zero, suc, _+_, _-_, _*_, _≤_, _<_}
+use Prim.Native.Nat.{ℕ, zero, suc, _+_, _-_, _≤_, _<_}
 use mathlib.Core.Path.{_≡_, refl, sym, ap, _∙_}
-use mathlib.Core.Bool.{Bool, true, false, _&&_, not, cond, true≢false}
-use mathlib.Core.List.{List, [], _∷_, _++_}
+use mathlib.Core.Bool.{Bool, true, false, not, cond, true≢false}
+use mathlib.Core.List.{List, [], _∷_}
 use native.Mathlib.Numerals.{add-one}
 use native.Mathlib.Omega.{arith}
-use lib.Dec.{eqb, ltb}
-use lib.ListN.{length, take, drop, getD, length-append}
+use lib.Dec.{eqb}
+use lib.ListN.{length, getD, length-append}
 use borrow.Author.Tests.{eqb-true, eqb-false, not-true}
 use Rattle.pack.specs.declared.TileKey.{TileKey}
 use Rattle.tile.proofs.Laws.{and-left, and-right}
-use Rattle.writer.specs.PackWritten.{GivenPack, cut, sumOf, keyIn, keyAt, sameKey, tileOf, tilesOf, tileAt, tilesBelow, hasKey, noKeyTwice, packGood, places}
+use Rattle.writer.specs.PackWritten.{GivenPack, sumOf, keyIn, keyAt, sameKey, tileOf, tileAt, tilesBelow, hasKey, noKeyTwice, packGood, places}
 use Rattle.writer.specs.PackSteps.{startOf, numbered, tilesFrom, long}
 use Rattle.writer.proofs.CutLaws.{from-all, from-more, start-zero, start-more, start-end}
 use Rattle.writer.proofs.KeyLaws.{once-later}

@@ -1,8 +1,8 @@
 -- The writer's answers by their tests: 13, 14 for a total past 32 bits or past the output, and a pack written; that the count of tiles fits 32 bits;
 -- the sector and what stands behind it.
-use Prim.Native.Nat.{ℕ, zero, suc, _+_, _-_, _*_, _≤_, _<_}
-use mathlib.Core.Path.{_≡_, refl, sym, ap, _∙_}
-use mathlib.Core.Bool.{Bool, true, false, _&&_, cond}
+use Prim.Native.Nat.{ℕ, suc, _+_, _-_, _≤_, _<_}
+use mathlib.Core.Path.{_≡_, refl, ap, _∙_}
+use mathlib.Core.Bool.{true, false}
 use mathlib.Core.List.{List, [], _∷_, _++_, append-nil}
 use native.Mathlib.Omega.{arith}
 use lib.Dec.{leb}
@@ -13,7 +13,6 @@ use borrow.Rule.Slice.PartMut.{putMid}
 use Rattle.tile.specs.Parse.{accepts, clauses}
 use Rattle.tile.proofs.Laws.{clause}
 use Rattle.writer.specs.declared.Answer.the-variants as Answer
-use Rattle.writer.specs.TileWritten.{Written}
 use Rattle.writer.specs.PackWritten.{GivenPack, sumOf, total, keyIn, tileRules, packGood, packBytes, pack}
 use Rattle.writer.specs.PackSteps.{numbered}
 use Rattle.pack.proofs.Laws.{and-not}

@@ -1,25 +1,23 @@
 -- A direct lookup of each key given finds that tile, and of any other key none: the entry locates the tile's bytes, which passed `Tile::parse` when the
 -- pack was made.
-use Prim.Native.Nat.{ℕ, _+_, _*_, _≤_, _<_}
-use mathlib.Core.Path.{_≡_, refl, sym, ap, _∙_}
+use Prim.Native.Nat.{ℕ, _+_, _≤_, _<_}
+use mathlib.Core.Path.{_≡_, refl, ap}
 use mathlib.Core.Bool.{Bool, true, false, cond}
-use mathlib.Core.List.{List, []}
+use mathlib.Core.List.{List}
 use native.Mathlib.Omega.{arith}
-use lib.Dec.{eqb, leb}
-use lib.ListN.{length, take, drop}
+use lib.Dec.{eqb}
+use lib.ListN.{length}
 use borrow.Author.Tests.{ne-eqb, le-leb, le-ltb, leb-true}
-use Rattle.pack.specs.Sector.{parse}
-use Rattle.pack.specs.Grid.{inGrid, entryOf, locateOf}
+use Rattle.pack.specs.Grid.{inGrid, entryOf}
 use Rattle.pack.specs.declared.TileKey.{TileKey}
-use Rattle.pack.specs.declared.Header.{Header}
 use Rattle.pack.specs.declared.Parsed.{Parsed}
 use Rattle.pack.proofs.Laws.{entry-within}
 use Rattle.cache.specs.Runs.{span}
 use Rattle.cache.proofs.RunLaws.{span-pos}
 use Rattle.tile.specs.Parse.{accepts}
 use Rattle.tile.proofs.Laws.{clause}
-use Rattle.cache.specs.Direct.{direct, directEntry, ready, missing}
-use Rattle.writer.specs.PackWritten.{GivenPack, packGood, packBytes, total, tilesOf, tileOf, keyIn, hasKey, headerOf, tileRules}
+use Rattle.cache.specs.Direct.{direct, directEntry, missing}
+use Rattle.writer.specs.PackWritten.{GivenPack, packBytes, tilesOf, tileOf, keyIn, hasKey, headerOf, tileRules}
 use Rattle.writer.specs.PackSteps.{numbered}
 use Rattle.writer.proofs.PlaceLaws.{rule, good-at}
 use Rattle.writer.proofs.TileSums.{no-tile}

@@ -1,6 +1,6 @@
 -- `crossing::in_edge` meets its contract. The loop's invariant: `from` is the edge's place at this segment's number, and no segment before it meets the transect.
 use Prim.Native.Nat.{ℕ, _+_, _-_, _≤_, _<_}
-use mathlib.Core.Bool.{Bool, true, false}
+use mathlib.Core.Bool.{Bool, false}
 use mathlib.Core.List.{List}
 use mathlib.Core.Path.{_≡_}
 use native.Mathlib.Omega.{arith}

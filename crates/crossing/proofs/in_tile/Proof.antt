@@ -9,7 +9,6 @@ use Rattle.tile.specs.Layout.{edgeOf}
 use Rattle.crossing.specs.Sides.{meetsAt}
 use Rattle.crossing.proofs.in_tile.Statement.{statement}
 use Rattle.crossing.proofs.in_tile.Tie as tie
-use Rattle.pack.proofs.bytes.u16_at.Reads as u16-at-reads
 
 abbrev Inv-loop : tie.InvT-loop
 Inv-loop a b header key bytes edges number₀ number =

@@ -1,5 +1,5 @@
 -- `put_signed` meets its contract: a '-' before the size of a number below 0.
-use mathlib.Core.Path.{_≡_, ap}
+use mathlib.Core.Path.{_≡_}
 use mathlib.Core.Bool.{true, false}
 use mathlib.Core.List.{_∷_}
 use native.Mathlib.Omega.{arith}

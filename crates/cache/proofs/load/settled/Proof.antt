@@ -1,6 +1,5 @@
 -- `cache::load::settled` meets its contract: each return by whether the key lies in the grid, and the step by `unread-steps`.
 use mathlib.Core.Path.{sym, _∙_}
-use mathlib.Core.List.{[]}
 use borrow.Author.Tests.{not-true, not-false}
 use Rattle.cache.proofs.UnreadLaws.{unread-steps}
 use Rattle.cache.proofs.load.settled.Statement.{statement}

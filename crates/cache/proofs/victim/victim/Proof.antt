@@ -1,5 +1,5 @@
 -- `cache::victim::victim` meets its contract: the oldest by the ages that were taken once, which are the pages' (`oldest-is`).
-use mathlib.Core.Path.{_≡_, _∙_}
+use mathlib.Core.Path.{_∙_}
 use native.Mathlib.Omega.{arith}
 use borrow.Author.Tests.{lt-ltb}
 use borrow.Author.Needs.{needs}

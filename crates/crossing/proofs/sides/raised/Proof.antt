@@ -1,5 +1,5 @@
 -- `crossing::sides::raised` meets its contract: the sum fits 64 bits, and is not negative where the test passed.
-use Prim.Native.Nat.{ℕ, _<_, _≤_}
+use Prim.Native.Nat.{_<_, _≤_}
 use mathlib.Core.Bool.{false}
 use mathlib.Core.Path.{_≡_, refl, sym}
 use native.Mathlib.Omega.{arith}

@@ -5,7 +5,6 @@ use native.Mathlib.Nat.{mul-le-mul}
 use native.Mathlib.Omega.{arith}
 use mir.Syntax.{w32}
 use mir.Val.{Fits}
-use borrow.Author.Needs.{needs}
 use Rattle.map.proofs.page.product.Statement.{statement}
 use Rattle.map.proofs.page.product.Tie as tie
 

@@ -1,6 +1,5 @@
 -- `num::convert::f32_of_u32` meets its contract: to 2 ^ 24 the language's own cast loses nothing; beyond, a whole number is 2 ^ 1074 times as many of the smallest doubles.
 use mathlib.Core.Path.{_∙_}
-use native.Mathlib.Omega.{arith}
 use lib.Dec.{le→leb}
 use lib.Ieee.{inFloat}
 use borrow.Author.Needs.{needs}

@@ -1,7 +1,7 @@
 -- `num::convert::rounded_i64` meets its contract: below 0 it is z = -(k + 1), whose k the code finds without leaving the range.
 use Prim.Native.Nat.{ℕ, zero, suc, _+_, _^_, _<_}
-use mathlib.Core.Path.{_≡_, refl, sym, ap, _∙_}
-use mathlib.Core.Bool.{true, false, true≢false}
+use mathlib.Core.Path.{_≡_, sym, ap, _∙_}
+use mathlib.Core.Bool.{true, false}
 use native.Mathlib.Omega.{arith}
 use lib.IntN.{ℤ, pos, negsuc, sucℤ, negℤ, natAbs, _+ℤ_, _-ℤ_, +ℤ-one, +ℤ-idl, negℤ-sucℤ}
 use lib.Signed.{mag, leZ}
@@ -9,7 +9,6 @@ use lib.Ieee.{binary32, neg, ofInt}
 use mir.Syntax.{w64}
 use mir.Val.{SFits, toZ, ofZ}
 use mir.Facts.{toZ-ofZ}
-use borrow.Author.Tests.{leb-false}
 use borrow.Author.Needs.{needs}
 use Rattle.num.specs.Convert.{nearestTo}
 use Rattle.num.proofs.CastLaws.{as-pos, as-neg}

@@ -1,5 +1,5 @@
 -- `root::root_of` meets its contract: root and remainder of the leading 7 or 8 digits, of 13 or 14, of 25 or 26, and of all of them.
-use Prim.Native.Nat.{ℕ, _+_, _*_, _/_, _%_, _≤_, _<_}
+use Prim.Native.Nat.{ℕ, _+_, _*_, _/_, _%_, _≤_}
 use mathlib.Core.Path.{_≡_, ap, _∙_}
 use native.Mathlib.Omega.{arith}
 use Rattle.num.proofs.RootLaws.{Digits, grown, digits-root, digits-in}

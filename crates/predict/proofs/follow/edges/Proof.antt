@@ -21,19 +21,7 @@ use Rattle.predict.proofs.VertexLaws.{alongOf, left-whole, vertices-sta
 use Rattle.predict.specs.declared.Walk.{Walk}
 use Rattle.predict.specs.Walk.{Onto, Stride, Run, Entering, goesOn, reached, runOf, edgeStep, walkTo, enter, follow}
 use Rattle.predict.proofs.WalkLaws.{walk-start}
-use Rattle.predict.proofs.FollowLaws.{
-  points-start,
-  points-on,
-  points-over,
-  step-ended,
-  step-over,
-  step-on,
-  walk-on,
-  walk-whole,
-  Leaves,
-  edges-is,
-  reached-ends,
-}
+use Rattle.predict.proofs.FollowLaws.{points-start, points-on, points-over, step-ended, step-over, step-on, walk-on, walk-whole, Leaves, edges-is, reached-ends}
 use Rattle.predict.proofs.follow.edges.Statement.{statement}
 use Rattle.predict.proofs.follow.edges.Tie as tie
 

@@ -1,6 +1,6 @@
 -- `put_rise` meets its contract: blanks, the sign, and the metres with their decimal.
 use Prim.Native.Nat.{ℕ, suc, _+_, _-_, _/_, _<_}
-use mathlib.Core.Path.{_≡_, ap}
+use mathlib.Core.Path.{_≡_}
 use mathlib.Core.List.{List, [], _∷_}
 use native.Mathlib.Omega.{arith}
 use lib.ListN.{length, replicate, length-replicate}

@@ -1,5 +1,5 @@
 -- `range` meets its contract. The loop's invariant: from what was found so far, the rest of the list has the lowest and the highest of all. The measure is what is left of it.
-use Prim.Native.Nat.{ℕ, suc, _+_, _-_, _≤_, _<_}
+use Prim.Native.Nat.{ℕ, _+_, _-_, _≤_, _<_}
 use mathlib.Core.Path.{_≡_, refl, sym, ap, _∙_}
 use mathlib.Core.List.{List, [], _∷_}
 use native.Mathlib.Numerals.{add-one}

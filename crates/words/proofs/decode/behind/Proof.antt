@@ -5,11 +5,10 @@ use Rattle.words.specs.Words.{heightOf, heightsOf}
 use Rattle.words.proofs.ArrayLaws.{turn, filled}
 use Rattle.num.proofs.FoldLaws.{up-start, up-turn}
 use Rattle.num.specs.Fold.{upTo}
-use lib.ListN.{length, getD, length-replicate, length-set}
+use lib.ListN.{length, getD}
 use native.Mathlib.Omega.{arith}
-use mathlib.Core.List.{List}
 use mathlib.Core.Path.{_≡_, sym}
-use Prim.Native.Nat.{ℕ, _+_, _*_, _-_, _≤_}
+use Prim.Native.Nat.{ℕ, _+_, _-_, _≤_}
 use borrow.Author.Needs.{needs}
 use Rattle.words.proofs.decode.behind.Statement.{statement}
 use Rattle.words.proofs.decode.behind.Tie as tie

@@ -3,11 +3,10 @@ use Rattle.words.specs.Words.{ringOf}
 use Rattle.words.proofs.ArrayLaws.{ringTurn, ring-read}
 use Rattle.num.proofs.FoldLaws.{up-start, up-turn}
 use Rattle.num.specs.Fold.{upTo}
-use lib.ListN.{length, getD, length-replicate, length-set}
+use lib.ListN.{length, length-replicate}
 use native.Mathlib.Omega.{arith}
-use mathlib.Core.List.{List}
-use mathlib.Core.Path.{_≡_, refl, sym, _∙_}
-use Prim.Native.Nat.{ℕ, _+_, _*_, _-_, _≤_}
+use mathlib.Core.Path.{_≡_, sym}
+use Prim.Native.Nat.{_-_, _≤_}
 use borrow.Author.Needs.{needs}
 use Rattle.cache.specs.Keys.{emptyPlace}
 use Rattle.cache.specs.declared.RingKey.{RingKey}

@@ -1,5 +1,5 @@
 -- `deliver::part_came` meets its contract: each return by whether a tile is needed.
-use mathlib.Core.Path.{refl, ap, sym, _∙_}
+use mathlib.Core.Path.{ap, sym, _∙_}
 use denote.Ref.{now}
 use Rattle.engine.specs.declared.Due.{Due}
 use Rattle.words.proofs.CameLaws.{due-in, none-came, some-came}

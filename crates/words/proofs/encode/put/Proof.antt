@@ -2,11 +2,10 @@
 use Rattle.words.proofs.PutLaws.{put-paste}
 use lib.Seq.{paste, paste-zero, paste-suc}
 use native.Mathlib.Numerals.{add-one}
-use lib.ListN.{length, getD, length-replicate, length-set}
+use lib.ListN.{length}
 use native.Mathlib.Omega.{arith}
-use mathlib.Core.List.{List}
-use mathlib.Core.Path.{_≡_, sym, _∙_}
-use Prim.Native.Nat.{ℕ, _+_, _*_, _-_, _≤_}
+use mathlib.Core.Path.{_≡_, _∙_}
+use Prim.Native.Nat.{_-_, _≤_}
 use borrow.Author.Needs.{needs}
 use Rattle.words.proofs.encode.put.Statement.{statement}
 use Rattle.words.proofs.encode.put.Tie as tie

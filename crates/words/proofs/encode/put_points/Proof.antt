@@ -4,9 +4,9 @@ use Rattle.words.proofs.PutLaws.{put-spread}
 use Rattle.words.specs.Put.{put}
 use Rattle.num.proofs.FoldLaws.{up-start, up-turn}
 use Rattle.num.specs.Fold.{upTo}
-use lib.ListN.{length, getD, length-replicate, length-set}
+use lib.ListN.{length, getD}
 use native.Mathlib.Omega.{arith}
-use mathlib.Core.List.{List, [], _∷_}
+use mathlib.Core.List.{List}
 use mathlib.Core.Path.{_≡_, refl, sym}
 use Prim.Native.Nat.{ℕ, _+_, _*_, _-_, _≤_}
 use borrow.Author.Needs.{needs}

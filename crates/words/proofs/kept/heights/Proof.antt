@@ -3,7 +3,7 @@ use Rattle.words.specs.Held.{heightsHeld}
 use Rattle.tile.proofs.Laws.{all-none}
 use Rattle.words.proofs.HeldLaws.{below-next}
 use native.Mathlib.Omega.{arith}
-use mathlib.Core.Path.{_≡_, sym, _∙_}
+use mathlib.Core.Path.{_≡_, sym}
 use Prim.Native.Nat.{_-_, _≤_}
 use borrow.Author.Needs.{needs}
 use Rattle.words.proofs.kept.heights.Statement.{statement}

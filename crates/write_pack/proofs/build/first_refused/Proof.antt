@@ -1,8 +1,7 @@
 -- `build::first_refused` is safe and ends: what is left to search gets shorter.
-use Prim.Native.Nat.{_<_, _≤_, _-_}
+use Prim.Native.Nat.{_≤_, _-_}
 use mathlib.Core.Path.{_≡_}
 use lib.ListN.{length}
-use native.Mathlib.Omega.{arith}
 use borrow.Author.Needs.{needs}
 use Rattle.write_pack.proofs.build.first_refused.Statement.{statement}
 use Rattle.write_pack.proofs.build.first_refused.Tie as tie

@@ -1,5 +1,5 @@
 -- `build::read_all` is safe and ends: each turn counts a line more of 4,294,967,295, and the slices keep their lengths.
-use Prim.Native.Nat.{_<_, _≤_, _-_}
+use Prim.Native.Nat.{_-_}
 use mathlib.Core.Path.{_≡_}
 use lib.ListN.{length}
 use native.Mathlib.Omega.{arith}

@@ -1,8 +1,6 @@
 -- `build::sum` is safe and ends: each turn takes a length more.
-use Prim.Native.Nat.{_<_, _≤_, _-_}
-use mathlib.Core.Path.{_≡_}
+use Prim.Native.Nat.{_-_}
 use lib.ListN.{length}
-use native.Mathlib.Omega.{arith}
 use borrow.Author.Needs.{needs}
 use Rattle.write_pack.proofs.build.sum.Statement.{statement}
 use Rattle.write_pack.proofs.build.sum.Tie as tie

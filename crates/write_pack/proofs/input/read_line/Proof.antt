@@ -1,8 +1,7 @@
 -- `input::read_line` is safe and ends: each turn puts a byte into the line, and the two slices keep their lengths.
-use Prim.Native.Nat.{_<_, _≤_, _-_}
+use Prim.Native.Nat.{_-_}
 use mathlib.Core.Path.{_≡_}
 use lib.ListN.{length}
-use native.Mathlib.Omega.{arith}
 use borrow.Author.Needs.{needs}
 use Rattle.write_pack.proofs.input.read_line.Statement.{statement}
 use Rattle.write_pack.proofs.input.read_line.Tie as tie

@@ -1,8 +1,6 @@
 -- `words::is_word` is safe and ends: each turn passes a byte of the word.
-use Prim.Native.Nat.{_<_, _-_}
-use mathlib.Core.Path.{_≡_}
+use Prim.Native.Nat.{_-_}
 use lib.ListN.{length}
-use native.Mathlib.Omega.{arith}
 use borrow.Author.Needs.{needs}
 use Rattle.write_pack.proofs.words.is_word.Statement.{statement}
 use Rattle.write_pack.proofs.words.is_word.Tie as tie

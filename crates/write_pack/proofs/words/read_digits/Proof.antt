@@ -1,8 +1,6 @@
 -- `words::read_digits` is safe and ends: a digit is taken only where one more fits, and each turn passes a byte.
 use Prim.Native.Nat.{_<_, _-_}
-use mathlib.Core.Path.{_≡_}
 use lib.ListN.{length}
-use native.Mathlib.Omega.{arith}
 use borrow.Author.Needs.{needs}
 use Rattle.write_pack.proofs.words.read_digits.Statement.{statement}
 use Rattle.write_pack.proofs.words.read_digits.Tie as tie

@@ -1,5 +1,4 @@
 -- `writer::pack_rules::slot` meets its contract: products of 16 bits fit, and a remainder is below what it is of.
-use Prim.Native.Nat.{_+_, _*_}
 use mathlib.Core.Path.{refl}
 use native.Mathlib.Nat.{mod-lt}
 use native.Mathlib.Omega.{arith}
