@@ -1,22 +1,31 @@
 -- The edges followed last. `wasVisited` looks at the places that are taken alone, and answers as a look at all 128 does, which is the Rust's
--- `visited.contains`: a place that isn't taken holds 0, which is no edge + 1 (`Taken`). So it is at the start (`taken-nothing`), and `visit` leaves it
--- so (`taken-visit`).
+-- `visited.contains`: a place that isn't taken holds 0, which is no edge + 1 (`Taken`). So it is at the start (`taken-nothing`), `visit` leaves it
+-- so (`taken-visit`), and so it is after any edges of a road, over whatever the tiles are read from (`visited-all`).
 use Prim.Native.Nat.{ℕ, _+_, _<_, _≤_, _%_, max}
 use mathlib.Core.Path.{_≡_, sym, ap, _∙_}
-use mathlib.Core.Bool.{Bool, false, _&&_}
-use mathlib.Core.List.{List, [], _∷_}
+use mathlib.Core.Bool.{Bool, true, false, _&&_, cond}
+use mathlib.Core.List.{List}
 use mathlib.Core.Logic.{⊎-elim}
 use native.Mathlib.Omega.{arith}
 use borrow.Author.Tests.{lt-ltb, le-ltb, ne-eqb}
 use lib.Dec.{ltb}
+use lib.IntN.{ℤ}
 use lib.ListN.{length, getD, set, length-set, length-replicate, getD-replicate}
 use lib.Seq.{getD-set-same, getD-set-other}
+use Rattle.num.proofs.FoldLaws.{up-keeps}
 use Rattle.pack.specs.declared.TileKey.{TileKey}
+use Rattle.cache.specs.Direct.{Look, ready, missing, absent, stale}
+use Rattle.cache.specs.Reader.{Reader}
+use Rattle.cache.specs.Runs.{span}
 use Rattle.cache.specs.Search.{lowest, isFound}
 use Rattle.cache.proofs.Below.{below-or}
 use Rattle.cache.proofs.SearchLaws.{lowest-same, lowest-end}
-use Rattle.predict.specs.declared.Way.{Way}
+use Rattle.predict.specs.declared.Track.{Track}
+use Rattle.predict.specs.declared.Trip.{Trip}
+use Rattle.predict.specs.declared.Walk.{Walk}
+use Rattle.predict.specs.Meets.{meet}
 use Rattle.predict.specs.Visits.{nothingVisited, visit, isFollowed, wasVisited}
+use Rattle.predict.specs.Walk.{Onto, Run, entered, enterLook, along, begun, driven, edgeLook, goesOn, edgeStep, walkTo}
 
 -- at most all the places are taken, and each one from the taken ones on holds 0
 pub record Taken (d : List ℕ) : Type 0 where
@@ -123,17 +132,47 @@ module _ (d : List ℕ) (key : TileKey) (edge : ℕ) (t : Taken d) where
       (sym (lowest-end standsAt (getD d 385 0) 128 (t .few) none-past)
       ∙ lowest-same standsAt (λ (i : ℕ). isFollowed d i key edge) 128 (λ (i : ℕ) (h : i < 128). rw (lt-ltb i 128 h)))
 
--- ---- over any edges followed, the last one first
+-- ---- over the edges of a road
 
-unfoldable pub visitedAfter : List Way → List ℕ
-visitedAfter [] = nothingVisited
-visitedAfter (way ∷ ways) = visit (visitedAfter ways) (way .tile) (way .edge)
+of-either : {A : Type 0} (P : A → Type 0) (t : Bool) {x y : A} → P x → P y → P (cond t x y)
+of-either P true a b = a
+of-either P false a b = b
 
-pub taken-after : (ways : List Way) → Taken (visitedAfter ways)
-unfolding visitedAfter
-taken-after [] = taken-nothing
-taken-after (way ∷ ways) = taken-visit (visitedAfter ways) (way .tile) (way .edge) (taken-after ways)
+module _ {S : Type 0} (rd : Reader S) (trip : Trip) (budget : ℕ) where
+  abbrev TakenRun : Run S → Type 0
+  TakenRun r = Taken (r .visited)
 
-pub visited-all : (ways : List Way) (key : TileKey) (edge : ℕ)
-    → wasVisited (visitedAfter ways) key edge ≡ isFound (lowest (λ (i : ℕ). isFollowed (visitedAfter ways) i key edge) 128)
-visited-all ways key edge = taken-all (visitedAfter ways) key edge (taken-after ways)
+  taken-entered : (v m : List ℕ) (w : Walk) (pages : ℕ) → Taken v → Taken (entered v m w budget pages .visited)
+  taken-entered v m w pages t =
+      of-either (λ (o : Onto). Taken (o .visited)) (meet m budget (w .way .tile) pages .fits) (taken-visit v (w .way .tile) (w .way .edge) t) t
+
+  -- along an edge and over its junction no edge more counts as followed
+  taken-driven : (o : Onto) (t : Track) (s : S) (bs : List ℕ) (hs : List ℤ) → Taken (o .visited) → TakenRun (driven rd trip budget o t s bs hs)
+  taken-driven o t s bs hs h = of-either TakenRun (along trip (o .walk) t bs hs .track .over) h h
+
+  taken-look : (k : Look) (r : Run S) → TakenRun r → TakenRun (edgeLook rd trip budget k r)
+  taken-look (ready bs) r h =
+      let o = enterLook (ready bs) (r .visited) (r .met) (r .walk) budget in
+      let onto : Taken (o .visited) = taken-entered (r .visited) (r .met) (r .walk) (span (length bs)) h in
+      of-either TakenRun (goesOn (o .walk .ending)) (taken-driven o (r .track) (rd .found (r .carried) (r .walk .way .tile)) bs (r .heights) onto) onto
+  taken-look missing r h = h
+  taken-look absent r h = h
+  taken-look stale r h = h
+
+  taken-step : (r : Run S) → TakenRun r → TakenRun (edgeStep rd trip budget r)
+  taken-step r h =
+      of-either TakenRun (goesOn (r .walk .ending)) (taken-look (rd .at (r .carried) (r .walk .way .tile)) r h) h
+
+  -- the numbers after the first n edges are those that the junction of the last of them is crossed with
+  module _ (w : Walk) (t : Track) (s : S) (hs : List ℤ) (n : ℕ) where
+    abbrev road : Run S
+    road = walkTo rd trip budget (begun w t s hs) n
+
+    taken-road : TakenRun road
+    unfolding walkTo
+    taken-road =
+        up-keeps (λ (x : Run S) (i : ℕ). edgeStep rd trip budget x) (begun w t s hs) TakenRun n taken-nothing (λ (i : ℕ) (h : i < n). taken-step)
+
+    pub visited-all : (key : TileKey) (edge : ℕ)
+        → wasVisited (road .visited) key edge ≡ isFound (lowest (λ (i : ℕ). isFollowed (road .visited) i key edge) 128)
+    visited-all key edge = taken-all (road .visited) key edge taken-road
