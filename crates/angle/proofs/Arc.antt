@@ -3,22 +3,22 @@ use Rattle.std.proofs.Common.{◌≡◌, ℕ, ◌*◌, ◌/◌, ◌^◌, ◌<◌
 use native.Mathlib.Nat.{min-le_right, min-eq_left, min-eq_right}
 use Rattle.angle.specs.Bearing.{coefficients, series, arc}
 
-pub arc-most : (q : ℕ) → arc q ≤ 193273528320
+pub arc_most : (q : ℕ) → arc q ≤ 193273528320
 unfolding arc
-arc-most q = min-le_right _ _
+arc_most q = min-le_right _ _
 
 -- the square of a ratio, in 2 ^ -62, and in 2 ^ -31
-pub square-most : (q : ℕ) → q ≤ 2147483648 → q * q ≤ 4611686018427387904
-square-most q h = mul-le-mul {n₁ = q} {m₁ = q} {n₂ = 2147483648} {m₂ = 2147483648} h h
+pub square_most : (q : ℕ) → q ≤ 2147483648 → q * q ≤ 4611686018427387904
+square_most q h = mul-le-mul {n₁ = q} {m₁ = q} {n₂ = 2147483648} {m₂ = 2147483648} h h
 
-pub square-ratio : (q : ℕ) → q ≤ 2147483648 → q * q / 2147483648 ≤ 2147483648
-square-ratio q h = omega (arith, square-most q h)
+pub square_ratio : (q : ℕ) → q ≤ 2147483648 → q * q / 2147483648 ≤ 2147483648
+square_ratio q h = omega (arith, square_most q h)
 
 module _ (q p : ℕ) (sum : p ≡ series (q * q / 2 ^ 31) coefficients) where
-  pub arc-below : q * p / 33554432 < 193273528320 → q * p / 33554432 ≡ arc q
+  pub arc_below : q * p / 33554432 < 193273528320 → q * p / 33554432 ≡ arc q
   unfolding arc
-  arc-below h = sym (min-eq_left (le_of_lt h)) ∙ ap (λ (x : ℕ). min (q * x / 2 ^ 25) (45 * 2 ^ 32)) sum
+  arc_below h = sym (min-eq_left (le_of_lt h)) ∙ ap (λ (x : ℕ). min (q * x / 2 ^ 25) (45 * 2 ^ 32)) sum
 
-  pub arc-full : 193273528320 ≤ q * p / 33554432 → 193273528320 ≡ arc q
+  pub arc_full : 193273528320 ≤ q * p / 33554432 → 193273528320 ≡ arc q
   unfolding arc
-  arc-full h = sym (min-eq_right h) ∙ ap (λ (x : ℕ). min (q * x / 2 ^ 25) (45 * 2 ^ 32)) sum
+  arc_full h = sym (min-eq_right h) ∙ ap (λ (x : ℕ). min (q * x / 2 ^ 25) (45 * 2 ^ 32)) sum

@@ -5,31 +5,31 @@ use Rattle.std.proofs.Common.{◌≡◌, ℕ, ◌-◌, ◌*◌, ◌^◌, ◌<◌
 use native.Mathlib.Nat.{zero-div, mul-div_cancel_left}
 use borrow.Author.Tests.{lt-leb}
 use Rattle.angle.specs.Bearing.{degree, series, arc, ratio, quarter}
-use Rattle.angle.proofs.Arc.{arc-most}
+use Rattle.angle.proofs.Arc.{arc_most}
 
-arc-zero : arc 0 ≡ 0
+arc_zero : arc 0 ≡ 0
 unfolding arc series
-arc-zero = refl
+arc_zero = refl
 
-arc-one : arc (2 ^ 31) ≡ 45 * degree
+arc_one : arc (2 ^ 31) ≡ 45 * degree
 unfolding arc series
-arc-one = refl
+arc_one = refl
 
-arc-diagonal : (e n : ℕ) → 0 < e → e ≡ n → arc (ratio e n) ≡ 45 * degree
-arc-diagonal e n p same = rw (← same, mul-div_cancel_left (2 ^ 31) p) arc-one
+arc_diagonal : (e n : ℕ) → 0 < e → e ≡ n → arc (ratio e n) ≡ 45 * degree
+arc_diagonal e n p same = rw (← same, mul-div_cancel_left (2 ^ 31) p) arc_one
 
-pub steep-quarter : (e n : ℕ) → e ≤ n → quarter e n ≤ 45 * degree
+pub steep_quarter : (e n : ℕ) → e ≤ n → quarter e n ≤ 45 * degree
 unfolding quarter
-steep-quarter e n h = rw (le-leb e n h) (arc-most (ratio e n))
+steep_quarter e n h = rw (le-leb e n h) (arc_most (ratio e n))
 
-pub flat-quarter : (e n : ℕ) → 0 < e → n ≤ e → (45 * degree ≤ quarter e n) × (quarter e n ≤ 90 * degree)
+pub flat_quarter : (e n : ℕ) → 0 < e → n ≤ e → (45 * degree ≤ quarter e n) × (quarter e n ≤ 90 * degree)
 unfolding quarter
-flat-quarter e n p h = go (leb e n) refl
+flat_quarter e n p h = go (leb e n) refl
   where
     go : (b : Bool) → leb e n ≡ b → let q = cond b (arc (ratio e n)) (90 * degree - arc (ratio n e)) in (45 * degree ≤ q) × (q ≤ 90 * degree)
-    go true t = omega (arith, arc-diagonal e n p (le_antisymm (leb-true e n t) h))
-    go false t = omega (arith, arc-most (ratio n e))
+    go true t = omega (arith, arc_diagonal e n p (le_antisymm (leb-true e n t) h))
+    go false t = omega (arith, arc_most (ratio n e))
 
-pub east-quarter : (e n : ℕ) → 0 < e → n ≡ 0 → quarter e n ≡ 90 * degree
+pub east_quarter : (e n : ℕ) → 0 < e → n ≡ 0 → quarter e n ≡ 90 * degree
 unfolding quarter
-east-quarter e n p z = rw (z, lt-leb e 0 p, zero-div, arc-zero)
+east_quarter e n p z = rw (z, lt-leb e 0 p, zero-div, arc_zero)

@@ -3,7 +3,7 @@
 use Rattle.std.specs.Prelude.{ℕ, ◌-◌, ◌*◌, ◌/◌, ◌^◌, min, false, cond, ◌&&◌, List, [], ◌∷◌, pos, nat_le, Float}
 use Rattle.std.specs.Float.{nan, inf, fin, binary32}
 use Rattle.std.specs.Float.Ieee.{up, down, lt, eq, round, of_int}
-use Rattle.num.specs.Order.{is_finite, isSignNegative}
+use Rattle.num.specs.Order.{is_finite, is_sign_negative}
 use Rattle.angle.specs.declared.Degrees.{Degrees}
 use Rattle.angle.specs.declared.Degrees.TheVariants.{At, Refused}
 
@@ -59,7 +59,7 @@ angle east north = western east (southern north (quarter (magnitude east) (magni
 
 -- A vector with no part to the east follows the Rust's cases, those of the zero vector among them: north is east's own zero, and south, also -0, is 180.
 unfoldable pub degrees : Float → Float → Float
-degrees east north = cond (eq east zero) (cond (isSignNegative north) (of_int binary32 (pos 180)) east) (round binary32 false (angle east north) degree)
+degrees east north = cond (eq east zero) (cond (is_sign_negative north) (of_int binary32 (pos 180)) east) (round binary32 false (angle east north) degree)
 
 -- a figure that is not finite is refused with 8
 unfoldable pub bearing : Float → Float → Degrees

@@ -9,8 +9,8 @@ use Rattle.num.specs.Order.{fabsf}
 -- ---- near 0: the polynomials of FreeBSD's k_cosf.c and k_sinf.c, which libm has too, in their order of operations
 
 -- cos y is about 1 - c0 y^2 + c1 y^4 + (c3 y^2 - c2) y^6
-unfoldable pub cosNear : Float → Float
-cosNear y =
+unfoldable pub cos_near : Float → Float
+cos_near y =
     let c0 = from_bits binary64 0x3fdffffffd0c5e81 in
     let c1 = from_bits binary64 0x3fa55553e1053a42 in
     let c2 = from_bits binary64 0x3f56c087e80f1e27 in
@@ -23,8 +23,8 @@ cosNear y =
     (mul binary64 (mul binary64 w z) r)
 
 -- sin y is about y + (s2 y^2 - s1) y^3 + (s4 y^2 - s3) y^7
-unfoldable pub sinNear : Float → Float
-sinNear y =
+unfoldable pub sin_near : Float → Float
+sin_near y =
     let s1 = from_bits binary64 0x3fc5555554cbac77 in
     let s2 = from_bits binary64 0x3f811110896efbb2 in
     let s3 = from_bits binary64 0x3f2a00f9e2cae774 in
@@ -48,14 +48,14 @@ beyond n t = sub binary64 (mul binary64 (of_int binary64 (pos n)) (from_bits bin
 -- cos (n π / 2 - y), by n modulo 4, as a single float
 abbrev pub folded : ℕ → Float → Float
 folded n y =
-    cond (n == 0) (narrow (cosNear y)) (cond (n == 1) (narrow (sinNear y)) (cond (n == 2) (neg (narrow (cosNear y))) (neg (narrow (sinNear y)))))
+    cond (n == 0) (narrow (cos_near y)) (cond (n == 1) (narrow (sin_near y)) (cond (n == 2) (neg (narrow (cos_near y))) (neg (narrow (sin_near y)))))
 
 unfoldable pub cosine : Float → Float
 cosine x = folded (turns (fabsf x) % 4) (beyond (turns (fabsf x)) (fabsf x))
 
 -- (LAT_UM * cosf((lat as f32 * 1e-6).to_radians())) as u32, with LAT_UM 111,195 and to_radians a product with the single float π / 180
-unfoldable pub lonScaleUm : ℤ → ℕ
-lonScaleUm lat =
+unfoldable pub lon_scale_um : ℤ → ℕ
+lon_scale_um lat =
     to_unsigned 32
     (mul binary32 (from_bits binary32 0x47d92d80)
     (cosine (mul binary32 (mul binary32 (of_int binary32 lat) (from_bits binary32 0x358637bd)) (from_bits binary32 0x3c8efa35))))

@@ -3,6 +3,6 @@ use Rattle.std.specs.Prelude.{ℕ}
 use Rattle.angle.specs.declared.Degrees.{Degrees}
 use Rattle.angle.specs.declared.Degrees.TheVariants as Degrees
 
-abbrev pub numberOfDegrees : Degrees → ℕ
-numberOfDegrees (Degrees.At degrees) = 0
-numberOfDegrees (Degrees.Refused number) = number
+abbrev pub number_of_degrees : Degrees → ℕ
+number_of_degrees (Degrees.At degrees) = 0
+number_of_degrees (Degrees.Refused number) = number

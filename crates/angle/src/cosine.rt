@@ -4,7 +4,7 @@ ghost use Rattle.angle.specs.Cosine as Cosine;
 
 // cos y near 0.
 fn cos_near(y: f64) -> f64
-    ensures { result ≡ Cosine.cosNear y }
+    ensures { result ≡ Cosine.cos_near y }
 {
     let z = y * y;
     let w = z * z;
@@ -14,7 +14,7 @@ fn cos_near(y: f64) -> f64
 
 // sin y near 0.
 fn sin_near(y: f64) -> f64
-    ensures { result ≡ Cosine.sinNear y }
+    ensures { result ≡ Cosine.sin_near y }
 {
     let z = y * y;
     let w = z * z;

@@ -23,7 +23,7 @@ pub fn bearing(east: f32, north: f32) -> Degrees
 
 // engine.rs: micrometres per micro-degree of longitude at `lat` micro-degrees.
 pub fn lon_scale_um(lat: i32) -> u32
-    ensures { result ≡ Cosine.lonScaleUm lat }
+    ensures { result ≡ Cosine.lon_scale_um lat }
 {
     let degrees = num::convert::f32_of_i32(lat) * 0.000001;
     let radians = degrees * 0.017453292;

@@ -4,49 +4,49 @@ use mathlib.Core.List.{[]}
 use lib.Ieee.{Float}
 use lib.Ieee.{of_int, of_bits, to_bits, units}
 use Rattle.crc.specs.Fcs.{add, lower, divide, remainder, zeros, bits, number, message, fcs, crc32}
-use Rattle.num.specs.Root.{rootIn, wholeRoot, nearRoot, squareRoot}
+use Rattle.num.specs.Root.{root_in, whole_root, near_root, square_root}
 use Rattle.pack.specs.Sector.{rules}
-use Rattle.pack.specs.Grid.{key, entry, key_of, checkedOf, entry_of}
+use Rattle.pack.specs.Grid.{key, entry, key_of, checked_of, entry_of}
 use Rattle.cache.specs.Runs.{span}
-use Rattle.cache.specs.Victim.{age, leastOf, bestOf}
+use Rattle.cache.specs.Victim.{age, least_of, best_of}
 use Rattle.num.specs.Fold.{up_to}
-use Rattle.predict.specs.Twins.{push, twinStep, twinsTo}
+use Rattle.predict.specs.Twins.{push, twin_step, twins_to}
 use Rattle.engine.specs.Calls.{new, fix}
 use Rattle.engine.specs.declared.Taken.TheVariants as Taken
 use Rattle.engine.proofs.StateLaws.{new_ok}
-use Rattle.bench.specs.Lines.{Lines, fixAt}
+use Rattle.bench.specs.Lines.{Lines, fix_at}
 
 -- a new engine is no state that number 12 names, so that the point alone is tested
-at-limit : (horizon : Float) → (fix (new [] horizon) [] (fixAt 360000000)).answer ≡ Taken.Done
+at_limit : (horizon : Float) → (fix (new [] horizon) [] (fix_at 360000000)).answer ≡ Taken.Done
 unfolding fix
-at-limit horizon = rw (new_ok [] horizon)
+at_limit horizon = rw (new_ok [] horizon)
 
-past-limit : (horizon : Float) → (fix (new [] horizon) [] (fixAt 360000001)).answer ≡ Taken.Refused 8
+past_limit : (horizon : Float) → (fix (new [] horizon) [] (fix_at 360000001)).answer ≡ Taken.Refused 8
 unfolding fix
-past-limit horizon = rw (new_ok [] horizon)
+past_limit horizon = rw (new_ok [] horizon)
 
 pub lines : Lines
-unfolding add lower divide remainder zeros bits number message fcs crc32 of_int rootIn wholeRoot nearRoot squareRoot of_bits to_bits units rules key entry key_of checkedOf entry_of span age leastOf bestOf up_to push twinStep twinsTo
+unfolding add lower divide remainder zeros bits number message fcs crc32 of_int root_in whole_root near_root square_root of_bits to_bits units rules key entry key_of checked_of entry_of span age least_of best_of up_to push twin_step twins_to
 lines = record {
-  crc-of-digits = refl;
-  crc-of-nothing = refl;
+  crc_of_digits = refl;
+  crc_of_nothing = refl;
   float_below = refl;
-  float-above = refl;
-  root-of-two = refl;
+  float_above = refl;
+  root_of_two = refl;
   row_below = refl;
   row_first = refl;
   row_last = refl;
-  row-above = refl;
-  entry-offset = refl;
-  tile-length = refl;
-  pages-of-none = refl;
-  pages-of-one = refl;
-  pages-of-two = refl;
-  pages-of-six = refl;
+  row_above = refl;
+  entry_offset = refl;
+  tile_length = refl;
+  pages_of_none = refl;
+  pages_of_one = refl;
+  pages_of_two = refl;
+  pages_of_six = refl;
   one_wanted = refl;
-  five-wanted = refl;
-  corner-twins = refl;
-  cut-toward-zero = refl;
-  fix-at-limit = at-limit;
-  fix-past-limit = past-limit;
+  five_wanted = refl;
+  corner_twins = refl;
+  cut_toward_zero = refl;
+  fix_at_limit = at_limit;
+  fix_past_limit = past_limit;
 }

@@ -1,7 +1,7 @@
 -- Cases on two numbers, and the laws of `all_below`: both ways between the test and each number.
 use Rattle.std.proofs.Common.{◌≡◌, ℕ, zero, suc, ◌<◌, ◌≤◌, Bool, true, false, eqb, ltb, ◌⊎◌, refl, inl, inr, arith, ltb-false, ltb-true, eqb-true}
 use borrow.Author.Tests.{eqb-false}
-pub use Rattle.tile.proofs.Laws.{and_left, and_right, all-at}
+pub use Rattle.tile.proofs.Laws.{and_left, and_right, all_at}
 use Rattle.cache.specs.Runs.{all_below}
 
 -- ---- cases

@@ -5,30 +5,30 @@ use Rattle.cache.specs.declared.Loading.{Loading}
 use Rattle.cache.specs.declared.MaybeLoading.TheVariants as MaybeLoading
 use Rattle.cache.specs.declared.Pending.{Pending}
 use Rattle.cache.specs.declared.Pending.TheVariants as Pending
-use Rattle.cache.specs.Endings.{endedPages, endedRing, endedLoads}
+use Rattle.cache.specs.Endings.{ended_pages, ended_ring, ended_loads}
 use Rattle.cache.specs.Loads.{withdrawn, moved, forgot, dropped, readied, ended}
 use Rattle.cache.specs.Lookups.{passes, touched}
 
-withdrawn-once : (p : Pending) → withdrawn (withdrawn p) ≡ withdrawn p
-withdrawn-once Pending.Nothing = refl
-withdrawn-once Pending.Header = refl
-withdrawn-once (Pending.Entry key) = refl
-withdrawn-once Pending.Chunk = refl
+withdrawn_once : (p : Pending) → withdrawn (withdrawn p) ≡ withdrawn p
+withdrawn_once Pending.Nothing = refl
+withdrawn_once Pending.Header = refl
+withdrawn_once (Pending.Entry key) = refl
+withdrawn_once Pending.Chunk = refl
 
 module _ (c : Cache) (arena : List ℕ) (l : Loading) (size : ℕ) where
   abbrev parts : Bool → Pending → Cache
   parts ok p = record {
-    pages = endedPages ok c.pages c.loading l.slot;
-    missing = endedRing ok c.missing l.key;
+    pages = ended_pages ok c.pages c.loading l.slot;
+    missing = ended_ring ok c.missing l.key;
     loading = MaybeLoading.Nothing;
     pending = p;
-    loads = endedLoads ok c.loads;
+    loads = ended_loads ok c.loads;
   }
 
   by : (ok : Bool) → parts ok (withdrawn c.pending) ≡ cond ok (readied c l) (forgot (dropped c) l.key)
   unfolding readied touched moved forgot dropped
   by true = refl
-  by false = ap (parts false) (sym (withdrawn-once c.pending))
+  by false = ap (parts false) (sym (withdrawn_once c.pending))
 
   pub ended-parts : parts (passes arena l.slot l.len l.key size) (withdrawn c.pending) ≡ ended c arena l size
   unfolding ended

@@ -4,7 +4,7 @@ use Rattle.std.proofs.Common.{◌≡◌, ℕ, zero, suc, ◌+◌, ◌<◌, ◌�
 use Rattle.cache.proofs.Below.{same_or}
 use Rattle.cache.specs.declared.victim.Found.{Found}
 use Rattle.cache.specs.declared.victim.Found.TheVariants as Found
-use Rattle.cache.specs.Search.{or_else, lowest, isFound}
+use Rattle.cache.specs.Search.{or_else, lowest, is_found}
 
 -- one number more: it was found before, or it is the last
 found_at : (x : Found) (t : Bool) (n i : ℕ) → or_else x (cond t (Found.At n) Found.Nothing) ≡ Found.At i
@@ -23,10 +23,10 @@ or_nothing (Found.At i) = refl
 or_nothing Found.Nothing = refl
 
 -- two tests that agree on every number below the bound find the same
-pub lowest-same : (p q : ℕ → Bool) (n : ℕ) → ((i : ℕ) → i < n → p i ≡ q i) → lowest p n ≡ lowest q n
+pub lowest_same : (p q : ℕ → Bool) (n : ℕ) → ((i : ℕ) → i < n → p i ≡ q i) → lowest p n ≡ lowest q n
 unfolding lowest
-lowest-same p q zero f = refl
-lowest-same p q (suc n) f = rw (lowest-same p q n (λ (i : ℕ) (h : i < n). f i (omega (arith, h))), f n (omega arith))
+lowest_same p q zero f = refl
+lowest_same p q (suc n) f = rw (lowest_same p q n (λ (i : ℕ) (h : i < n). f i (omega (arith, h))), f n (omega arith))
 
 module _ (p : ℕ → Bool) where
   -- ---- the turns of a loop
@@ -35,70 +35,70 @@ module _ (p : ℕ → Bool) where
   unfolding lowest
   lowest_start = refl
 
-  pub lowest-hit : (i n : ℕ) → i < n → lowest p i ≡ Found.Nothing → p i ≡ true → lowest p n ≡ Found.At i
+  pub lowest_hit : (i n : ℕ) → i < n → lowest p i ≡ Found.Nothing → p i ≡ true → lowest p n ≡ Found.At i
   unfolding lowest
-  lowest-hit i zero h e t = absurd (omega arith)
-  lowest-hit i (suc n) h e t =
+  lowest_hit i zero h e t = absurd (omega arith)
+  lowest_hit i (suc n) h e t =
       ⊎_elim
       (λ (q : i ≡ n). rw (← q, e, t))
-      (λ q. rw (lowest-hit i n (omega (arith, q)) e t))
+      (λ q. rw (lowest_hit i n (omega (arith, q)) e t))
       (same_or i n)
 
-  pub lowest-miss : (i : ℕ) → lowest p i ≡ Found.Nothing → p i ≡ false → lowest p (i + 1) ≡ Found.Nothing
+  pub lowest_miss : (i : ℕ) → lowest p i ≡ Found.Nothing → p i ≡ false → lowest p (i + 1) ≡ Found.Nothing
   unfolding lowest
-  lowest-miss i e t = rw (add-one, e, t)
+  lowest_miss i e t = rw (add-one, e, t)
 
   -- none from i on has it
-  pub lowest-past : (i n : ℕ) → i ≤ n → ((k : ℕ) → i ≤ k → p k ≡ false) → lowest p i ≡ Found.Nothing → lowest p n ≡ Found.Nothing
+  pub lowest_past : (i n : ℕ) → i ≤ n → ((k : ℕ) → i ≤ k → p k ≡ false) → lowest p i ≡ Found.Nothing → lowest p n ≡ Found.Nothing
   unfolding lowest
-  lowest-past i zero h none e = refl
-  lowest-past i (suc n) h none e =
+  lowest_past i zero h none e = refl
+  lowest_past i (suc n) h none e =
       ⊎_elim
       (λ (q : i ≡ suc n). rw q at e)
-      (λ q. rw (lowest-past i n (omega (arith, q)) none e, none n (omega (arith, q))))
+      (λ q. rw (lowest_past i n (omega (arith, q)) none e, none n (omega (arith, q))))
       (same_or i (suc n))
 
   -- the numbers from i on change nothing where none of them has it
-  pub lowest-end : (i n : ℕ) → i ≤ n → ((k : ℕ) → i ≤ k → p k ≡ false) → lowest p n ≡ lowest p i
+  pub lowest_end : (i n : ℕ) → i ≤ n → ((k : ℕ) → i ≤ k → p k ≡ false) → lowest p n ≡ lowest p i
   unfolding lowest
-  lowest-end i zero h none = let q : 0 ≡ i = omega (arith, h) in ap (lowest p) q
-  lowest-end i (suc n) h none =
+  lowest_end i zero h none = let q : 0 ≡ i = omega (arith, h) in ap (lowest p) q
+  lowest_end i (suc n) h none =
       ⊎_elim
       (λ (q : i ≡ suc n). ap (lowest p) (sym q))
-      (λ q. rw (none n (omega (arith, q, h))) (or_nothing (lowest p n) ∙ lowest-end i n (omega (arith, q, h)) none))
+      (λ q. rw (none n (omega (arith, q, h))) (or_nothing (lowest p n) ∙ lowest_end i n (omega (arith, q, h)) none))
       (same_or i (suc n))
 
   -- ---- what an answer tells
 
   -- the number found lies below the bound and has it
-  pub lowest-at : (n i : ℕ) → lowest p n ≡ Found.At i → (i < n) × (p i ≡ true)
+  pub lowest_at : (n i : ℕ) → lowest p n ≡ Found.At i → (i < n) × (p i ≡ true)
   unfolding lowest
-  lowest-at zero i e = let z : ◌≡◌ {A = ℕ} 0 1 = cc in absurd (omega arith)
-  lowest-at (suc n) i e =
+  lowest_at zero i e = let z : ◌≡◌ {A = ℕ} 0 1 = cc in absurd (omega arith)
+  lowest_at (suc n) i e =
       ⊎_elim
-      (λ q. let h : (i < n) × (p i ≡ true) = lowest-at n i q in (omega (arith, h.0), h.1))
+      (λ q. let h : (i < n) × (p i ≡ true) = lowest_at n i q in (omega (arith, h.0), h.1))
       (λ q. (omega (arith, q.1.1), ap p q.1.1 ∙ q.1.0))
       (found_at (lowest p n) (p n) n i e)
 
-  -- below it nothing is found, so by `lowest-none` none has it
-  pub lowest-before : (n i : ℕ) → lowest p n ≡ Found.At i → lowest p i ≡ Found.Nothing
+  -- below it nothing is found, so by `lowest_none` none has it
+  pub lowest_before : (n i : ℕ) → lowest p n ≡ Found.At i → lowest p i ≡ Found.Nothing
   unfolding lowest
-  lowest-before zero i e = let z : ◌≡◌ {A = ℕ} 0 1 = cc in absurd (omega arith)
-  lowest-before (suc n) i e =
-      ⊎_elim (λ q. lowest-before n i q) (λ q. rw q.1.1 q.0) (found_at (lowest p n) (p n) n i e)
+  lowest_before zero i e = let z : ◌≡◌ {A = ℕ} 0 1 = cc in absurd (omega arith)
+  lowest_before (suc n) i e =
+      ⊎_elim (λ q. lowest_before n i q) (λ q. rw q.1.1 q.0) (found_at (lowest p n) (p n) n i e)
 
   -- nothing found: none below the bound has it
-  pub lowest-none : (n : ℕ) → lowest p n ≡ Found.Nothing → (i : ℕ) → i < n → p i ≡ false
+  pub lowest_none : (n : ℕ) → lowest p n ≡ Found.Nothing → (i : ℕ) → i < n → p i ≡ false
   unfolding lowest
-  lowest-none zero e i h = absurd (omega arith)
-  lowest-none (suc n) e i h =
+  lowest_none zero e i h = absurd (omega arith)
+  lowest_none (suc n) e i h =
       let q : (lowest p n ≡ Found.Nothing) × (p n ≡ false) = found_none (lowest p n) (p n) n e in
-      ⊎_elim (λ z. ap p z ∙ q.1) (λ z. lowest-none n q.0 i (omega (arith, z))) (same_or i n)
+      ⊎_elim (λ z. ap p z ∙ q.1) (λ z. lowest_none n q.0 i (omega (arith, z))) (same_or i n)
 
   -- where something is found, what follows from each number that has it holds
-  pub lowest-some : (n : ℕ) {R : Type 0} → isFound (lowest p n) ≡ true → ((i : ℕ) → p i ≡ true → R) → R
-  lowest-some n {R} e f = by (lowest p n) refl e
+  pub lowest_some : (n : ℕ) {R : Type 0} → is_found (lowest p n) ≡ true → ((i : ℕ) → p i ≡ true → R) → R
+  lowest_some n {R} e f = by (lowest p n) refl e
     where
-      by : (x : Found) → lowest p n ≡ x → isFound x ≡ true → R
-      by (Found.At i) q e = f i (lowest-at n i q).1
+      by : (x : Found) → lowest p n ≡ x → is_found x ≡ true → R
+      by (Found.At i) q e = f i (lowest_at n i q).1
       by Found.Nothing q e = let z : ◌≡◌ {A = ℕ} 0 1 = cc in absurd (omega arith)

@@ -1,21 +1,21 @@
--- What a step of a load reads: a chunk is part of what is left of the tile (`chunk-less`), the eight bytes of an entry as an array are read
--- as they are from the answer (`locate-read`), and a range of a lent pack is there or passes its end (`read-there`, `read-part`,
+-- What a step of a load reads: a chunk is part of what is left of the tile (`chunk_less`), the eight bytes of an entry as an array are read
+-- as they are from the answer (`locate_read`), and a range of a lent pack is there or passes its end (`read_there`, `read_part`,
 -- `read_past`).
 use Rattle.std.proofs.Common.{◌≡◌, ℕ, ◌+◌, ◌-◌, ◌≤◌, Bool, true, false, cond, ltb, leb, List, length, take, drop, refl, ap, ◌∙◌, arith, ltb-false, le-leb}
-use Rattle.pack.specs.Bytes.{u16At, u32_at}
-use Rattle.pack.specs.Grid.{locateOf, read}
+use Rattle.pack.specs.Bytes.{u16_at, u32_at}
+use Rattle.pack.specs.Grid.{locate_of, read}
 use Rattle.pack.specs.declared.Header.{Header}
 use Rattle.pack.specs.declared.Located.{Located}
 use Rattle.pack.specs.declared.Range.TheVariants as Range
 use Rattle.pack.proofs.Laws.{read_at}
 use Rattle.cache.specs.declared.Loading.{Loading}
-use Rattle.cache.specs.Loads.{chunkLen, entryBytes, packBytes}
+use Rattle.cache.specs.Loads.{chunk_len, entry_bytes, pack_bytes}
 
 -- ---- a chunk
 
-pub chunk-less : (l : Loading) → chunkLen l ≤ l.len - l.done
-unfolding chunkLen
-chunk-less l = go (ltb left 2048) refl
+pub chunk_less : (l : Loading) → chunk_len l ≤ l.len - l.done
+unfolding chunk_len
+chunk_less l = go (ltb left 2048) refl
   where
     left : ℕ
     left = l.len - l.done
@@ -26,23 +26,23 @@ chunk-less l = go (ltb left 2048) refl
 
 -- ---- a directory entry
 
-locate-entry : (h : Header) (bs : List ℕ) → locateOf h (entryBytes bs) ≡ locateOf h bs
-unfolding locateOf u32_at u16At
-locate-entry h bs = refl
+locate_entry : (h : Header) (bs : List ℕ) → locate_of h (entry_bytes bs) ≡ locate_of h bs
+unfolding locate_of u32_at u16_at
+locate_entry h bs = refl
 
-pub locate-read :
-    (h : Header) (bs : List ℕ) {entry : List ℕ} {at : Located} → entry ≡ entryBytes bs → at ≡ locateOf h entry → at ≡ locateOf h bs
-locate-read h bs e q = q ∙ ap (locateOf h) e ∙ locate-entry h bs
+pub locate_read :
+    (h : Header) (bs : List ℕ) {entry : List ℕ} {at : Located} → entry ≡ entry_bytes bs → at ≡ locate_of h entry → at ≡ locate_of h bs
+locate_read h bs e q = q ∙ ap (locate_of h) e ∙ locate_entry h bs
 
 -- ---- a range of a lent pack
 
 module _ (pack : List ℕ) (offset n : ℕ) where
-  pub read-there : {a : ℕ} → read pack offset n ≡ Range.At a → leb (offset + n) (length pack) ≡ true
-  read-there e = le-leb (offset + n) (length pack) (read_at pack offset n e).1
+  pub read_there : {a : ℕ} → read pack offset n ≡ Range.At a → leb (offset + n) (length pack) ≡ true
+  read_there e = le-leb (offset + n) (length pack) (read_at pack offset n e).1
 
   -- the bytes as the code takes them
-  pub read-part : {a : ℕ} → read pack offset n ≡ Range.At a → take (a + n - a) (drop a pack) ≡ packBytes pack offset n
-  read-part {a} e = let long : a + n - a ≡ n = omega arith in rw (long, (read_at pack offset n e).0)
+  pub read_part : {a : ℕ} → read pack offset n ≡ Range.At a → take (a + n - a) (drop a pack) ≡ pack_bytes pack offset n
+  read_part {a} e = let long : a + n - a ≡ n = omega arith in rw (long, (read_at pack offset n e).0)
 
   pub read_past : {m : ℕ} → read pack offset n ≡ Range.Refused m → leb (offset + n) (length pack) ≡ false
   unfolding read

@@ -1,26 +1,26 @@
--- The step without a read: what `settled` works out is `load` past number 12's test with failure 0 and no bytes (`unread-steps`), and that
--- leaves the arena as it was (`settled-leaves`). A load that has all of its tile asks for no bytes, and those write nothing.
+-- The step without a read: what `settled` works out is `load` past number 12's test with failure 0 and no bytes (`unread_steps`), and that
+-- leaves the arena as it was (`settled_leaves`). A load that has all of its tile asks for no bytes, and those write nothing.
 use Rattle.std.proofs.Common.{◌≡◌, ℕ, ◌+◌, ◌-◌, ◌*◌, ◌<◌, ◌≤◌, Bool, true, false, cond, eqb, ltb, leb, List, [], length, take, refl, append-nil, add-zero, arith, take-append-drop, le-ltb, ne_eqb, leb-false, leb-true}
 use lib.Seq.{paste}
-use Rattle.pack.specs.Grid.{inGrid}
+use Rattle.pack.specs.Grid.{in_grid}
 use Rattle.pack.specs.declared.TileKey.{TileKey}
 use Rattle.pack.specs.declared.Header.{Header}
 use Rattle.cache.specs.declared.Cache.{Cache}
 use Rattle.cache.specs.declared.Loading.{Loading}
 use Rattle.cache.specs.declared.next.Next.{Next}
 use Rattle.cache.specs.declared.next.Next.TheVariants as Next
-use Rattle.cache.specs.Lookups.{nextStep}
-use Rattle.cache.specs.Loads.{After, told, over, refused, done, ended, chunkLen, put, chunkStep, fits, readLen, stepped, unreadStep}
-use Rattle.cache.specs.Calls.{loadTested}
+use Rattle.cache.specs.Lookups.{next_step}
+use Rattle.cache.specs.Loads.{After, told, over, refused, done, ended, chunk_len, put, chunk_step, fits, read_len, stepped, unread_step}
+use Rattle.cache.specs.Calls.{load_tested}
 
 -- the step n with failure 0 and no bytes, where it is taken
 abbrev pub tried : Cache → Next → List ℕ → Header → TileKey → After
-tried c n arena h key = cond (fits (readLen n) 0 0) (stepped c n arena h key 0 []) (over (refused c 11) arena)
+tried c n arena h key = cond (fits (read_len n) 0 0) (stepped c n arena h key 0 []) (over (refused c 11) arena)
 
 -- no bytes are written
-put-none : (arena : List ℕ) (slot come : ℕ) → put arena slot come [] ≡ arena
+put_none : (arena : List ℕ) (slot come : ℕ) → put arena slot come [] ≡ arena
 unfolding put
-put-none arena slot come = by (leb (slot * 8192 + come + 0) (length arena))
+put_none arena slot come = by (leb (slot * 8192 + come + 0) (length arena))
   where
     whole : paste arena (slot * 8192 + come) [] 0 ≡ arena
     whole = rw (append-nil (take (slot * 8192 + come) arena), add-zero (slot * 8192 + come)) (take-append-drop (slot * 8192 + come) arena)
@@ -31,45 +31,45 @@ put-none arena slot come = by (leb (slot * 8192 + come + 0) (length arena))
 
 module _ (c : Cache) (arena : List ℕ) (h : Header) (key : TileKey) where
   -- a chunk has no bytes where all has come
-  chunk-none : (l : Loading) → l.len ≤ l.done → chunkLen l ≡ 0
-  unfolding chunkLen
-  chunk-none l b = let z : l.len - l.done ≡ 0 = omega arith in rw z
+  chunk_none : (l : Loading) → l.len ≤ l.done → chunk_len l ≡ 0
+  unfolding chunk_len
+  chunk_none l b = let z : l.len - l.done ≡ 0 = omega arith in rw z
 
-  chunk-some : (l : Loading) → l.done < l.len → eqb 0 (chunkLen l) ≡ false
-  unfolding chunkLen
-  chunk-some l b = by (ltb (l.len - l.done) 2048) refl
+  chunk_some : (l : Loading) → l.done < l.len → eqb 0 (chunk_len l) ≡ false
+  unfolding chunk_len
+  chunk_some l b = by (ltb (l.len - l.done) 2048) refl
     where
       by : (t : Bool) → ltb (l.len - l.done) 2048 ≡ t → eqb 0 (cond t (l.len - l.done) 2048) ≡ false
       by true e = ne_eqb 0 (l.len - l.done) (λ z. omega arith)
       by false e = refl
 
-  chunk-by : (l : Loading) (t : Bool) → leb l.len l.done ≡ t
+  chunk_by : (l : Loading) (t : Bool) → leb l.len l.done ≡ t
       → tried c (Next.Chunk l) arena h key ≡ over (cond t (done (ended c arena l h.tile)) (refused c 11)) arena
-  unfolding chunkStep
-  chunk-by l true e =
+  unfolding chunk_step
+  chunk_by l true e =
       let b : l.len ≤ l.done = leb-true l.len l.done e in
-      rw (chunk-none l b, put-none arena l.slot l.done, le-ltb (l.done + 0) l.len (omega arith))
-  chunk-by l false e = rw (chunk-some l (leb-false l.len l.done e))
+      rw (chunk_none l b, put_none arena l.slot l.done, le-ltb (l.done + 0) l.len (omega arith))
+  chunk_by l false e = rw (chunk_some l (leb-false l.len l.done e))
 
-  by_next : (n : Next) → tried c n arena h key ≡ over (unreadStep c n arena key h.tile) arena
+  by_next : (n : Next) → tried c n arena h key ≡ over (unread_step c n arena key h.tile) arena
   by_next (Next.Ready i) = refl
   by_next Next.Missing = refl
   by_next Next.NoPages = refl
   by_next Next.Entry = refl
-  by_next (Next.Chunk l) = chunk-by l (leb l.len l.done) refl
+  by_next (Next.Chunk l) = chunk_by l (leb l.len l.done) refl
 
-  tested : inGrid h key ≡ true → loadTested c arena h key 0 [] ≡ over (unreadStep c (nextStep c key) arena key h.tile) arena
-  tested inside = rw inside (by_next (nextStep c key))
+  tested : in_grid h key ≡ true → load_tested c arena h key 0 [] ≡ over (unread_step c (next_step c key) arena key h.tile) arena
+  tested inside = rw inside (by_next (next_step c key))
 
-  pub unread-steps : inGrid h key ≡ true → told (loadTested c arena h key 0 []) ≡ unreadStep c (nextStep c key) arena key h.tile
-  unread-steps inside = rw (tested inside)
+  pub unread_steps : in_grid h key ≡ true → told (load_tested c arena h key 0 []) ≡ unread_step c (next_step c key) arena key h.tile
+  unread_steps inside = rw (tested inside)
 
-  outside : inGrid h key ≡ false → (loadTested c arena h key 0 []).arena ≡ arena
+  outside : in_grid h key ≡ false → (load_tested c arena h key 0 []).arena ≡ arena
   outside e = rw e
 
-  pub settled-leaves : (loadTested c arena h key 0 []).arena ≡ arena
-  settled-leaves = by (inGrid h key) refl
+  pub settled_leaves : (load_tested c arena h key 0 []).arena ≡ arena
+  settled_leaves = by (in_grid h key) refl
     where
-      by : (t : Bool) → inGrid h key ≡ t → (loadTested c arena h key 0 []).arena ≡ arena
+      by : (t : Bool) → in_grid h key ≡ t → (load_tested c arena h key 0 []).arena ≡ arena
       by true e = rw (tested e)
       by false e = outside e

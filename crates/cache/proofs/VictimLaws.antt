@@ -1,40 +1,40 @@
--- The victim lies below the count, no start has an older youngest page, and none below it one as old (`victim-is`); when there is one
--- (`victim-there`, `victim-none`). Before that the turns of a least and of a first greatest, that they are such (`least-below`,
--- `best-first`), and that a list of ages serves in place of the pages (`victim-in`).
+-- The victim lies below the count, no start has an older youngest page, and none below it one as old (`victim_is`); when there is one
+-- (`victim_there`, `victim_none`). Before that the turns of a least and of a first greatest, that they are such (`least_below`,
+-- `best_first`), and that a list of ages serves in place of the pages (`victim-in`).
 use Rattle.std.proofs.Common.{◌≡◌, ℕ, zero, suc, ◌+◌, ◌-◌, ◌<◌, ◌≤◌, Bool, true, false, cond, ltb, List, length, get_or, set, refl, ap, ◌∙◌, ⊎_elim, add-one, arith, get_or-set_other, get_or-set_same, ltb-false, ltb-true, le-ltb, lt-ltb}
 use lib.ListN.{get_or-eq_default}
 use Rattle.cache.specs.declared.Pages.{Pages}
 use Rattle.cache.specs.declared.victim.Best.{Best}
 use Rattle.cache.specs.declared.victim.Found.{Found}
 use Rattle.cache.specs.declared.victim.Found.TheVariants as Found
-use Rattle.cache.specs.Runs.{emptySlot, slot_at, kind_at}
+use Rattle.cache.specs.Runs.{empty_slot, slot_at, kind_at}
 use Rattle.cache.specs.Evict.{head_of}
-use Rattle.cache.specs.Victim.{slotAge, headAge, age, lesser, leastOf, youngest, better, bestOf, victim, First, Chosen, ageAt, Aged, youngestIn, oldest}
+use Rattle.cache.specs.Victim.{slot_age, head_age, age, lesser, least_of, youngest, better, best_of, victim, First, Chosen, age_at, Aged, youngest_in, oldest}
 use Rattle.cache.proofs.Below.{same_or}
 
 -- ---- turns
 
 module _ (f : ℕ → ℕ) where
-  pub least-none : leastOf f 0 ≡ 4294967295
-  unfolding leastOf
-  least-none = refl
+  pub least_none : least_of f 0 ≡ 4294967295
+  unfolding least_of
+  least_none = refl
 
-  pub least-turn : (i : ℕ) → leastOf f (i + 1) ≡ lesser (f i) (leastOf f i)
-  unfolding leastOf
-  least-turn i = rw add-one
+  pub least_turn : (i : ℕ) → least_of f (i + 1) ≡ lesser (f i) (least_of f i)
+  unfolding least_of
+  least_turn i = rw add-one
 
-  pub best-one : bestOf f 0 ≡ record { at = 0; age = f 0 }
-  unfolding bestOf
-  best-one = refl
+  pub best_one : best_of f 0 ≡ record { at = 0; age = f 0 }
+  unfolding best_of
+  best_one = refl
 
-  pub best-turn : (i : ℕ) → bestOf f (i + 1) ≡ better (bestOf f i) (i + 1) (f (i + 1))
-  unfolding bestOf
-  best-turn i = rw add-one
+  pub best_turn : (i : ℕ) → best_of f (i + 1) ≡ better (best_of f i) (i + 1) (f (i + 1))
+  unfolding best_of
+  best_turn i = rw add-one
 
   -- ---- the best is a greatest, and the first
 
-  best-by : (n : ℕ) (b : Best) (t : Bool) → ltb b.age (f (suc n)) ≡ t → First f n b → First f (suc n) (cond t (record { at = suc n; age = f (suc n) }) b)
-  best-by n b true e r =
+  best_by : (n : ℕ) (b : Best) (t : Bool) → ltb b.age (f (suc n)) ≡ t → First f n b → First f (suc n) (cond t (record { at = suc n; age = f (suc n) }) b)
+  best_by n b true e r =
       let less : b.age < f (suc n) = ltb-true b.age (f (suc n)) e in
       record {
         within = omega arith;
@@ -42,58 +42,58 @@ module _ (f : ℕ → ℕ) where
         most = λ (j : ℕ) (h : j ≤ suc n). ⊎_elim (λ q. rw q (omega arith)) (λ q. omega (arith, r.most j (omega (arith, q)))) (same_or j (suc n));
         first = λ (j : ℕ) (h : j < suc n). omega (arith, r.most j (omega arith));
       }
-  best-by n b false e r = record {
+  best_by n b false e r = record {
     within = omega (arith, r.within);
     age = r.age;
     most = λ (j : ℕ) (h : j ≤ suc n). ⊎_elim (λ q. rw q (ltb-false b.age (f (suc n)) e)) (λ q. r.most j (omega (arith, q))) (same_or j (suc n));
     first = r.first;
   }
 
-  pub best-first : (n : ℕ) → First f n (bestOf f n)
-  unfolding bestOf
-  best-first zero = record {
+  pub best_first : (n : ℕ) → First f n (best_of f n)
+  unfolding best_of
+  best_first zero = record {
     within = omega arith;
     age = refl;
     most = λ (j : ℕ) (h : j ≤ 0). let e : j ≡ 0 = omega arith in rw e (omega arith);
     first = λ (j : ℕ) (h : j < 0). absurd (omega arith);
   }
-  best-first (suc n) = best-by n (bestOf f n) (ltb (bestOf f n).age (f (suc n))) refl (best-first n)
+  best_first (suc n) = best_by n (best_of f n) (ltb (best_of f n).age (f (suc n))) refl (best_first n)
 
   -- ---- the least is a least
 
-  least_by : (n j : ℕ) (t : Bool) → ltb (f n) (leastOf f n) ≡ t → (j < n → leastOf f n ≤ f j) → j < suc n → cond t (f n) (leastOf f n) ≤ f j
-  least_by n j true e rest h = ⊎_elim (λ q. rw q (omega arith)) (λ q. omega (arith, ltb-true (f n) (leastOf f n) e, rest (omega (arith, q)))) (same_or j n)
-  least_by n j false e rest h = ⊎_elim (λ q. rw q (ltb-false (f n) (leastOf f n) e)) (λ q. rest (omega (arith, q))) (same_or j n)
+  least_by : (n j : ℕ) (t : Bool) → ltb (f n) (least_of f n) ≡ t → (j < n → least_of f n ≤ f j) → j < suc n → cond t (f n) (least_of f n) ≤ f j
+  least_by n j true e rest h = ⊎_elim (λ q. rw q (omega arith)) (λ q. omega (arith, ltb-true (f n) (least_of f n) e, rest (omega (arith, q)))) (same_or j n)
+  least_by n j false e rest h = ⊎_elim (λ q. rw q (ltb-false (f n) (least_of f n) e)) (λ q. rest (omega (arith, q))) (same_or j n)
 
-  pub least-below : (n j : ℕ) → j < n → leastOf f n ≤ f j
-  unfolding leastOf
-  least-below zero j h = absurd (omega arith)
-  least-below (suc n) j h = least_by n j (ltb (f n) (leastOf f n)) refl (λ k. least-below n j k) h
+  pub least_below : (n j : ℕ) → j < n → least_of f n ≤ f j
+  unfolding least_of
+  least_below zero j h = absurd (omega arith)
+  least_below (suc n) j h = least_by n j (ltb (f n) (least_of f n)) refl (λ k. least_below n j k) h
 
 -- ---- the victim
 
-pub victim-none : (g : Pages) (pages : ℕ) → g.count < pages → victim g pages ≡ Found.Nothing
-victim-none g pages h = by (ltb 96 g.count)
+pub victim_none : (g : Pages) (pages : ℕ) → g.count < pages → victim g pages ≡ Found.Nothing
+victim_none g pages h = by (ltb 96 g.count)
   where
-    by : (t : Bool) → cond t Found.Nothing (cond (ltb g.count pages) Found.Nothing (Found.At (bestOf (youngest g pages) (g.count - pages)).at)) ≡ Found.Nothing
+    by : (t : Bool) → cond t Found.Nothing (cond (ltb g.count pages) Found.Nothing (Found.At (best_of (youngest g pages) (g.count - pages)).at)) ≡ Found.Nothing
     by true = refl
     by false = rw (lt-ltb g.count pages h)
 
-pub victim-there : (g : Pages) (pages : ℕ) → g.count ≤ 96 → pages ≤ g.count → victim g pages ≡ Found.At (bestOf (youngest g pages) (g.count - pages)).at
-victim-there g pages k h = rw (le-ltb 96 g.count k, le-ltb g.count pages h)
+pub victim_there : (g : Pages) (pages : ℕ) → g.count ≤ 96 → pages ≤ g.count → victim g pages ≡ Found.At (best_of (youngest g pages) (g.count - pages)).at
+victim_there g pages k h = rw (le-ltb 96 g.count k, le-ltb g.count pages h)
 
-pub victim-is : (g : Pages) (pages s : ℕ) → victim g pages ≡ Found.At s → Chosen g pages s
-victim-is g pages s = by (ltb 96 g.count) (ltb g.count pages) refl
+pub victim_is : (g : Pages) (pages s : ℕ) → victim g pages ≡ Found.At s → Chosen g pages s
+victim_is g pages s = by (ltb 96 g.count) (ltb g.count pages) refl
   where
     by : (t u : Bool) → ltb g.count pages ≡ u
-        → cond t Found.Nothing (cond u Found.Nothing (Found.At (bestOf (youngest g pages) (g.count - pages)).at)) ≡ Found.At s
+        → cond t Found.Nothing (cond u Found.Nothing (Found.At (best_of (youngest g pages) (g.count - pages)).at)) ≡ Found.At s
         → Chosen g pages s
     by true u p e = let z : ◌≡◌ {A = ℕ} 0 1 = cc in absurd (omega arith)
     by false true p e = let z : ◌≡◌ {A = ℕ} 0 1 = cc in absurd (omega arith)
     by false false p e =
-        let i : (bestOf (youngest g pages) (g.count - pages)).at ≡ s = cc in
-        let r : First (youngest g pages) (g.count - pages) (bestOf (youngest g pages) (g.count - pages)) = best-first (youngest g pages) (g.count - pages) in
-        let a : (bestOf (youngest g pages) (g.count - pages)).age ≡ youngest g pages s = r.age ∙ ap (youngest g pages) i in
+        let i : (best_of (youngest g pages) (g.count - pages)).at ≡ s = cc in
+        let r : First (youngest g pages) (g.count - pages) (best_of (youngest g pages) (g.count - pages)) = best_first (youngest g pages) (g.count - pages) in
+        let a : (best_of (youngest g pages) (g.count - pages)).age ≡ youngest g pages s = r.age ∙ ap (youngest g pages) i in
         record {
           within = omega (arith, ltb-false g.count pages p, r.within, i);
           most = λ (j : ℕ) (h : j + pages ≤ g.count). rw a at (r.most j (omega arith));
@@ -103,45 +103,45 @@ victim-is g pages s = by (ltb 96 g.count) (ltb g.count pages) refl
 -- ---- ages taken once
 
 -- the age of page i, by what is read at its head h: `at` is h where there is such a page
-pub age-read : (g : Pages) (i h at : ℕ) → length g.slots ≡ 96 → h ≡ head_of i (kind_at g.slots i) → (h < 96 → at ≡ h)
-    → ageAt (slot_at g.slots at) h g.clock (get_or g.used at 0) ≡ age g i
+pub age_read : (g : Pages) (i h at : ℕ) → length g.slots ≡ 96 → h ≡ head_of i (kind_at g.slots i) → (h < 96 → at ≡ h)
+    → age_at (slot_at g.slots at) h g.clock (get_or g.used at 0) ≡ age g i
 unfolding age
-age-read g i h at n e f = by (ltb h 96) refl ∙ ap (headAge g) e
+age_read g i h at n e f = by (ltb h 96) refl ∙ ap (head_age g) e
   where
-    by : (t : Bool) → ltb h 96 ≡ t → cond t (slotAge (slot_at g.slots at) g.clock (get_or g.used at 0)) 4294967295 ≡ headAge g h
+    by : (t : Bool) → ltb h 96 ≡ t → cond t (slot_age (slot_at g.slots at) g.clock (get_or g.used at 0)) 4294967295 ≡ head_age g h
     by true q = rw (f (ltb-true h 96 q))
     by false q =
         let past : length g.slots ≤ h = omega (arith, ltb-false h 96 q) in
-        rw (get_or-eq_default g.slots emptySlot past)
+        rw (get_or-eq_default g.slots empty_slot past)
 
-pub aged-more : (g : Pages) (l : List ℕ) (i : ℕ) → i < length l → Aged g l i → Aged g (set l i (age g i)) (i + 1)
-aged-more g l i b f j h =
+pub aged_more : (g : Pages) (l : List ℕ) (i : ℕ) → i < length l → Aged g l i → Aged g (set l i (age g i)) (i + 1)
+aged_more g l i b f j h =
     ⊎_elim
     (λ e. rw e (get_or-set_same l i (age g i) 0 b))
     (λ e. get_or-set_other l i j (age g i) 0 e ∙ f j (omega (arith, e)))
     (same_or j i)
 
-least-same : (f h : ℕ → ℕ) (n : ℕ) → ((i : ℕ) → i < n → f i ≡ h i) → leastOf f n ≡ leastOf h n
-unfolding leastOf
-least-same f h zero e = refl
-least-same f h (suc n) e = rw (e n (omega arith), least-same f h n (λ (i : ℕ) (k : i < n). e i (omega arith)))
+least_same : (f h : ℕ → ℕ) (n : ℕ) → ((i : ℕ) → i < n → f i ≡ h i) → least_of f n ≡ least_of h n
+unfolding least_of
+least_same f h zero e = refl
+least_same f h (suc n) e = rw (e n (omega arith), least_same f h n (λ (i : ℕ) (k : i < n). e i (omega arith)))
 
-best-same : (f h : ℕ → ℕ) (n : ℕ) → ((i : ℕ) → i ≤ n → f i ≡ h i) → bestOf f n ≡ bestOf h n
-unfolding bestOf
-best-same f h zero e = rw (e 0 (omega arith))
-best-same f h (suc n) e = rw (e (suc n) (omega arith), best-same f h n (λ (i : ℕ) (k : i ≤ n). e i (omega arith)))
+best_same : (f h : ℕ → ℕ) (n : ℕ) → ((i : ℕ) → i ≤ n → f i ≡ h i) → best_of f n ≡ best_of h n
+unfolding best_of
+best_same f h zero e = rw (e 0 (omega arith))
+best_same f h (suc n) e = rw (e (suc n) (omega arith), best_same f h n (λ (i : ℕ) (k : i ≤ n). e i (omega arith)))
 
-youngest-in : (g : Pages) (l : List ℕ) (start n : ℕ) → start + n ≤ g.count → Aged g l g.count → youngestIn l n start ≡ youngest g n start
-youngest-in g l start n b f = least-same (λ (i : ℕ). get_or l (start + i) 0) (λ (i : ℕ). age g (start + i)) n (λ (i : ℕ) (h : i < n). f (start + i) (omega arith))
+youngest_in_lem : (g : Pages) (l : List ℕ) (start n : ℕ) → start + n ≤ g.count → Aged g l g.count → youngest_in l n start ≡ youngest g n start
+youngest_in_lem g l start n b f = least_same (λ (i : ℕ). get_or l (start + i) 0) (λ (i : ℕ). age g (start + i)) n (λ (i : ℕ) (h : i < n). f (start + i) (omega arith))
 
 -- the oldest by the list of ages is the victim
-pub oldest-is : (g : Pages) (l : List ℕ) → Aged g l g.count → (pages : ℕ) → oldest l g.count pages ≡ victim g pages
-oldest-is g l f pages = by (ltb 96 g.count) (ltb g.count pages) refl
+pub oldest_is : (g : Pages) (l : List ℕ) → Aged g l g.count → (pages : ℕ) → oldest l g.count pages ≡ victim g pages
+oldest_is g l f pages = by (ltb 96 g.count) (ltb g.count pages) refl
   where
     by : (t u : Bool) → ltb g.count pages ≡ u
-        → cond t Found.Nothing (cond u Found.Nothing (Found.At (bestOf (youngestIn l pages) (g.count - pages)).at))
-        ≡ cond t Found.Nothing (cond u Found.Nothing (Found.At (bestOf (youngest g pages) (g.count - pages)).at))
+        → cond t Found.Nothing (cond u Found.Nothing (Found.At (best_of (youngest_in l pages) (g.count - pages)).at))
+        ≡ cond t Found.Nothing (cond u Found.Nothing (Found.At (best_of (youngest g pages) (g.count - pages)).at))
     by true u p = refl
     by false true p = refl
     by false false p =
-        rw (best-same (youngestIn l pages) (youngest g pages) (g.count - pages) (λ (j : ℕ) (m : j ≤ g.count - pages). youngest-in g l j pages (omega (arith, ltb-false g.count pages p)) f))
+        rw (best_same (youngest_in l pages) (youngest g pages) (g.count - pages) (λ (j : ℕ) (m : j ≤ g.count - pages). youngest_in_lem g l j pages (omega (arith, ltb-false g.count pages p)) f))

@@ -14,9 +14,9 @@ use Rattle.cache.specs.Victim.{victim}
 abbrev pub replaced : Pages → ℕ → TileKey → ℕ → Pages
 replaced g s key len = placed (evicted (span len) s g) s key len
 
-abbrev pub begunAt : Pages → TileKey → ℕ → Found → Begun
-begunAt g key len Found.Nothing = record { pages = g; at = Found.Nothing }
-begunAt g key len (Found.At s) = record { pages = replaced g s key len; at = Found.At s }
+abbrev pub begun_at : Pages → TileKey → ℕ → Found → Begun
+begun_at g key len Found.Nothing = record { pages = g; at = Found.Nothing }
+begun_at g key len (Found.At s) = record { pages = replaced g s key len; at = Found.At s }
 
 abbrev pub begun : Pages → TileKey → ℕ → Begun
-begun g key len = begunAt g key len (victim g (span len))
+begun g key len = begun_at g key len (victim g (span len))

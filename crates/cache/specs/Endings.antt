@@ -5,18 +5,18 @@ use Rattle.cache.specs.declared.MaybeLoading.{MaybeLoading}
 use Rattle.cache.specs.declared.Pages.{Pages}
 use Rattle.cache.specs.declared.Ring.{Ring}
 use Rattle.cache.specs.Keys.{forgotten}
-use Rattle.cache.specs.Loads.{withReady, withoutRun}
+use Rattle.cache.specs.Loads.{with_ready, without_run}
 use Rattle.cache.specs.Lookups.{after}
 
 -- the run from page `at` on ready, and the most recently used
-abbrev pub readyPages : Pages → ℕ → Pages
-readyPages g at = record { slots = (withReady g at).slots; used = slice_set g.used at (after g.clock); count = g.count; clock = after g.clock }
+abbrev pub ready_pages : Pages → ℕ → Pages
+ready_pages g at = record { slots = (with_ready g at).slots; used = slice_set g.used at (after g.clock); count = g.count; clock = after g.clock }
 
-abbrev pub endedPages : Bool → Pages → MaybeLoading → ℕ → Pages
-endedPages ok g loading at = cond ok (readyPages g at) (withoutRun loading g)
+abbrev pub ended_pages : Bool → Pages → MaybeLoading → ℕ → Pages
+ended_pages ok g loading at = cond ok (ready_pages g at) (without_run loading g)
 
-abbrev pub endedRing : Bool → Ring → TileKey → Ring
-endedRing ok ring key = cond ok ring (forgotten ring key)
+abbrev pub ended_ring : Bool → Ring → TileKey → Ring
+ended_ring ok ring key = cond ok ring (forgotten ring key)
 
-abbrev pub endedLoads : Bool → ℕ → ℕ
-endedLoads ok loads = cond ok (after loads) loads
+abbrev pub ended_loads : Bool → ℕ → ℕ
+ended_loads ok loads = cond ok (after loads) loads

@@ -8,7 +8,7 @@ use Rattle.cache.specs.declared.Slot.{Slot}
 use Rattle.cache.specs.declared.Pages.{Pages}
 use Rattle.cache.specs.declared.Part.TheVariants as Part
 use Rattle.cache.specs.declared.MaybeKey.TheVariants as MaybeKey
-use Rattle.cache.specs.Runs.{span, emptySlot, slot_at, Kind, bare, run, piece, kind_of, kind_at, isRun}
+use Rattle.cache.specs.Runs.{span, empty_slot, slot_at, Kind, bare, run, piece, kind_of, kind_at, is_run}
 
 -- n elements of a list from `at` on set to v
 unfoldable pub fill : {A : Type 0} → ℕ → ℕ → A → List A → List A
@@ -25,28 +25,28 @@ head_of p bare = p
 
 -- pages of the run that starts with this slot; one where none does
 abbrev pub whole_of : Slot → ℕ
-whole_of s = cond (isRun (kind_of s)) (span s.len) 1
+whole_of s = cond (is_run (kind_of s)) (span s.len) 1
 
 -- of n pages from h on those below the count
-abbrev pub roomOf : ℕ → ℕ → ℕ → ℕ
-roomOf h n count = cond (nat_lt n (count - h)) n (count - h)
+abbrev pub room_of : ℕ → ℕ → ℕ → ℕ
+room_of h n count = cond (nat_lt n (count - h)) n (count - h)
 
 -- n pages from `from` on emptied, and their ages
-abbrev pub clearRun : ℕ → ℕ → Pages → Pages
-clearRun n from g = record { slots = fill n from emptySlot g.slots; used = fill n from 0 g.used; count = g.count; clock = g.clock }
+abbrev pub clear_run : ℕ → ℕ → Pages → Pages
+clear_run n from g = record { slots = fill n from empty_slot g.slots; used = fill n from 0 g.used; count = g.count; clock = g.clock }
 
 -- the run at h emptied, as far as it lies below the count
-abbrev pub clearAt : Pages → ℕ → Pages
-clearAt g h = clearRun (roomOf h (whole_of (slot_at g.slots h)) g.count) h g
+abbrev pub clear_at : Pages → ℕ → Pages
+clear_at g h = clear_run (room_of h (whole_of (slot_at g.slots h)) g.count) h g
 
 -- the whole run that page p is of emptied
-unfoldable pub evictedPage : Pages → ℕ → Pages
-evictedPage g p = clearAt g (head_of p (kind_at g.slots p))
+unfoldable pub evicted_page : Pages → ℕ → Pages
+evicted_page g p = clear_at g (head_of p (kind_at g.slots p))
 
 -- each run that has one of n pages from `first` on emptied, page by page
 unfoldable pub evicted : ℕ → ℕ → Pages → Pages
 evicted zero first g = g
-evicted (suc n) first g = evicted n (first + 1) (evictedPage g first)
+evicted (suc n) first g = evicted n (first + 1) (evicted_page g first)
 
 -- page q is in d as it is in g, slot and age
 pub record Same (g d : Pages) (q : ℕ) : Type 0 where
@@ -56,20 +56,20 @@ pub record Same (g d : Pages) (q : ℕ) : Type 0 where
 -- ---- placing
 
 -- a later page of the run at h
-abbrev pub pieceSlot : ℕ → Slot
-pieceSlot h = record { key = MaybeKey.Nothing; len = 0; ready = false; part = Part.Of h }
+abbrev pub piece_slot : ℕ → Slot
+piece_slot h = record { key = MaybeKey.Nothing; len = 0; ready = false; part = Part.Of h }
 
 -- the first page of a tile of len bytes that is not loaded yet
-abbrev pub headSlot : TileKey → ℕ → Slot
-headSlot key len = record { key = MaybeKey.Key key; len = len; ready = false; part = Part.Head }
+abbrev pub head_slot : TileKey → ℕ → Slot
+head_slot key len = record { key = MaybeKey.Key key; len = len; ready = false; part = Part.Head }
 
-abbrev pub withSlots : List Slot → Pages → Pages
-withSlots v g = record { slots = v; used = g.used; count = g.count; clock = g.clock }
+abbrev pub with_slots : List Slot → Pages → Pages
+with_slots v g = record { slots = v; used = g.used; count = g.count; clock = g.clock }
 
 -- n pages from `from` on written as pieces of the run at h
-abbrev pub pieceRun : ℕ → ℕ → ℕ → Pages → Pages
-pieceRun n from h g = withSlots (fill n from (pieceSlot h) g.slots) g
+abbrev pub piece_run : ℕ → ℕ → ℕ → Pages → Pages
+piece_run n from h g = with_slots (fill n from (piece_slot h) g.slots) g
 
 -- a run of span len pages written from `slot` on: the head, then its pieces; ages stay
 abbrev pub placed : Pages → ℕ → TileKey → ℕ → Pages
-placed g slot key len = pieceRun (span len - 1) (slot + 1) slot (withSlots (slice_set g.slots slot (headSlot key len)) g)
+placed g slot key len = piece_run (span len - 1) (slot + 1) slot (with_slots (slice_set g.slots slot (head_slot key len)) g)

@@ -3,8 +3,8 @@
 -- A chunk writes its own bytes of the arena and no others.
 use Rattle.std.specs.Prelude.{ℕ, ◌+◌, ◌-◌, ◌*◌, Bool, true, false, cond, List, [], ◌∷◌, length, take, drop, ◌==◌, nat_le, nat_lt, slice_set}
 use Rattle.std.proofs.Math.Seq.{paste}
-use Rattle.pack.specs.Bytes.{byteAt}
-use Rattle.pack.specs.Grid.{inGrid, entry_of, locateOf}
+use Rattle.pack.specs.Bytes.{byte_at}
+use Rattle.pack.specs.Grid.{in_grid, entry_of, locate_of}
 use Rattle.pack.specs.declared.TileKey.{TileKey}
 use Rattle.pack.specs.declared.Header.{Header}
 use Rattle.pack.specs.declared.Located.{Located}
@@ -14,7 +14,7 @@ use Rattle.cache.specs.declared.Pages.{Pages}
 use Rattle.cache.specs.declared.victim.Found.{Found}
 use Rattle.cache.specs.declared.victim.Found.TheVariants as Found
 use Rattle.cache.specs.Runs.{slot_at}
-use Rattle.cache.specs.Evict.{evicted, withSlots}
+use Rattle.cache.specs.Evict.{evicted, with_slots}
 use Rattle.cache.specs.Begin.{begun}
 use Rattle.cache.specs.declared.Cache.{Cache}
 use Rattle.cache.specs.declared.Loading.{Loading}
@@ -35,12 +35,12 @@ use Rattle.cache.specs.Lookups.{passes, len_at, after, touched}
 -- ---- the read
 
 -- bytes of the next chunk: what is left, 2,048 at most
-unfoldable pub chunkLen : Loading → ℕ
-chunkLen l = cond (nat_lt (l.len - l.done) 2048) (l.len - l.done) 2048
+unfoldable pub chunk_len : Loading → ℕ
+chunk_len l = cond (nat_lt (l.len - l.done) 2048) (l.len - l.done) 2048
 
 -- where in the pack it stands
-abbrev pub chunkOffset : Loading → ℕ
-chunkOffset l = l.offset + l.done
+abbrev pub chunk_offset : Loading → ℕ
+chunk_offset l = l.offset + l.done
 
 -- the read that the step n makes; a ready run that no longer passes is the late 12
 abbrev pub fetched : Cache → Next → List ℕ → Header → TileKey → Request
@@ -48,15 +48,15 @@ fetched c (Next.Ready i) arena h key = cond (passes arena i (len_at c i) key h.t
 fetched c Next.Missing arena h key = Request.Settled
 fetched c Next.NoPages arena h key = Request.Settled
 fetched c Next.Entry arena h key = Request.Read (entry_of h key) 8
-fetched c (Next.Chunk l) arena h key = Request.Read (chunkOffset l) (chunkLen l)
+fetched c (Next.Chunk l) arena h key = Request.Read (chunk_offset l) (chunk_len l)
 
 -- its length, 0 where none is made
-abbrev pub readLen : Next → ℕ
-readLen (Next.Ready i) = 0
-readLen Next.Missing = 0
-readLen Next.NoPages = 0
-readLen Next.Entry = 8
-readLen (Next.Chunk l) = chunkLen l
+abbrev pub read_len : Next → ℕ
+read_len (Next.Ready i) = 0
+read_len Next.Missing = 0
+read_len Next.NoPages = 0
+read_len Next.Entry = 8
+read_len (Next.Chunk l) = chunk_len l
 
 -- a read of n bytes is answered by n bytes with failure 0, or by failure 1 or 2; where no read is made, by failure 0 and no bytes
 abbrev pub fits : ℕ → ℕ → ℕ → Bool
@@ -64,7 +64,7 @@ fits n failure len = cond (failure == 0) (len == n) (cond (nat_lt 2 failure) fal
 
 -- towards a key outside the grid no read is made
 abbrev pub takes : Next → Header → TileKey → ℕ → ℕ → Bool
-takes n h key failure len = cond (inGrid h key) (fits (readLen n) failure len) (fits 0 failure len)
+takes n h key failure len = cond (in_grid h key) (fits (read_len n) failure len) (fits 0 failure len)
 
 -- ---- what a step leaves: its answer, the state and the arena
 
@@ -114,32 +114,32 @@ forgot c key = record {
   loads = c.loads;
 }
 
-abbrev pub withoutRun : MaybeLoading → Pages → Pages
-withoutRun MaybeLoading.Nothing g = g
-withoutRun (MaybeLoading.Tile l) g = evicted 1 l.slot g
+abbrev pub without_run : MaybeLoading → Pages → Pages
+without_run MaybeLoading.Nothing g = g
+without_run (MaybeLoading.Tile l) g = evicted 1 l.slot g
 
 -- the load, if there is one, and its run dropped
 unfoldable pub dropped : Cache → Cache
-dropped c = moved c (withoutRun c.loading c.pages) MaybeLoading.Nothing
+dropped c = moved c (without_run c.loading c.pages) MaybeLoading.Nothing
 
 -- ---- the entry came
 
 -- the first eight bytes of an answer, 0 where it is shorter
-abbrev pub entryBytes : List ℕ → List ℕ
-entryBytes bs =
-    byteAt bs 0 ∷ byteAt bs 1 ∷ byteAt bs 2 ∷ byteAt bs 3 ∷ byteAt bs 4 ∷ byteAt bs 5 ∷ byteAt bs 6 ∷ byteAt bs 7 ∷ []
+abbrev pub entry_bytes : List ℕ → List ℕ
+entry_bytes bs =
+    byte_at bs 0 ∷ byte_at bs 1 ∷ byte_at bs 2 ∷ byte_at bs 3 ∷ byte_at bs 4 ∷ byte_at bs 5 ∷ byte_at bs 6 ∷ byte_at bs 7 ∷ []
 
-abbrev pub newLoad : TileKey → ℕ → ℕ → ℕ → Loading
-newLoad key slot offset len = record { key = key; slot = slot; offset = offset; len = len; done = 0 }
+abbrev pub new_load : TileKey → ℕ → ℕ → ℕ → Loading
+new_load key slot offset len = record { key = key; slot = slot; offset = offset; len = len; done = 0 }
 
-abbrev pub beganAt : Found → Cache → Pages → TileKey → ℕ → ℕ → Loaded
-beganAt Found.Nothing c g key offset len = done (forgot c key)
-beganAt (Found.At slot) c g key offset len = more (moved c g (MaybeLoading.Tile (newLoad key slot offset len)))
+abbrev pub began_at : Found → Cache → Pages → TileKey → ℕ → ℕ → Loaded
+began_at Found.Nothing c g key offset len = done (forgot c key)
+began_at (Found.At slot) c g key offset len = more (moved c g (MaybeLoading.Tile (new_load key slot offset len)))
 
 -- the load begins; the key is missing where the tile has more than 49,152 bytes or no run of pages is long enough
 unfoldable pub began : Cache → TileKey → ℕ → ℕ → Loaded
 began c key offset len =
-    let b = begun c.pages key len in cond (nat_lt 49152 len) (done (forgot c key)) (beganAt b.at c b.pages key offset len)
+    let b = begun c.pages key len in cond (nat_lt 49152 len) (done (forgot c key)) (began_at b.at c b.pages key offset len)
 
 -- length 0: no tile, so missing; a bad entry: 4
 abbrev pub located : Located → Cache → TileKey → Loaded
@@ -148,8 +148,8 @@ located (Located.Refused n) c key = failed c n
 located (Located.Tile offset len) c key = began c key offset len
 
 -- another tile's load is dropped first, whatever the answer is
-unfoldable pub entryStep : Cache → Header → TileKey → ℕ → List ℕ → Loaded
-entryStep c h key failure bs = cond (failure == 0) (located (locateOf h bs) (dropped c) key) (failed (dropped c) failure)
+unfoldable pub entry_step : Cache → Header → TileKey → ℕ → List ℕ → Loaded
+entry_step c h key failure bs = cond (failure == 0) (located (locate_of h bs) (dropped c) key) (failed (dropped c) failure)
 
 -- ---- a chunk came
 
@@ -160,18 +160,18 @@ put arena slot done bs =
     cond (nat_le (slot * 8192 + done + length bs) (length arena)) (paste arena (slot * 8192 + done) bs (length bs)) arena
 
 -- the slot of a tile that is ready
-abbrev pub readySlot : Slot → Slot
-readySlot s = record { key = s.key; len = s.len; ready = true; part = s.part }
+abbrev pub ready_slot : Slot → Slot
+ready_slot s = record { key = s.key; len = s.len; ready = true; part = s.part }
 
-abbrev pub withReady : Pages → ℕ → Pages
-withReady g i = withSlots (slice_set g.slots i (readySlot (slot_at g.slots i))) g
+abbrev pub with_ready : Pages → ℕ → Pages
+with_ready g i = with_slots (slice_set g.slots i (ready_slot (slot_at g.slots i))) g
 
 abbrev pub counted : Cache → Cache
 counted c = record { pages = c.pages; missing = c.missing; loading = c.loading; pending = c.pending; loads = after c.loads }
 
 -- the load's tile ready, the most recently used, and counted
 unfoldable pub readied : Cache → Loading → Cache
-readied c l = counted (touched (moved c (withReady c.pages l.slot) MaybeLoading.Nothing) l.slot)
+readied c l = counted (touched (moved c (with_ready c.pages l.slot) MaybeLoading.Nothing) l.slot)
 
 -- the last chunk came: ready if the tile passes, missing if not
 unfoldable pub ended : Cache → List ℕ → Loading → ℕ → Cache
@@ -182,58 +182,58 @@ unfoldable pub further : Cache → Loading → ℕ → Cache
 further c l come =
     moved c c.pages (MaybeLoading.Tile (record { key = l.key; slot = l.slot; offset = l.offset; len = l.len; done = come }))
 
-abbrev pub chunkCame : Cache → Loading → List ℕ → ℕ → ℕ → After
-chunkCame c l arena size come =
+abbrev pub chunk_came : Cache → Loading → List ℕ → ℕ → ℕ → After
+chunk_came c l arena size come =
     cond (nat_lt come l.len) (over (more (further c l come)) arena) (over (done (ended c arena l size)) arena)
 
-unfoldable pub chunkStep : Cache → Loading → List ℕ → ℕ → ℕ → List ℕ → After
-chunkStep c l arena size failure bs =
-    cond (failure == 0) (chunkCame c l (put arena l.slot l.done bs) size (l.done + chunkLen l)) (over (failed (dropped c) failure) arena)
+unfoldable pub chunk_step : Cache → Loading → List ℕ → ℕ → ℕ → List ℕ → After
+chunk_step c l arena size failure bs =
+    cond (failure == 0) (chunk_came c l (put arena l.slot l.done bs) size (l.done + chunk_len l)) (over (failed (dropped c) failure) arena)
 
 -- ---- the step
 
 -- the tile is ready: its run checked again, and the most recently used
-abbrev pub readyStep : Cache → ℕ → List ℕ → TileKey → ℕ → Loaded
-readyStep c i arena key size = cond (passes arena i (len_at c i) key size) (done (touched c i)) (refused c 12)
+abbrev pub ready_step : Cache → ℕ → List ℕ → TileKey → ℕ → Loaded
+ready_step c i arena key size = cond (passes arena i (len_at c i) key size) (done (touched c i)) (refused c 12)
 
 abbrev pub stepped : Cache → Next → List ℕ → Header → TileKey → ℕ → List ℕ → After
-stepped c (Next.Ready i) arena h key failure bs = over (readyStep c i arena key h.tile) arena
+stepped c (Next.Ready i) arena h key failure bs = over (ready_step c i arena key h.tile) arena
 stepped c Next.Missing arena h key failure bs = over (done c) arena
 stepped c Next.NoPages arena h key failure bs = over (done (forgot c key)) arena
-stepped c Next.Entry arena h key failure bs = over (entryStep c h key failure bs) arena
-stepped c (Next.Chunk l) arena h key failure bs = chunkStep c l arena h.tile failure bs
+stepped c Next.Entry arena h key failure bs = over (entry_step c h key failure bs) arena
+stepped c (Next.Chunk l) arena h key failure bs = chunk_step c l arena h.tile failure bs
 
 -- ---- the step without a read: this restates private code
 
 -- a load that has all of its tile is checked; any other is to be read first
-abbrev pub chunkUnread : Cache → Loading → List ℕ → ℕ → Loaded
-chunkUnread c l arena size = cond (nat_le l.len l.done) (done (ended c arena l size)) (refused c 11)
+abbrev pub chunk_unread : Cache → Loading → List ℕ → ℕ → Loaded
+chunk_unread c l arena size = cond (nat_le l.len l.done) (done (ended c arena l size)) (refused c 11)
 
-abbrev pub unreadStep : Cache → Next → List ℕ → TileKey → ℕ → Loaded
-unreadStep c (Next.Ready i) arena key size = readyStep c i arena key size
-unreadStep c Next.Missing arena key size = done c
-unreadStep c Next.NoPages arena key size = done (forgot c key)
-unreadStep c Next.Entry arena key size = refused c 11
-unreadStep c (Next.Chunk l) arena key size = chunkUnread c l arena size
+abbrev pub unread_step : Cache → Next → List ℕ → TileKey → ℕ → Loaded
+unread_step c (Next.Ready i) arena key size = ready_step c i arena key size
+unread_step c Next.Missing arena key size = done c
+unread_step c Next.NoPages arena key size = done (forgot c key)
+unread_step c Next.Entry arena key size = refused c 11
+unread_step c (Next.Chunk l) arena key size = chunk_unread c l arena size
 
 -- ---- the step over a lent pack
 
 -- n bytes of the pack from `offset` on
-abbrev pub packBytes : List ℕ → ℕ → ℕ → List ℕ
-packBytes pack offset n = take n (drop offset pack)
+abbrev pub pack_bytes : List ℕ → ℕ → ℕ → List ℕ
+pack_bytes pack offset n = take n (drop offset pack)
 
-abbrev pub entryFrom : Cache → Header → TileKey → List ℕ → Loaded
-entryFrom c h key pack =
-    cond (nat_le (entry_of h key + 8) (length pack)) (entryStep c h key 0 (packBytes pack (entry_of h key) 8)) (entryStep c h key 2 [])
+abbrev pub entry_from : Cache → Header → TileKey → List ℕ → Loaded
+entry_from c h key pack =
+    cond (nat_le (entry_of h key + 8) (length pack)) (entry_step c h key 0 (pack_bytes pack (entry_of h key) 8)) (entry_step c h key 2 [])
 
-abbrev pub chunkFrom : Cache → Loading → List ℕ → ℕ → List ℕ → After
-chunkFrom c l arena size pack =
-    cond (nat_le (chunkOffset l + chunkLen l) (length pack)) (chunkStep c l arena size 0 (packBytes pack (chunkOffset l) (chunkLen l)))
-    (chunkStep c l arena size 2 [])
+abbrev pub chunk_from : Cache → Loading → List ℕ → ℕ → List ℕ → After
+chunk_from c l arena size pack =
+    cond (nat_le (chunk_offset l + chunk_len l) (length pack)) (chunk_step c l arena size 0 (pack_bytes pack (chunk_offset l) (chunk_len l)))
+    (chunk_step c l arena size 2 [])
 
-abbrev pub steppedFrom : Cache → Next → List ℕ → Header → TileKey → List ℕ → After
-steppedFrom c (Next.Ready i) arena h key pack = over (readyStep c i arena key h.tile) arena
-steppedFrom c Next.Missing arena h key pack = over (done c) arena
-steppedFrom c Next.NoPages arena h key pack = over (done (forgot c key)) arena
-steppedFrom c Next.Entry arena h key pack = over (entryFrom c h key pack) arena
-steppedFrom c (Next.Chunk l) arena h key pack = chunkFrom c l arena h.tile pack
+abbrev pub stepped_from : Cache → Next → List ℕ → Header → TileKey → List ℕ → After
+stepped_from c (Next.Ready i) arena h key pack = over (ready_step c i arena key h.tile) arena
+stepped_from c Next.Missing arena h key pack = over (done c) arena
+stepped_from c Next.NoPages arena h key pack = over (done (forgot c key)) arena
+stepped_from c Next.Entry arena h key pack = over (entry_from c h key pack) arena
+stepped_from c (Next.Chunk l) arena h key pack = chunk_from c l arena h.tile pack

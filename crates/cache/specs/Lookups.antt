@@ -18,30 +18,30 @@ use Rattle.cache.specs.declared.look.Landing.{Landing}
 use Rattle.cache.specs.declared.look.Landing.TheVariants as Landing
 use Rattle.cache.specs.declared.next.Next.{Next}
 use Rattle.cache.specs.declared.next.Next.TheVariants as Next
-use Rattle.cache.specs.Keys.{sameKey, inRing, readyAt}
+use Rattle.cache.specs.Keys.{same_key, in_ring, ready_at}
 
 -- ---- what a lookup lands on
 
-abbrev pub landedOn : Found → Landing
-landedOn (Found.At i) = Landing.At i
-landedOn Found.Nothing = Landing.Nothing
+abbrev pub landed_on : Found → Landing
+landed_on (Found.At i) = Landing.At i
+landed_on Found.Nothing = Landing.Nothing
 
 -- the ring first, then the lowest ready run
-unfoldable pub landsOn : Cache → TileKey → Landing
-landsOn c key = cond (inRing c.missing key) Landing.Missing (landedOn (readyAt c.pages key))
+unfoldable pub lands_on : Cache → TileKey → Landing
+lands_on c key = cond (in_ring c.missing key) Landing.Missing (landed_on (ready_at c.pages key))
 
 -- ---- the run
 
 -- the bytes of a run: len of them from its first page on
-abbrev pub runBytes : List ℕ → ℕ → ℕ → List ℕ
-runBytes arena first len = take len (drop (first * 8192) arena)
+abbrev pub run_bytes : List ℕ → ℕ → ℕ → List ℕ
+run_bytes arena first len = take len (drop (first * 8192) arena)
 
 abbrev pub accepts : List ℕ → TileKey → ℕ → Bool
 accepts bs key size = Parse.accepts bs key size
 
 -- the run lies in the arena and passes `Tile::parse` for its key
 unfoldable pub passes : List ℕ → ℕ → ℕ → TileKey → ℕ → Bool
-passes arena first len key size = nat_le (first * 8192 + len) (length arena) && accepts (runBytes arena first len) key size
+passes arena first len key size = nat_le (first * 8192 + len) (length arena) && accepts (run_bytes arena first len) key size
 
 abbrev pub len_at : Cache → ℕ → ℕ
 len_at c i = (slot_at c.pages.slots i).len
@@ -67,28 +67,28 @@ touched c i = record {
 
 -- ---- get
 
-abbrev pub gotReady : Bool → Cache → ℕ → Got
-gotReady ok c i =
+abbrev pub got_ready : Bool → Cache → ℕ → Got
+got_ready ok c i =
     cond ok (record { answer = Lookup.Ready i (len_at c i); cache = touched c i }) (record { answer = Lookup.Refused 12; cache = c })
 
-abbrev pub gotAt : Landing → Cache → List ℕ → ℕ → TileKey → Got
-gotAt Landing.Missing c arena size key = record { answer = Lookup.Missing; cache = c }
-gotAt Landing.Nothing c arena size key = record { answer = Lookup.Absent; cache = c }
-gotAt (Landing.At i) c arena size key = gotReady (passes arena i (len_at c i) key size) c i
+abbrev pub got_at : Landing → Cache → List ℕ → ℕ → TileKey → Got
+got_at Landing.Missing c arena size key = record { answer = Lookup.Missing; cache = c }
+got_at Landing.Nothing c arena size key = record { answer = Lookup.Absent; cache = c }
+got_at (Landing.At i) c arena size key = got_ready (passes arena i (len_at c i) key size) c i
 
 -- a lookup in a state that 12 does not name, of a key in the grid
 unfoldable pub got : Cache → List ℕ → ℕ → TileKey → Got
-got c arena size key = gotAt (landsOn c key) c arena size key
+got c arena size key = got_at (lands_on c key) c arena size key
 
 -- ---- in two steps, for the crates above: what a lookup lands on, and the late check of it. Together they are what `got` answers (`checked-landed`)
 
-abbrev pub landedBy : Landing → Cache → Lookup
-landedBy Landing.Missing c = Lookup.Missing
-landedBy Landing.Nothing c = Lookup.Absent
-landedBy (Landing.At i) c = Lookup.Ready i (len_at c i)
+abbrev pub landed_by : Landing → Cache → Lookup
+landed_by Landing.Missing c = Lookup.Missing
+landed_by Landing.Nothing c = Lookup.Absent
+landed_by (Landing.At i) c = Lookup.Ready i (len_at c i)
 
 unfoldable pub landed : Cache → TileKey → Lookup
-landed c key = landedBy (landsOn c key) c
+landed c key = landed_by (lands_on c key) c
 
 abbrev pub checked : Lookup → List ℕ → ℕ → TileKey → Lookup
 checked (Lookup.Ready first len) arena size key = cond (passes arena first len key size) (Lookup.Ready first len) (Lookup.Refused 12)
@@ -99,24 +99,24 @@ checked (Lookup.Refused number) arena size key = Lookup.Refused number
 -- ---- pages
 
 -- pages of a ready tile, one for anything else; the ring is not asked
-abbrev pub pagesAt : Found → Pages → ℕ
-pagesAt (Found.At i) g = span (slot_at g.slots i).len
-pagesAt Found.Nothing g = 1
+abbrev pub pages_at : Found → Pages → ℕ
+pages_at (Found.At i) g = span (slot_at g.slots i).len
+pages_at Found.Nothing g = 1
 
-unfoldable pub pagesOf : Pages → TileKey → ℕ
-pagesOf g key = pagesAt (readyAt g key) g
+unfoldable pub pages_of : Pages → TileKey → ℕ
+pages_of g key = pages_at (ready_at g key) g
 
 -- ---- the next step towards a tile
 
 -- a chunk where this tile is being loaded, else its directory entry
-abbrev pub nextRead : MaybeLoading → TileKey → Next
-nextRead MaybeLoading.Nothing key = Next.Entry
-nextRead (MaybeLoading.Tile l) key = cond (sameKey l.key key) (Next.Chunk l) Next.Entry
+abbrev pub next_read : MaybeLoading → TileKey → Next
+next_read MaybeLoading.Nothing key = Next.Entry
+next_read (MaybeLoading.Tile l) key = cond (same_key l.key key) (Next.Chunk l) Next.Entry
 
 abbrev pub next_at : Landing → Cache → TileKey → Next
 next_at (Landing.At i) c key = Next.Ready i
 next_at Landing.Missing c key = Next.Missing
-next_at Landing.Nothing c key = cond (c.pages.count == 0) Next.NoPages (nextRead c.loading key)
+next_at Landing.Nothing c key = cond (c.pages.count == 0) Next.NoPages (next_read c.loading key)
 
-unfoldable pub nextStep : Cache → TileKey → Next
-nextStep c key = next_at (landsOn c key) c key
+unfoldable pub next_step : Cache → TileKey → Next
+next_step c key = next_at (lands_on c key) c key

@@ -12,34 +12,34 @@ use Rattle.cache.specs.declared.Request.TheVariants as Request
 use Rattle.cache.specs.declared.Progress.{Progress}
 use Rattle.cache.specs.declared.Progress.TheVariants as Progress
 
-abbrev pub numberOfLookup : Lookup → ℕ
-numberOfLookup (Lookup.Ready first len) = 0
-numberOfLookup Lookup.Missing = 0
-numberOfLookup Lookup.Absent = 0
-numberOfLookup (Lookup.Refused number) = number
+abbrev pub number_of_lookup : Lookup → ℕ
+number_of_lookup (Lookup.Ready first len) = 0
+number_of_lookup Lookup.Missing = 0
+number_of_lookup Lookup.Absent = 0
+number_of_lookup (Lookup.Refused number) = number
 
-abbrev pub numberOfCount : Count → ℕ
-numberOfCount (Count.Is n) = 0
-numberOfCount (Count.Refused number) = number
+abbrev pub number_of_count : Count → ℕ
+number_of_count (Count.Is n) = 0
+number_of_count (Count.Refused number) = number
 
-abbrev pub numberOfClearing : Clearing → ℕ
-numberOfClearing Clearing.Done = 0
-numberOfClearing (Clearing.Refused number) = number
+abbrev pub number_of_clearing : Clearing → ℕ
+number_of_clearing Clearing.Done = 0
+number_of_clearing (Clearing.Refused number) = number
 
-abbrev pub numberOfRequest : Request → ℕ
-numberOfRequest Request.Settled = 0
-numberOfRequest (Request.Read offset len) = 0
-numberOfRequest (Request.Refused number) = number
+abbrev pub number_of_request : Request → ℕ
+number_of_request Request.Settled = 0
+number_of_request (Request.Read offset len) = 0
+number_of_request (Request.Refused number) = number
 
-abbrev pub numberOfProgress : Progress → ℕ
-numberOfProgress Progress.Done = 0
-numberOfProgress Progress.More = 0
-numberOfProgress (Progress.Failed number) = number
-numberOfProgress (Progress.Refused number) = number
+abbrev pub number_of_progress : Progress → ℕ
+number_of_progress Progress.Done = 0
+number_of_progress Progress.More = 0
+number_of_progress (Progress.Failed number) = number
+number_of_progress (Progress.Refused number) = number
 
 -- the number of a step that was refused: one that failed was taken
-abbrev pub refusedProgress : Progress → ℕ
-refusedProgress Progress.Done = 0
-refusedProgress Progress.More = 0
-refusedProgress (Progress.Failed number) = 0
-refusedProgress (Progress.Refused number) = number
+abbrev pub refused_progress : Progress → ℕ
+refused_progress Progress.Done = 0
+refused_progress Progress.More = 0
+refused_progress (Progress.Failed number) = 0
+refused_progress (Progress.Refused number) = number

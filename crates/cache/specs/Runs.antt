@@ -18,12 +18,12 @@ unfoldable pub span : ℕ → ℕ
 span len = (len - 1) / 8192 + 1
 
 -- the Rust's `Slot::default()`
-abbrev pub emptySlot : Slot
-emptySlot = record { key = MaybeKey.Nothing; len = 0; ready = false; part = Part.Head }
+abbrev pub empty_slot : Slot
+empty_slot = record { key = MaybeKey.Nothing; len = 0; ready = false; part = Part.Head }
 
 -- the slot of page i; past the last page the empty one
 abbrev pub slot_at : List Slot → ℕ → Slot
-slot_at s i = slice_index_or s i emptySlot
+slot_at s i = slice_index_or s i empty_slot
 
 -- what a page is: nothing, the first of a run, or a later page of the run at h
 pub data Kind : Type 0 where
@@ -32,13 +32,13 @@ pub data Kind : Type 0 where
   piece : ℕ → Kind
 
 -- a page that points at another is a piece, whatever its key; a first page is a run where it has a key
-abbrev pub kindBy : Part → MaybeKey → Kind
-kindBy (Part.Of h) k = piece h
-kindBy Part.Head (MaybeKey.Key k) = run
-kindBy Part.Head MaybeKey.Nothing = bare
+abbrev pub kind_by : Part → MaybeKey → Kind
+kind_by (Part.Of h) k = piece h
+kind_by Part.Head (MaybeKey.Key k) = run
+kind_by Part.Head MaybeKey.Nothing = bare
 
 abbrev pub kind_of : Slot → Kind
-kind_of s = kindBy s.part s.key
+kind_of s = kind_by s.part s.key
 
 abbrev pub kind_at : List Slot → ℕ → Kind
 kind_at s p = kind_of (slot_at s p)
@@ -49,48 +49,48 @@ end_of s p = p + span (slot_at s p).len
 
 -- ---- tests of a page
 
-abbrev pub isRun : Kind → Bool
-isRun run = true
-isRun bare = false
-isRun (piece h) = false
+abbrev pub is_run : Kind → Bool
+is_run run = true
+is_run bare = false
+is_run (piece h) = false
 
 -- a later page of the run at p
-abbrev pub isPiece : ℕ → Kind → Bool
-isPiece p run = false
-isPiece p bare = false
-isPiece p (piece h) = h == p
+abbrev pub is_piece : ℕ → Kind → Bool
+is_piece p run = false
+is_piece p bare = false
+is_piece p (piece h) = h == p
 
-abbrev pub noKey : MaybeKey → Bool
-noKey MaybeKey.Nothing = true
-noKey (MaybeKey.Key k) = false
+abbrev pub no_key : MaybeKey → Bool
+no_key MaybeKey.Nothing = true
+no_key (MaybeKey.Key k) = false
 
 -- ---- well-formed, as a test
 
 -- the n pages after p are pieces of the run at p
-abbrev pub piecesOk : List Slot → ℕ → ℕ → Bool
-piecesOk s p n = all_below (λ (i : ℕ). isPiece p (kind_at s (p + 1 + i))) n
+abbrev pub pieces_ok : List Slot → ℕ → ℕ → Bool
+pieces_ok s p n = all_below (λ (i : ℕ). is_piece p (kind_at s (p + 1 + i))) n
 
 -- the run at p lies within the count and has all its pieces
-unfoldable pub runOk : List Slot → ℕ → ℕ → Bool
-runOk s count p = nat_lt p count && (nat_le (span (slot_at s p).len) (count - p) && piecesOk s p (span (slot_at s p).len - 1))
+unfoldable pub run_ok : List Slot → ℕ → ℕ → Bool
+run_ok s count p = nat_lt p count && (nat_le (span (slot_at s p).len) (count - p) && pieces_ok s p (span (slot_at s p).len - 1))
 
 -- page p, which points at h, is of a run at h, before it: one that reaches it, and it has no key, which would be a run over another. What
 -- else stands in such a page nobody reads
-unfoldable pub pieceOk : List Slot → ℕ → ℕ → Bool
-pieceOk s p h = nat_lt h p && (isRun (kind_at s h) && (nat_lt (p - h) (span (slot_at s h).len) && noKey (slot_at s p).key))
+unfoldable pub piece_ok : List Slot → ℕ → ℕ → Bool
+piece_ok s p h = nat_lt h p && (is_run (kind_at s h) && (nat_lt (p - h) (span (slot_at s h).len) && no_key (slot_at s p).key))
 
 -- a bare page is of no run, whatever its length and its mark are
-abbrev pub kindOk : List Slot → ℕ → ℕ → Kind → Bool
-kindOk s count p run = runOk s count p
-kindOk s count p (piece h) = pieceOk s p h
-kindOk s count p bare = true
+abbrev pub kind_ok : List Slot → ℕ → ℕ → Kind → Bool
+kind_ok s count p run = run_ok s count p
+kind_ok s count p (piece h) = piece_ok s p h
+kind_ok s count p bare = true
 
-abbrev pub pageOk : List Slot → ℕ → ℕ → Bool
-pageOk s count p = kindOk s count p (kind_at s p)
+abbrev pub page_ok : List Slot → ℕ → ℕ → Bool
+page_ok s count p = kind_ok s count p (kind_at s p)
 
 -- the count is at most 96, and each of the 96 pages is as it must be
-abbrev pub runsOk : Pages → Bool
-runsOk g = nat_le g.count 96 && all_below (pageOk g.slots g.count) 96
+abbrev pub runs_ok : Pages → Bool
+runs_ok g = nat_le g.count 96 && all_below (page_ok g.slots g.count) 96
 
 -- ---- well-formed, as facts
 
@@ -104,7 +104,7 @@ pub record PieceGood (s : List Slot) (p h : ℕ) : Type 0 where
   pub later : h < p
   pub head : kind_at s h ≡ run
   pub inside : p < end_of s h
-  pub keyless : noKey (slot_at s p).key ≡ true
+  pub keyless : no_key (slot_at s p).key ≡ true
 
 abbrev pub KindGood : List Slot → ℕ → ℕ → Kind → Type 0
 KindGood s count p run = RunGood s count p

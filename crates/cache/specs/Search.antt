@@ -13,6 +13,6 @@ unfoldable pub lowest : (ℕ → Bool) → ℕ → Found
 lowest p zero = Found.Nothing
 lowest p (suc n) = or_else (lowest p n) (cond (p n) (Found.At n) Found.Nothing)
 
-abbrev pub isFound : Found → Bool
-isFound (Found.At i) = true
-isFound Found.Nothing = false
+abbrev pub is_found : Found → Bool
+is_found (Found.At i) = true
+is_found Found.Nothing = false

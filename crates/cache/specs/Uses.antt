@@ -5,16 +5,16 @@ use Rattle.cache.specs.declared.Aging.{Aging}
 use Rattle.cache.specs.declared.Cache.{Cache}
 use Rattle.cache.specs.Lookups.{after}
 
-abbrev pub usesOf : Cache → Aging
-usesOf c = record { clock = c.pages.clock; used = c.pages.used }
+abbrev pub uses_of : Cache → Aging
+uses_of c = record { clock = c.pages.clock; used = c.pages.used }
 
 -- the run from page i on is the most recently used
-abbrev pub usedAt : Aging → ℕ → Aging
-usedAt a i = record { clock = after a.clock; used = slice_set a.used i (after a.clock) }
+abbrev pub used_at : Aging → ℕ → Aging
+used_at a i = record { clock = after a.clock; used = slice_set a.used i (after a.clock) }
 
 -- the cache with that clock and those ages
-abbrev pub withUses : Cache → Aging → Cache
-withUses c a = record {
+abbrev pub with_uses : Cache → Aging → Cache
+with_uses c a = record {
   pages = record { slots = c.pages.slots; used = a.used; count = c.pages.count; clock = a.clock };
   missing = c.missing;
   loading = c.loading;

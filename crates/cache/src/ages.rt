@@ -29,7 +29,7 @@ fn row_of(k: MaybeKey) -> u32
 }
 
 fn col_of(k: MaybeKey) -> u32
-    ensures { result ≡ Ages.colOf k }
+    ensures { result ≡ Ages.col_of k }
 {
     match k {
         MaybeKey::Nothing => 0,
@@ -39,7 +39,7 @@ fn col_of(k: MaybeKey) -> u32
 
 // The key of the tile that is ready on a page.
 fn ready_key(s: Slot) -> MaybeKey
-    ensures { result ≡ Ages.readyKey s }
+    ensures { result ≡ Ages.ready_key s }
 {
     if s.ready {
         return s.key;
@@ -50,7 +50,7 @@ fn ready_key(s: Slot) -> MaybeKey
 // Page `i`: its age, and the tile that is ready there.
 fn page_in(looks: &mut [u32; LOOKUPS], i: usize, age: u32, s: Slot)
     requires { i < 96 }
-    ensures { looks.new ≡ Ages.pageIn looks.old i age s }
+    ensures { looks.new ≡ Ages.page_in looks.old i age s }
 {
     let k = ready_key(s);
     looks[i] = age;
@@ -60,7 +60,7 @@ fn page_in(looks: &mut [u32; LOOKUPS], i: usize, age: u32, s: Slot)
 }
 
 fn pages_in(looks: &mut [u32; LOOKUPS], g: Pages)
-    ensures { looks.new ≡ Ages.pagesIn looks.old g 96 }
+    ensures { looks.new ≡ Ages.pages_in looks.old g 96 }
 {
     let mut i = 0;
     while i < crate::MAX_PAGES {
@@ -72,7 +72,7 @@ fn pages_in(looks: &mut [u32; LOOKUPS], g: Pages)
 }
 
 fn ring_in(looks: &mut [u32; LOOKUPS], ring: Ring)
-    ensures { looks.new ≡ Ages.ringIn looks.old ring 64 }
+    ensures { looks.new ≡ Ages.ring_in looks.old ring 64 }
 {
     let mut i = 0;
     while i < crate::MISSING {
@@ -96,7 +96,7 @@ fn most(count: usize) -> u32
 
 // Before the first lookup no run is marked.
 pub fn lookups_of(c: Cache) -> [u32; LOOKUPS]
-    ensures { result ≡ Ages.lookupsOf c }
+    ensures { result ≡ Ages.lookups_of c }
 {
     let mut looks = [0u32; LOOKUPS];
     let g = c.pages;
@@ -110,7 +110,7 @@ pub fn lookups_of(c: Cache) -> [u32; LOOKUPS]
 // ---- afterwards
 
 fn ages_from(looks: &[u32; LOOKUPS]) -> [u32; crate::MAX_PAGES]
-    ensures { result ≡ Ages.agesOf looks.now }
+    ensures { result ≡ Ages.ages_of looks.now }
 {
     let mut used = [0u32; crate::MAX_PAGES];
     let mut i = 0;
@@ -123,7 +123,7 @@ fn ages_from(looks: &[u32; LOOKUPS]) -> [u32; crate::MAX_PAGES]
 
 // The clock and the ages that lookups left.
 pub fn uses_from(looks: &[u32; LOOKUPS]) -> Aging
-    ensures { result ≡ Ages.usesFrom looks.now }
+    ensures { result ≡ Ages.uses_from looks.now }
 {
     let used = ages_from(looks);
     Aging {
@@ -149,7 +149,7 @@ pub fn aged(c: Cache, looks: &[u32; LOOKUPS]) -> Cache
 
 // Whether a key is known missing.
 fn in_ring(looks: &[u32; LOOKUPS], key: TileKey) -> bool
-    ensures { result ≡ Ages.inRing looks.now key }
+    ensures { result ≡ Ages.in_ring looks.now key }
 {
     let row = (key.row as u32) + 1;
     let col = key.col as u32;
@@ -229,7 +229,7 @@ fn mark(looks: &mut [u32; LOOKUPS], i: usize)
 
 // Whether the run from page `i` on is the key's, and was found before in this call.
 fn was_found(looks: &[u32; LOOKUPS], i: usize, key: TileKey) -> bool
-    ensures { result ≡ Ages.wasFound looks.now i key }
+    ensures { result ≡ Ages.was_found looks.now i key }
 {
     if crate::MAX_PAGES <= i {
         return false;
@@ -246,8 +246,8 @@ fn was_found(looks: &[u32; LOOKUPS], i: usize, key: TileKey) -> bool
 // What a lookup that lands on the run from page `i` on answers.
 fn hit(looks: &mut [u32; LOOKUPS], arena: &[u8], size: u32, key: TileKey, i: usize) -> Lookup
     requires { i < 96 }
-    ensures value { result ≡ (Ages.hitHere looks.old arena.now size key i).answer }
-    ensures looks_after { looks.new ≡ (Ages.hitHere looks.old arena.now size key i).looks }
+    ensures value { result ≡ (Ages.hit_here looks.old arena.now size key i).answer }
+    ensures looks_after { looks.new ≡ (Ages.hit_here looks.old arena.now size key i).looks }
 {
     let len = wide(looks[384 + i]);
     if known(&*looks, arena, i, len, key, size) {
@@ -259,8 +259,8 @@ fn hit(looks: &mut [u32; LOOKUPS], arena: &[u8], size: u32, key: TileKey, i: usi
 
 // A lookup: the run that was found last, if it is the key's, which it is at nearly every one of a road's; else the ring first, then the lowest ready run.
 pub fn look_up(looks: &mut [u32; LOOKUPS], arena: &[u8], size: u32, key: TileKey) -> Lookup
-    ensures value { result ≡ (Ages.lookUp looks.old arena.now size key).answer }
-    ensures looks_after { looks.new ≡ (Ages.lookUp looks.old arena.now size key).looks }
+    ensures value { result ≡ (Ages.look_up looks.old arena.now size key).answer }
+    ensures looks_after { looks.new ≡ (Ages.look_up looks.old arena.now size key).looks }
 {
     let last = wide(looks[610]);
     if was_found(&*looks, last, key) {

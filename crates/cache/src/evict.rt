@@ -29,7 +29,7 @@ fn whole_of(s: Slot) -> usize
 
 // Of `n` pages from `h` on those below `count`.
 fn room_of(h: usize, n: usize, count: usize) -> usize
-    ensures { result ≡ Evict.roomOf h n count }
+    ensures { result ≡ Evict.room_of h n count }
 {
     if count <= h {
         return 0;
@@ -42,7 +42,7 @@ fn room_of(h: usize, n: usize, count: usize) -> usize
 
 // `n` pages from `from` on emptied, and their ages; none past the last.
 fn clear_run(g: Pages, from: usize, n: usize) -> Pages
-    ensures { result ≡ Evict.clearRun n from g }
+    ensures { result ≡ Evict.clear_run n from g }
 {
     let mut d = g;
     let empty = Slot {
@@ -67,7 +67,7 @@ fn clear_run(g: Pages, from: usize, n: usize) -> Pages
 
 // The whole run that page `p` is of emptied, as far as it lies below the count.
 fn evict_page(g: Pages, p: usize) -> Pages
-    ensures { result ≡ Evict.evictedPage g p }
+    ensures { result ≡ Evict.evicted_page g p }
 {
     let s = crate::runs::slot_at(g, p);
     let h = head_of(s, p);
@@ -97,7 +97,7 @@ pub(crate) fn evict(g: Pages, first: usize, pages: usize) -> Pages
 
 // `n` pages from `from` on as pieces of the run at `head`; none past the last.
 fn piece_run(g: Pages, head: u8, from: usize, n: usize) -> Pages
-    ensures { result ≡ Evict.pieceRun n from head g }
+    ensures { result ≡ Evict.piece_run n from head g }
 {
     let mut d = g;
     let piece = Slot {

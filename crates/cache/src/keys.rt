@@ -7,7 +7,7 @@ use crate::{MaybeKey, Pages, Ring, RingKey, Slot};
 use pack::TileKey;
 
 pub fn same_key(a: TileKey, b: TileKey) -> bool
-    ensures { result ≡ Keys.sameKey a b }
+    ensures { result ≡ Keys.same_key a b }
 {
     if a.row == b.row {
         return a.col == b.col;
@@ -26,7 +26,7 @@ pub fn holds(m: MaybeKey, key: TileKey) -> bool
 
 // Whether a key is known missing.
 pub(crate) fn in_ring(ring: Ring, key: TileKey) -> bool
-    ensures { result ≡ Keys.inRing ring key }
+    ensures { result ≡ Keys.in_ring ring key }
 {
     let mut i = 0;
     while i < crate::MISSING {
@@ -57,7 +57,7 @@ pub(crate) fn forget(ring: Ring, key: TileKey) -> Ring
 
 // Whether a page starts the run of a tile that is ready.
 pub(crate) fn is_ready(s: Slot, key: TileKey) -> bool
-    ensures { result ≡ Keys.isReady key s }
+    ensures { result ≡ Keys.is_ready key s }
 {
     let k = s.key;
     if s.ready {
@@ -68,7 +68,7 @@ pub(crate) fn is_ready(s: Slot, key: TileKey) -> bool
 
 // The lowest page below the count that starts a ready run of the key.
 pub(crate) fn ready_at(g: Pages, key: TileKey) -> Found
-    ensures { result ≡ Keys.readyAt g key }
+    ensures { result ≡ Keys.ready_at g key }
 {
     let n = g.count;
     let mut i = 0;

@@ -52,8 +52,8 @@ pub fn loaded(
     failure: u32,
     bytes: &[u8],
 ) -> Loaded
-    ensures value { result ≡ Loads.told (Calls.loadTested c arena.old header key failure bytes.now) }
-    ensures arena_after { arena.new ≡ (Calls.loadTested c arena.old header key failure bytes.now).arena }
+    ensures value { result ≡ Loads.told (Calls.load_tested c arena.old header key failure bytes.now) }
+    ensures arena_after { arena.new ≡ (Calls.load_tested c arena.old header key failure bytes.now).arena }
 {
     let n = crate::next::next_step(c, key);
     if !crate::step::takes(n, header, key, failure, bytes.len()) {
@@ -65,9 +65,9 @@ pub fn loaded(
     crate::step::stepped(c, n, arena, header, key, failure, bytes)
 }
 
-// `loaded` with failure 0 and no bytes: 11 where a read is made. The arena is left as it was (`settled-leaves`), so it is lent unchanged.
+// `loaded` with failure 0 and no bytes: 11 where a read is made. The arena is left as it was (`settled_leaves`), so it is lent unchanged.
 pub fn settled(c: Cache, arena: &[u8], header: Header, key: TileKey) -> Loaded
-    ensures { result ≡ Loads.told (Calls.loadTested c arena.now header key 0 []) }
+    ensures { result ≡ Loads.told (Calls.load_tested c arena.now header key 0 []) }
 {
     if !pack::grid::in_grid(header, key) {
         return crate::step::refused(c, 9);
@@ -78,8 +78,8 @@ pub fn settled(c: Cache, arena: &[u8], header: Header, key: TileKey) -> Loaded
 
 // One step towards a tile over a pack that is lent whole: `fetch`, then `load` with the pack's bytes, or with 2 where they pass its end.
 pub fn load_from(c: Cache, arena: &mut [u8], header: Header, key: TileKey, pack: &[u8]) -> Loaded
-    ensures value { result ≡ Loads.told (Calls.loadFrom c arena.old header key pack.now) }
-    ensures arena_after { arena.new ≡ (Calls.loadFrom c arena.old header key pack.now).arena }
+    ensures value { result ≡ Loads.told (Calls.load_from c arena.old header key pack.now) }
+    ensures arena_after { arena.new ≡ (Calls.load_from c arena.old header key pack.now).arena }
 {
     if !crate::state::cache_ok(c, header, arena.len()) {
         return crate::step::refused(c, 12);

@@ -17,7 +17,7 @@ pub enum Landing {
 
 // The ring first, then the lowest ready run.
 pub(crate) fn lands_on(c: Cache, key: TileKey) -> Landing
-    ensures { result ≡ Lookups.landsOn c key }
+    ensures { result ≡ Lookups.lands_on c key }
 {
     let ring = c.missing;
     if crate::keys::in_ring(ring, key) {
@@ -32,7 +32,7 @@ pub(crate) fn lands_on(c: Cache, key: TileKey) -> Landing
 
 // Pages of the tile's ready run, one where there is none. The ring is not asked, as in the Rust.
 pub(crate) fn pages_of(g: Pages, key: TileKey) -> usize
-    ensures { result ≡ Lookups.pagesOf g key }
+    ensures { result ≡ Lookups.pages_of g key }
 {
     match crate::keys::ready_at(g, key) {
         Found::At(i) => {

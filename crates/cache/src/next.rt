@@ -18,7 +18,7 @@ pub enum Next {
 
 // A chunk where this tile is being loaded, else its directory entry.
 pub fn next_read(loading: MaybeLoading, key: TileKey) -> Next
-    ensures { result ≡ Lookups.nextRead loading key }
+    ensures { result ≡ Lookups.next_read loading key }
 {
     match loading {
         MaybeLoading::Nothing => Next::Entry,
@@ -32,7 +32,7 @@ pub fn next_read(loading: MaybeLoading, key: TileKey) -> Next
 }
 
 pub(crate) fn next_step(c: Cache, key: TileKey) -> Next
-    ensures { result ≡ Lookups.nextStep c key }
+    ensures { result ≡ Lookups.next_step c key }
 {
     match crate::look::lands_on(c, key) {
         Landing::At(i) => Next::Ready(i),

@@ -45,7 +45,7 @@ pub(crate) fn slot_at(g: Pages, i: usize) -> Slot
 
 // Whether a run starts at this page.
 pub(crate) fn is_run(s: Slot) -> bool
-    ensures { result ≡ Runs.isRun (Runs.kind_of s) }
+    ensures { result ≡ Runs.is_run (Runs.kind_of s) }
 {
     let part = s.part;
     let key = s.key;
@@ -95,7 +95,7 @@ fn after(s: Slot, p: usize, last: LastRun) -> LastRun
 // Whether the count is at most `MAX_PAGES` and the runs are well-formed: none overlaps another, passes the count or lacks a part. One pass, which
 // reads each slot once and carries the last run as two numbers, so that no state is copied page by page.
 pub(crate) fn runs_ok(g: Pages) -> bool
-    ensures { result ≡ Runs.runsOk g }
+    ensures { result ≡ Runs.runs_ok g }
 {
     if MAX_PAGES < g.count {
         return false;

@@ -8,7 +8,7 @@ use pack::{Header, TileKey};
 
 // The Rust's `Slot::default()`.
 fn empty_slot() -> Slot
-    ensures { result ≡ State.emptySlot }
+    ensures { result ≡ State.empty_slot }
 {
     Slot {
         key: MaybeKey::Nothing,
@@ -19,7 +19,7 @@ fn empty_slot() -> Slot
 }
 
 fn empty_place() -> RingKey
-    ensures { result ≡ State.emptyPlace }
+    ensures { result ≡ State.empty_place }
 {
     RingKey {
         key: MaybeKey::Nothing,
@@ -83,7 +83,7 @@ pub fn cleared(c: Cache) -> Cache
 
 // Whether a load has its run, not ready, with the load's key and length, and has not all of it.
 fn tile_loads(g: Pages, l: Loading) -> bool
-    ensures { result ≡ State.tileLoads g l }
+    ensures { result ≡ State.tile_loads g l }
 {
     let s = crate::runs::slot_at(g, l.slot);
     if !crate::runs::is_run(s) {
@@ -103,7 +103,7 @@ fn tile_loads(g: Pages, l: Loading) -> bool
 }
 
 fn load_ok(c: Cache) -> bool
-    ensures { result ≡ State.loadOk c }
+    ensures { result ≡ State.load_ok c }
 {
     let loading = c.loading;
     let g = c.pages;
@@ -115,7 +115,7 @@ fn load_ok(c: Cache) -> bool
 
 // Whether the next step towards the key reads its entry.
 fn wants_entry(c: Cache, key: TileKey) -> bool
-    ensures { result ≡ State.wantsEntry c key }
+    ensures { result ≡ State.wants_entry c key }
 {
     match crate::next::next_step(c, key) {
         Next::Entry => true,
@@ -128,7 +128,7 @@ fn wants_entry(c: Cache, key: TileKey) -> bool
 
 // Whether the next step towards the load's key reads a chunk.
 fn wants_chunk(c: Cache) -> bool
-    ensures { result ≡ State.wantsChunk c }
+    ensures { result ≡ State.wants_chunk c }
 {
     let loading = c.loading;
     match loading {
@@ -145,7 +145,7 @@ fn wants_chunk(c: Cache) -> bool
 
 // Whether the open fetch is one that this state makes.
 fn pending_ok(c: Cache) -> bool
-    ensures { result ≡ State.pendingOk c }
+    ensures { result ≡ State.pending_ok c }
 {
     let pending = c.pending;
     match pending {
@@ -158,7 +158,7 @@ fn pending_ok(c: Cache) -> bool
 
 // The causes of number 12 in the state alone.
 pub fn state_ok(c: Cache) -> bool
-    ensures { result ≡ State.stateOk c }
+    ensures { result ≡ State.state_ok c }
 {
     let g = c.pages;
     if !crate::runs::runs_ok(g) {
@@ -176,7 +176,7 @@ pub fn state_ok(c: Cache) -> bool
 
 // The causes of number 12 in a call that is given the state and an arena of `size` bytes.
 pub(crate) fn lent_ok(c: Cache, size: usize) -> bool
-    ensures { result ≡ State.lentOk c size }
+    ensures { result ≡ State.lent_ok c size }
 {
     if !state_ok(c) {
         return false;
@@ -187,7 +187,7 @@ pub(crate) fn lent_ok(c: Cache, size: usize) -> bool
 
 // Whether an open entry is of a key in the header's grid.
 pub fn entry_in(pending: Pending, header: Header) -> bool
-    ensures { result ≡ State.entryIn pending header }
+    ensures { result ≡ State.entry_in pending header }
 {
     match pending {
         Pending::Nothing => true,
@@ -199,7 +199,7 @@ pub fn entry_in(pending: Pending, header: Header) -> bool
 
 // The causes of number 12 in a call that is given the state, a header and an arena of `size` bytes.
 pub fn cache_ok(c: Cache, header: Header, size: usize) -> bool
-    ensures { result ≡ State.cacheOk c header size }
+    ensures { result ≡ State.cache_ok c header size }
 {
     if !state_ok(c) {
         return false;

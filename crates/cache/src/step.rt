@@ -11,7 +11,7 @@ use pack::{Header, Located, Range, TileKey};
 
 // Bytes that the next chunk of a load has.
 pub fn chunk_len(l: Loading) -> u32
-    ensures { result ≡ Loads.chunkLen l }
+    ensures { result ≡ Loads.chunk_len l }
 {
     if l.len <= l.done {
         return 0;
@@ -24,7 +24,7 @@ pub fn chunk_len(l: Loading) -> u32
 
 // Where in the pack the next chunk of a load stands.
 fn chunk_offset(l: Loading) -> u64
-    ensures { result ≡ Loads.chunkOffset l }
+    ensures { result ≡ Loads.chunk_offset l }
 {
     (l.offset as u64) + (l.done as u64)
 }
@@ -51,7 +51,7 @@ pub(crate) fn fetched(c: Cache, n: Next, arena: &[u8], header: Header, key: Tile
 
 // Bytes that the read of a step has, 0 where it makes none.
 fn read_len(n: Next) -> usize
-    ensures { result ≡ Loads.readLen n }
+    ensures { result ≡ Loads.read_len n }
 {
     match n {
         Next::Ready(_) => 0,
@@ -176,7 +176,7 @@ fn done(c: Cache) -> Loaded
 
 // A directory entry as an array.
 pub fn entry_bytes(bytes: &[u8]) -> [u8; 8]
-    ensures { result ≡ Loads.entryBytes bytes.now }
+    ensures { result ≡ Loads.entry_bytes bytes.now }
 {
     [
         pack::bytes::byte_at(bytes, 0),
@@ -222,7 +222,7 @@ fn began(c: Cache, key: TileKey, offset: u32, len: u32) -> Loaded
 
 // The entry came: another tile's load is dropped, and this one's begins.
 fn entry_step(c: Cache, header: Header, key: TileKey, failure: u32, bytes: &[u8]) -> Loaded
-    ensures { result ≡ Loads.entryStep c header key failure bytes.now }
+    ensures { result ≡ Loads.entry_step c header key failure bytes.now }
 {
     let d = dropped(c);
     if failure != 0 {
@@ -268,7 +268,7 @@ pub fn put(arena: &mut [u8], slot: usize, done: u32, bytes: &[u8])
 
 // The run from page `at` on ready, and the most recently used.
 fn ready_pages(g: Pages, at: usize) -> Pages
-    ensures { result ≡ Endings.readyPages g at }
+    ensures { result ≡ Endings.ready_pages g at }
 {
     let mut d = g;
     let age = std::num::wrapping_add_u32(d.clock, 1);
@@ -283,7 +283,7 @@ fn ready_pages(g: Pages, at: usize) -> Pages
 
 // The pages without the run of a load.
 fn without_run(g: Pages, loading: MaybeLoading) -> Pages
-    ensures { result ≡ Loads.withoutRun loading g }
+    ensures { result ≡ Loads.without_run loading g }
 {
     match loading {
         MaybeLoading::Nothing => g,
@@ -293,7 +293,7 @@ fn without_run(g: Pages, loading: MaybeLoading) -> Pages
 
 // The pages that the last chunk leaves: the run ready if the tile passes, and dropped if not.
 fn ended_pages(c: Cache, at: usize, ok: bool) -> Pages
-    ensures { result ≡ Endings.endedPages ok c.pages c.loading at }
+    ensures { result ≡ Endings.ended_pages ok c.pages c.loading at }
 {
     let g = c.pages;
     if ok {
@@ -305,7 +305,7 @@ fn ended_pages(c: Cache, at: usize, ok: bool) -> Pages
 
 // The ring that it leaves: a tile that does not pass is missing.
 fn ended_ring(ring: Ring, key: TileKey, ok: bool) -> Ring
-    ensures { result ≡ Endings.endedRing ok ring key }
+    ensures { result ≡ Endings.ended_ring ok ring key }
 {
     if ok {
         return ring;
@@ -314,7 +314,7 @@ fn ended_ring(ring: Ring, key: TileKey, ok: bool) -> Ring
 }
 
 fn ended_loads(loads: u32, ok: bool) -> u32
-    ensures { result ≡ Endings.endedLoads ok loads }
+    ensures { result ≡ Endings.ended_loads ok loads }
 {
     if ok {
         return std::num::wrapping_add_u32(loads, 1);
@@ -367,8 +367,8 @@ fn chunk_step(
     failure: u32,
     bytes: &[u8],
 ) -> Loaded
-    ensures value { result ≡ Loads.told (Loads.chunkStep c l arena.old size failure bytes.now) }
-    ensures arena_after { arena.new ≡ (Loads.chunkStep c l arena.old size failure bytes.now).arena }
+    ensures value { result ≡ Loads.told (Loads.chunk_step c l arena.old size failure bytes.now) }
+    ensures arena_after { arena.new ≡ (Loads.chunk_step c l arena.old size failure bytes.now).arena }
 {
     if failure != 0 {
         return failed(dropped(c), failure);
@@ -387,7 +387,7 @@ fn chunk_step(
 
 // The tile is ready: its run checked again, and the most recently used.
 fn ready_step(c: Cache, i: usize, arena: &[u8], key: TileKey, size: u32) -> Loaded
-    ensures { result ≡ Loads.readyStep c i arena.now key size }
+    ensures { result ≡ Loads.ready_step c i arena.now key size }
 {
     let g = c.pages;
     let s = crate::runs::slot_at(g, i);
@@ -399,7 +399,7 @@ fn ready_step(c: Cache, i: usize, arena: &[u8], key: TileKey, size: u32) -> Load
 
 // A chunk of no bytes, which only a load that has all of its tile asks for: the tile is checked. 11 where there are bytes to come.
 fn chunk_unread(c: Cache, l: Loading, arena: &[u8], size: u32) -> Loaded
-    ensures { result ≡ Loads.chunkUnread c l arena.now size }
+    ensures { result ≡ Loads.chunk_unread c l arena.now size }
 {
     if l.len <= l.done {
         return done(ended(c, arena, l, size));
@@ -409,7 +409,7 @@ fn chunk_unread(c: Cache, l: Loading, arena: &[u8], size: u32) -> Loaded
 
 // The step `n` with failure 0 and no bytes: 11 where a read is made.
 pub(crate) fn unread_step(c: Cache, n: Next, arena: &[u8], key: TileKey, size: u32) -> Loaded
-    ensures { result ≡ Loads.unreadStep c n arena.now key size }
+    ensures { result ≡ Loads.unread_step c n arena.now key size }
 {
     match n {
         Next::Missing => done(c),
@@ -444,7 +444,7 @@ pub(crate) fn stepped(
 
 // The entry read from the lent pack.
 fn entry_from(c: Cache, header: Header, key: TileKey, pack: &[u8]) -> Loaded
-    ensures { result ≡ Loads.entryFrom c header key pack.now }
+    ensures { result ≡ Loads.entry_from c header key pack.now }
 {
     match pack::read(pack, pack::grid::entry_of(header, key), pack::ENTRY_BYTES) {
         Range::At(a) => entry_step(c, header, key, 0, &pack[a..a + pack::ENTRY_BYTES]),
@@ -454,8 +454,8 @@ fn entry_from(c: Cache, header: Header, key: TileKey, pack: &[u8]) -> Loaded
 
 // A chunk read from the lent pack.
 fn chunk_from(c: Cache, l: Loading, arena: &mut [u8], size: u32, pack: &[u8]) -> Loaded
-    ensures value { result ≡ Loads.told (Loads.chunkFrom c l arena.old size pack.now) }
-    ensures arena_after { arena.new ≡ (Loads.chunkFrom c l arena.old size pack.now).arena }
+    ensures value { result ≡ Loads.told (Loads.chunk_from c l arena.old size pack.now) }
+    ensures arena_after { arena.new ≡ (Loads.chunk_from c l arena.old size pack.now).arena }
 {
     let len = chunk_len(l) as usize;
     match pack::read(pack, chunk_offset(l), len) {
@@ -473,8 +473,8 @@ pub(crate) fn stepped_from(
     key: TileKey,
     pack: &[u8],
 ) -> Loaded
-    ensures value { result ≡ Loads.told (Loads.steppedFrom c n arena.old header key pack.now) }
-    ensures arena_after { arena.new ≡ (Loads.steppedFrom c n arena.old header key pack.now).arena }
+    ensures value { result ≡ Loads.told (Loads.stepped_from c n arena.old header key pack.now) }
+    ensures arena_after { arena.new ≡ (Loads.stepped_from c n arena.old header key pack.now).arena }
 {
     match n {
         Next::Missing => done(c),

@@ -6,7 +6,7 @@ use crate::{Aging, Cache};
 
 // Before the first lookup.
 pub fn uses_of(c: Cache) -> Aging
-    ensures { result ≡ Uses.usesOf c }
+    ensures { result ≡ Uses.uses_of c }
 {
     let g = c.pages;
     let used = g.used;
@@ -18,7 +18,7 @@ pub fn uses_of(c: Cache) -> Aging
 
 // The run from page `i` on as the most recently used.
 pub fn used_at(a: Aging, i: usize) -> Aging
-    ensures { result ≡ Uses.usedAt a i }
+    ensures { result ≡ Uses.used_at a i }
 {
     let mut d = a;
     let now = std::num::wrapping_add_u32(d.clock, 1);
@@ -31,7 +31,7 @@ pub fn used_at(a: Aging, i: usize) -> Aging
 
 // The cache with the clock and the ages that lookups left.
 pub fn with_uses(c: Cache, a: Aging) -> Cache
-    ensures { result ≡ Uses.withUses c a }
+    ensures { result ≡ Uses.with_uses c a }
 {
     let mut d = c;
     let mut g = d.pages;

@@ -46,7 +46,7 @@ fn place_of(h: usize) -> usize
 
 // How long ago the run at page `h`, of the slot `s` and last used at `used`, was used; a page without a run counts as oldest.
 fn age_at(s: Slot, h: usize, clock: u32, used: u32) -> u32
-    ensures { result ≡ Victim.ageAt s h clock used }
+    ensures { result ≡ Victim.age_at s h clock used }
 {
     if crate::MAX_PAGES <= h {
         return 4294967295;
@@ -99,7 +99,7 @@ fn ages_of(g: Pages) -> Ages
 // The age of the most recently used of `n` pages from `start` on.
 fn youngest(v: &[u32; crate::MAX_PAGES], start: usize, n: usize) -> u32
     requires { start + n ≤ 96 }
-    ensures { result ≡ Victim.youngestIn v.now n start }
+    ensures { result ≡ Victim.youngest_in v.now n start }
 {
     let mut low: u32 = 4294967295;
     let mut i = 0;

@@ -4,20 +4,20 @@ use mathlib.Core.Path.{refl}
 use Rattle.cache.specs.State.{fresh}
 use Rattle.cache_lists.specs.Lists.{start}
 use Rattle.cache_lists.specs.Claims.{AlwaysSafe, AlwaysShort, AlwaysSame, AlwaysOpen}
-use Rattle.cache_lists.proofs.Inv.{inv-fresh}
-use Rattle.cache_lists.proofs.Safe.{safe-along, short-along}
+use Rattle.cache_lists.proofs.Inv.{inv_fresh}
+use Rattle.cache_lists.proofs.Safe.{safe_along, short_along}
 use Rattle.cache_lists.proofs.Kept.{kept_fresh}
-use Rattle.cache_lists.proofs.Same.{same-along, open-along}
+use Rattle.cache_lists.proofs.Same.{same_along, open_along}
 
-pub always-safe : AlwaysSafe
-always-safe n few arena cs = safe-along cs (start n arena) (inv-fresh n few)
+pub always_safe : AlwaysSafe
+always_safe n few arena cs = safe_along cs (start n arena) (inv_fresh n few)
 
-pub always-short : AlwaysShort
-always-short n few arena cs = short-along cs (start n arena) (inv-fresh n few)
+pub always_short : AlwaysShort
+always_short n few arena cs = short_along cs (start n arena) (inv_fresh n few)
 
-pub always-same : AlwaysSame
-always-same P n few arena cs fair = same-along P n cs (start n arena) (kept_fresh P _ n arena few) fair
+pub always_same : AlwaysSame
+always_same P n few arena cs fair = same_along P n cs (start n arena) (kept_fresh P _ n arena few) fair
 
-pub always-open : AlwaysOpen
+pub always_open : AlwaysOpen
 unfolding fresh
-always-open P n few arena holds cs fair = open-along P n cs (start n arena) (kept_fresh P _ n arena few) holds refl fair
+always_open P n few arena holds cs fair = open_along P n cs (start n arena) (kept_fresh P _ n arena few) holds refl fair

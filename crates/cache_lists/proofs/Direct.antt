@@ -7,14 +7,14 @@ use mathlib.Core.List.{List}
 use borrow.Author.Tests.{lt-ltb, le-ltb, le-leb, eq-eqb, ne_eqb}
 use lib.Dec.{eqb, ltb, leb}
 use lib.ListN.{length, take, drop}
-use Rattle.pack.specs.Grid.{inGrid, entry_of, locateOf}
+use Rattle.pack.specs.Grid.{in_grid, entry_of, locate_of}
 use Rattle.pack.specs.declared.TileKey.{TileKey}
 use Rattle.pack.specs.declared.Header.{Header}
 use Rattle.pack.specs.declared.Located.{Located}
 use Rattle.pack.specs.declared.Located.TheVariants as Located
 use Rattle.cache.specs.Runs.{span}
 use Rattle.tile.specs.Parse.{accepts}
-use Rattle.cache.specs.Direct.{Look, ready, missing, absent, stale, directTile, directAt, direct}
+use Rattle.cache.specs.Direct.{Look, ready, missing, absent, stale, direct_tile, direct_at, direct}
 
 module _ (P : List ℕ) (h : Header) (n : ℕ) (key : TileKey) where
   -- ---- bytes that it gives are accepted
@@ -25,8 +25,8 @@ module _ (P : List ℕ) (h : Header) (n : ℕ) (key : TileKey) where
   Accepted absent = Unit
   Accepted stale = Unit
 
-  tile-accepted : (offset len : ℕ) → Accepted (directTile P h key offset len)
-  tile-accepted offset len = by (leb (offset + len) (length P)) (accepts (take len (drop offset P)) key h.tile) refl
+  tile_accepted : (offset len : ℕ) → Accepted (direct_tile P h key offset len)
+  tile_accepted offset len = by (leb (offset + len) (length P)) (accepts (take len (drop offset P)) key h.tile) refl
     where
       by : (t u : Bool) → accepts (take len (drop offset P)) key h.tile ≡ u
           → Accepted (cond t (cond u (ready (take len (drop offset P))) missing) absent)
@@ -34,59 +34,59 @@ module _ (P : List ℕ) (h : Header) (n : ℕ) (key : TileKey) where
       by true false e = tt
       by false u e = tt
 
-  at-accepted : (x : Located) → Accepted (directAt x P h n key)
-  at-accepted Located.NoTile = tt
-  at-accepted (Located.Refused number) = tt
-  at-accepted (Located.Tile offset len) = by (ltb 49152 len || ltb n (span len))
+  at_accepted : (x : Located) → Accepted (direct_at x P h n key)
+  at_accepted Located.NoTile = tt
+  at_accepted (Located.Refused number) = tt
+  at_accepted (Located.Tile offset len) = by (ltb 49152 len || ltb n (span len))
     where
-      by : (t : Bool) → Accepted (cond t missing (directTile P h key offset len))
+      by : (t : Bool) → Accepted (cond t missing (direct_tile P h key offset len))
       by true = tt
-      by false = tile-accepted offset len
+      by false = tile_accepted offset len
 
   accepted : Accepted (direct P h n key)
   unfolding direct
-  accepted = by (eqb n 0) (inGrid h key) (leb (entry_of h key + 8) (length P))
+  accepted = by (eqb n 0) (in_grid h key) (leb (entry_of h key + 8) (length P))
     where
-      by : (t u v : Bool) → Accepted (cond t missing (cond u (cond v (directAt (locateOf h (take 8 (drop (entry_of h key) P))) P h n key) absent) missing))
+      by : (t u v : Bool) → Accepted (cond t missing (cond u (cond v (direct_at (locate_of h (take 8 (drop (entry_of h key) P))) P h n key) absent) missing))
       by true u v = tt
       by false false v = tt
       by false true false = tt
-      by false true true = at-accepted (locateOf h (take 8 (drop (entry_of h key) P)))
+      by false true true = at_accepted (locate_of h (take 8 (drop (entry_of h key) P)))
 
   pub direct-ready : (bs : List ℕ) → direct P h n key ≡ ready bs → accepts bs key h.tile ≡ true
   direct-ready bs e = rw e at accepted
 
   -- ---- missing, with no pages
 
-  pub direct-none : n ≡ 0 → direct P h n key ≡ missing
+  pub direct_none : n ≡ 0 → direct P h n key ≡ missing
   unfolding direct
-  direct-none e = rw (eq-eqb n 0 e)
+  direct_none e = rw (eq-eqb n 0 e)
 
   -- ---- by the entry
 
-  pub direct-entry : (n ≡ 0 → ⊥) → inGrid h key ≡ true → entry_of h key + 8 ≤ length P
-      → direct P h n key ≡ directAt (locateOf h (take 8 (drop (entry_of h key) P))) P h n key
+  pub direct_entry : (n ≡ 0 → ⊥) → in_grid h key ≡ true → entry_of h key + 8 ≤ length P
+      → direct P h n key ≡ direct_at (locate_of h (take 8 (drop (entry_of h key) P))) P h n key
   unfolding direct
-  direct-entry z g e = rw (ne_eqb n 0 z, g, le-leb (entry_of h key + 8) (length P) e)
+  direct_entry z g e = rw (ne_eqb n 0 z, g, le-leb (entry_of h key + 8) (length P) e)
 
-  pub at_long : (offset len : ℕ) → 49152 < len → directAt (Located.Tile offset len) P h n key ≡ missing
+  pub at_long : (offset len : ℕ) → 49152 < len → direct_at (Located.Tile offset len) P h n key ≡ missing
   at_long offset len e = rw (lt-ltb 49152 len e)
 
-  pub at_wide : (offset len : ℕ) → n < span len → directAt (Located.Tile offset len) P h n key ≡ missing
+  pub at_wide : (offset len : ℕ) → n < span len → direct_at (Located.Tile offset len) P h n key ≡ missing
   at_wide offset len e = by (ltb 49152 len)
     where
-      by : (t : Bool) → cond (t || ltb n (span len)) missing (directTile P h key offset len) ≡ missing
+      by : (t : Bool) → cond (t || ltb n (span len)) missing (direct_tile P h key offset len) ≡ missing
       by true = refl
       by false = rw (lt-ltb n (span len) e)
 
-  pub at-tile : (offset len : ℕ) → len ≤ 49152 → span len ≤ n → directAt (Located.Tile offset len) P h n key ≡ directTile P h key offset len
-  at-tile offset len e s = rw (le-ltb 49152 len e, le-ltb n (span len) s)
+  pub at_tile : (offset len : ℕ) → len ≤ 49152 → span len ≤ n → direct_at (Located.Tile offset len) P h n key ≡ direct_tile P h key offset len
+  at_tile offset len e s = rw (le-ltb 49152 len e, le-ltb n (span len) s)
 
   -- ---- by the bytes
 
   module _ (offset len : ℕ) (within : offset + len ≤ length P) where
-    pub tile-ready : accepts (take len (drop offset P)) key h.tile ≡ true → directTile P h key offset len ≡ ready (take len (drop offset P))
-    tile-ready e = rw (le-leb (offset + len) (length P) within, e)
+    pub tile_ready : accepts (take len (drop offset P)) key h.tile ≡ true → direct_tile P h key offset len ≡ ready (take len (drop offset P))
+    tile_ready e = rw (le-leb (offset + len) (length P) within, e)
 
-    pub tile-missing : accepts (take len (drop offset P)) key h.tile ≡ false → directTile P h key offset len ≡ missing
-    tile-missing e = rw (le-leb (offset + len) (length P) within, e)
+    pub tile_missing : accepts (take len (drop offset P)) key h.tile ≡ false → direct_tile P h key offset len ≡ missing
+    tile_missing e = rw (le-leb (offset + len) (length P) within, e)

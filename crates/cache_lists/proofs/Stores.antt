@@ -27,10 +27,10 @@ set_cases Q l i j a d same other none = ⊎_elim here (λ ne. rw (get_or-set_oth
         (λ h. let past : length (set l i a) ≤ j = rw length-set (omega (arith, h)) in rw (get_or-eq_default (set l i a) d past) none)
         (below_or i (length l))
 
-pub getD-same : {A : Type 0} (n i : ℕ) (a : A) → get_or (replicate n a) i a ≡ a
-getD-same zero i a = refl
-getD-same (suc n) zero a = refl
-getD-same (suc n) (suc i) a = getD-same n i a
+pub get_d_same : {A : Type 0} (n i : ℕ) (a : A) → get_or (replicate n a) i a ≡ a
+get_d_same zero i a = refl
+get_d_same (suc n) zero a = refl
+get_d_same (suc n) (suc i) a = get_d_same n i a
 
 -- ---- a part of a list
 
@@ -45,39 +45,39 @@ part_same x y b m e same = ext_get_or 0 (take m (drop b x)) (take m (drop b y)) 
     at j h = let k : j < m = omega (arith, simp length-take at h) in rw (get_or-take m (drop b x) j 0 k, get_or-take m (drop b y) j 0 k, get_or-drop b x j 0, get_or-drop b y j 0) (same j k)
 
 module _ (d : List ℕ) (at : ℕ) (s : List ℕ) (n : ℕ) (fits : at + n ≤ length d) (size : length s ≡ n) where
-  pub paste-size : length (paste d at s n) ≡ length d
-  paste-size = length-paste d at s n fits (omega arith)
+  pub paste_size : length (paste d at s n) ≡ length d
+  paste_size = length-paste d at s n fits (omega arith)
 
   pub bytes_same : take n (drop at (paste d at s n)) ≡ s
   bytes_same =
-      part_of (paste d at s n) at n (rw paste-size (omega arith))
+      part_of (paste d at s n) at n (rw paste_size (omega arith))
       ∙ ap (drop at) (take-paste d at s n (omega arith) (omega arith))
       ∙ drop_at (take at d) (take n s) at (length-take-le at d (omega arith))
       ∙ take_all n s (omega arith)
 
-  take-before : take at (paste d at s n) ≡ take at d
-  take-before =
+  take_before : take at (paste d at s n) ≡ take at d
+  take_before =
       ap (take at) (append_assoc (take at d) (take n s) (drop (at + n) d))
       ∙ take_at (take at d) (take n s ++ drop (at + n) d) at (length-take-le at d (omega arith))
 
   -- any other byte
-  pub byte-same : (b : ℕ) → Out at (at + n) b → get_or (paste d at s n) b 0 ≡ get_or d b 0
-  byte-same b (inl h) = sym (get_or-take at (paste d at s n) b 0 h) ∙ ap (λ (l : List ℕ). get_or l b 0) take-before ∙ get_or-take at d b 0 h
-  byte-same b (inr h) =
+  pub byte_same : (b : ℕ) → Out at (at + n) b → get_or (paste d at s n) b 0 ≡ get_or d b 0
+  byte_same b (inl h) = sym (get_or-take at (paste d at s n) b 0 h) ∙ ap (λ (l : List ℕ). get_or l b 0) take_before ∙ get_or-take at d b 0 h
+  byte_same b (inr h) =
       let e : at + n + (b - (at + n)) ≡ b = omega arith in
       rw (← e, ← get_or-drop (at + n) d, ← get_or-drop (at + n) (paste d at s n), drop-paste d at s n (omega arith) (omega arith))
 
-  pub bytes-before : (b m : ℕ) → b + m ≤ at → take m (drop b (paste d at s n)) ≡ take m (drop b d)
-  bytes-before b m h = part_same (paste d at s n) d b m paste-size (λ j k. byte-same (b + j) (inl (omega arith)))
+  pub bytes_before : (b m : ℕ) → b + m ≤ at → take m (drop b (paste d at s n)) ≡ take m (drop b d)
+  bytes_before b m h = part_same (paste d at s n) d b m paste_size (λ j k. byte_same (b + j) (inl (omega arith)))
 
 -- a chunk put into the arena, or not, leaves its length
-pub put-size : (arena : List ℕ) (slot done : ℕ) (bs : List ℕ) → length (put arena slot done bs) ≡ length arena
+pub put_size : (arena : List ℕ) (slot done : ℕ) (bs : List ℕ) → length (put arena slot done bs) ≡ length arena
 unfolding put
-put-size arena slot done bs = by (leb (slot * 8192 + done + length bs) (length arena)) refl
+put_size arena slot done bs = by (leb (slot * 8192 + done + length bs) (length arena)) refl
   where
     by : (t : Bool) → leb (slot * 8192 + done + length bs) (length arena) ≡ t
         → length (cond t (paste arena (slot * 8192 + done) bs (length bs)) arena) ≡ length arena
-    by true e = paste-size arena (slot * 8192 + done) bs (length bs) (leb-true (slot * 8192 + done + length bs) (length arena) e) refl
+    by true e = paste_size arena (slot * 8192 + done) bs (length bs) (leb-true (slot * 8192 + done + length bs) (length arena) e) refl
     by false e = refl
 
 -- and every byte but its own
@@ -88,5 +88,5 @@ put_same arena slot done bs b o = by (leb (slot * 8192 + done + length bs) (leng
   where
     by : (t : Bool) → leb (slot * 8192 + done + length bs) (length arena) ≡ t
         → get_or (cond t (paste arena (slot * 8192 + done) bs (length bs)) arena) b 0 ≡ get_or arena b 0
-    by true e = byte-same arena (slot * 8192 + done) bs (length bs) (leb-true (slot * 8192 + done + length bs) (length arena) e) refl b o
+    by true e = byte_same arena (slot * 8192 + done) bs (length bs) (leb-true (slot * 8192 + done + length bs) (length arena) e) refl b o
     by false e = refl

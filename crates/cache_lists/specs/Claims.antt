@@ -16,24 +16,24 @@ use Rattle.cache.specs.declared.MaybeLoading.TheVariants as MaybeLoading
 use Rattle.cache.specs.declared.Lookup.{Lookup}
 use Rattle.cache.specs.declared.Lookup.TheVariants as Lookup
 use Rattle.cache.specs.declared.look.Landing.TheVariants as Landing
-use Rattle.cache.specs.Lookups.{landsOn, runBytes}
+use Rattle.cache.specs.Lookups.{lands_on, run_bytes}
 use Rattle.cache.specs.Direct.{Look, ready, missing, direct}
 use Rattle.cache.specs.declared.Request.{Request}
 use Rattle.cache.specs.declared.Request.TheVariants as Request
 use Rattle.cache.specs.declared.Progress.{Progress}
 use Rattle.cache.specs.declared.Progress.TheVariants as Progress
-use Rattle.cache.specs.Loads.{chunkLen}
-pub use Rattle.cache.specs.Numbers.{numberOfCount, numberOfLookup, numberOfRequest, refusedProgress, numberOfClearing}
+use Rattle.cache.specs.Loads.{chunk_len}
+pub use Rattle.cache.specs.Numbers.{number_of_count, number_of_lookup, number_of_request, refused_progress, number_of_clearing}
 use Rattle.cache.specs.Calls as Loaded
-use Rattle.cache_lists.specs.Lists.{World, Call, capacity, loads, pages, get, fetch, load, loadFrom, clear, Answer, counted, found, asked, stepped, cleared, exec, start, Along}
+use Rattle.cache_lists.specs.Lists.{World, Call, capacity, loads, pages, get, fetch, load, load_from, clear, Answer, counted, found, asked, stepped, cleared, exec, start, Along}
 
 -- document 01's number of a refusal, 0 for any other answer: a step of a load that failed is none
 abbrev pub number : Answer → ℕ
-number (counted a) = numberOfCount a
-number (found a) = numberOfLookup a
-number (asked a) = numberOfRequest a
-number (stepped a) = refusedProgress a
-number (cleared a) = numberOfClearing a
+number (counted a) = number_of_count a
+number (found a) = number_of_lookup a
+number (asked a) = number_of_request a
+number (stepped a) = refused_progress a
+number (cleared a) = number_of_clearing a
 
 -- ---- with no premise
 
@@ -53,7 +53,7 @@ pub record Apart (c : Cache) : Type 0 where
 -- a run that a lookup hands out lies in the arena and passes `Tile::parse` for its key
 pub record Passed (arena : List ℕ) (h : Header) (key : TileKey) (first len : ℕ) : Type 0 where
   pub inside : first * 8192 + len ≤ length arena
-  pub accepted : accepts (runBytes arena first len) key h.tile ≡ true
+  pub accepted : accepts (run_bytes arena first len) key h.tile ≡ true
 
 abbrev pub HandedOut : World → Call → Type 0
 HandedOut w (get h key) = (first len : ℕ) → (exec (get h key) w).answer ≡ found (Lookup.Ready first len) → Passed w.arena h key first len
@@ -62,7 +62,7 @@ HandedOut w loads = Unit
 HandedOut w (pages h key) = Unit
 HandedOut w (fetch h key) = Unit
 HandedOut w (load h key failure bs) = Unit
-HandedOut w (loadFrom h key pack) = Unit
+HandedOut w (load_from h key pack) = Unit
 HandedOut w clear = Unit
 
 -- a read: offset and length
@@ -79,7 +79,7 @@ reads_of (Request.Read offset len) = record { offset = offset; len = len } ∷ [
 abbrev pub reads : World → Call → List Read
 reads w (fetch h key) = reads_of (Loaded.fetch w.cache w.arena h key)
 reads w (load h key failure bs) = reads_of (Loaded.fetch w.cache w.arena h key)
-reads w (loadFrom h key pack) = reads_of (Loaded.fetch w.cache w.arena h key)
+reads w (load_from h key pack) = reads_of (Loaded.fetch w.cache w.arena h key)
 reads w (get h key) = []
 reads w capacity = []
 reads w loads = []
@@ -100,7 +100,7 @@ TakesOnly w loads = Unit
 TakesOnly w (pages h key) = Unit
 TakesOnly w (get h key) = Unit
 TakesOnly w (fetch h key) = Unit
-TakesOnly w (loadFrom h key pack) = Unit
+TakesOnly w (load_from h key pack) = Unit
 TakesOnly w clear = Unit
 
 -- two packs have the same for a read of `len` bytes at `offset`: both end before it does, or neither, and the bytes are the same
@@ -116,13 +116,13 @@ SameFor (Request.Refused number) Q R = Unit
 -- "fetches twice" by values: of a lent pack `load_from` sees the one read that `fetch` tells, and nothing else
 abbrev pub LentOnly : World → Call → Type 0
 LentOnly w c =
-    (h : Header) (key : TileKey) (Q R : List ℕ) → c ≡ loadFrom h key Q → SameFor (Loaded.fetch w.cache w.arena h key) Q R →
-    exec (loadFrom h key R) w ≡ exec c w
+    (h : Header) (key : TileKey) (Q R : List ℕ) → c ≡ load_from h key Q → SameFor (Loaded.fetch w.cache w.arena h key) Q R →
+    exec (load_from h key R) w ≡ exec c w
 
 -- byte b of the arena is one of the load's next chunk
 abbrev pub OfChunk : MaybeLoading → ℕ → Type 0
 OfChunk MaybeLoading.Nothing b = ⊥
-OfChunk (MaybeLoading.Tile l) b = (l.slot * 8192 + l.done ≤ b) × (b < l.slot * 8192 + l.done + chunkLen l)
+OfChunk (MaybeLoading.Tile l) b = (l.slot * 8192 + l.done ≤ b) × (b < l.slot * 8192 + l.done + chunk_len l)
 
 -- what a call may do to the arena: leave it as it is, or bring the next chunk of the load
 pub data Kind : Type 0 where
@@ -131,7 +131,7 @@ pub data Kind : Type 0 where
 
 abbrev pub kind_of : Call → Kind
 kind_of (load h key failure bs) = brings
-kind_of (loadFrom h key pack) = brings
+kind_of (load_from h key pack) = brings
 kind_of capacity = keeps
 kind_of loads = keeps
 kind_of (pages h key) = keeps
@@ -153,8 +153,8 @@ pub record Written (may : ℕ → Type 0) (before after : List ℕ) : Type 0 whe
 pub record ReadyBytes (s : List Slot) (arena : List ℕ) (key : TileKey) (bs : List ℕ) : Type 0 where
   pub first : ℕ
   pub ready : (slot_at s first).ready ≡ true
-  pub keyIs : (slot_at s first).key ≡ MaybeKey.Key key
-  pub bytes : runBytes arena first (slot_at s first).len ≡ bs
+  pub key_is : (slot_at s first).key ≡ MaybeKey.Key key
+  pub bytes : run_bytes arena first (slot_at s first).len ≡ bs
 
 -- a key that is ready before and after has the same bytes
 abbrev pub SameBytes : List Slot → List ℕ → List Slot → List ℕ → Type 0
@@ -179,9 +179,9 @@ AllLive c = (h : ℕ) → kind_at c.pages.slots h ≡ run → Live c h
 -- a step that answers Done leaves its tile ready or known missing, as the Rust's `load` says ("true once the tile is ready or known missing")
 abbrev pub Settles : World → Call → Type 0
 Settles w (load h key failure bs) =
-    (exec (load h key failure bs) w).answer ≡ stepped Progress.Done → landsOn (exec (load h key failure bs) w).world.cache key ≡ Landing.Nothing → ⊥
-Settles w (loadFrom h key pack) =
-    (exec (loadFrom h key pack) w).answer ≡ stepped Progress.Done → landsOn (exec (loadFrom h key pack) w).world.cache key ≡ Landing.Nothing → ⊥
+    (exec (load h key failure bs) w).answer ≡ stepped Progress.Done → lands_on (exec (load h key failure bs) w).world.cache key ≡ Landing.Nothing → ⊥
+Settles w (load_from h key pack) =
+    (exec (load_from h key pack) w).answer ≡ stepped Progress.Done → lands_on (exec (load_from h key pack) w).world.cache key ≡ Landing.Nothing → ⊥
 Settles w capacity = Unit
 Settles w loads = Unit
 Settles w (pages h key) = Unit
@@ -191,13 +191,13 @@ Settles w clear = Unit
 
 -- of each call
 pub record Safe (w : World) (c : Call) : Type 0 where
-  pub allLive : AllLive (exec c w).world.cache
+  pub all_live : AllLive (exec c w).world.cache
   pub settles : Settles w c
   pub apart : Apart (exec c w).world.cache
-  pub handedOut : HandedOut w c
-  pub oneRead : length (reads w c) ≤ 1
-  pub lentOnly : LentOnly w c
-  pub takesOnly : TakesOnly w c
+  pub handed_out : HandedOut w c
+  pub one_read : length (reads w c) ≤ 1
+  pub lent_only : LentOnly w c
+  pub takes_only : TakesOnly w c
   pub written : Written (MayWrite (kind_of c) w.cache) w.arena (exec c w).world.arena
   pub kept : KeptBytes w c
 
@@ -230,13 +230,13 @@ Fair P w (pages h key) = Parsed P h
 Fair P w (get h key) = Parsed P h
 Fair P w (fetch h key) = Parsed P h
 Fair P w (load h key failure bs) = Parsed P h × (failure ≡ 0 → FairBytes P (Loaded.fetch w.cache w.arena h key) bs)
-Fair P w (loadFrom h key Q) = Parsed P h × FairPack P (Loaded.fetch w.cache w.arena h key) Q
+Fair P w (load_from h key Q) = Parsed P h × FairPack P (Loaded.fetch w.cache w.arena h key) Q
 
 -- ---- under them
 
 -- an answer in bytes: what it says of the direct lookup
 abbrev pub SameLook : List ℕ → Lookup → Look → Type 0
-SameLook arena (Lookup.Ready first len) d = d ≡ ready (runBytes arena first len)
+SameLook arena (Lookup.Ready first len) d = d ≡ ready (run_bytes arena first len)
 SameLook arena Lookup.Missing d = d ≡ missing
 SameLook arena Lookup.Absent d = Unit
 SameLook arena (Lookup.Refused number) d = Unit
@@ -249,7 +249,7 @@ SameAs P n w loads = Unit
 SameAs P n w (pages h key) = Unit
 SameAs P n w (fetch h key) = Unit
 SameAs P n w (load h key failure bs) = Unit
-SameAs P n w (loadFrom h key Q) = Unit
+SameAs P n w (load_from h key Q) = Unit
 SameAs P n w clear = Unit
 
 -- a call that number 12 does not refuse

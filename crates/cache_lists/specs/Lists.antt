@@ -25,7 +25,7 @@ pub data Call : Type 0 where
   get : Header → TileKey → Call
   fetch : Header → TileKey → Call
   load : Header → TileKey → ℕ → List ℕ → Call
-  loadFrom : Header → TileKey → List ℕ → Call
+  load_from : Header → TileKey → List ℕ → Call
   clear : Call
 
 pub data Answer : Type 0 where
@@ -43,8 +43,8 @@ pub record Done : Type 0 where
 abbrev pub same : World → Answer → Done
 same w a = record { world = w; answer = a }
 
-abbrev pub inCache : World → Cache → Answer → Done
-inCache w c a = record { world = record { cache = c; arena = w.arena }; answer = a }
+abbrev pub in_cache : World → Cache → Answer → Done
+in_cache w c a = record { world = record { cache = c; arena = w.arena }; answer = a }
 
 abbrev pub loaded : After → Done
 loaded r = record { world = record { cache = r.cache; arena = r.arena }; answer = stepped r.answer }
@@ -53,11 +53,11 @@ unfoldable pub exec : Call → World → Done
 exec capacity w = same w (counted (Cached.capacity w.cache w.arena))
 exec loads w = same w (counted (Cached.loads w.cache w.arena))
 exec (pages h key) w = same w (counted (Cached.pages w.cache w.arena h key))
-exec (get h key) w = let r = Cached.get w.cache w.arena h key in inCache w r.cache (found r.answer)
+exec (get h key) w = let r = Cached.get w.cache w.arena h key in in_cache w r.cache (found r.answer)
 exec (fetch h key) w = same w (asked (Cached.fetch w.cache w.arena h key))
 exec (load h key failure bs) w = loaded (Cached.load w.cache w.arena h key failure bs)
-exec (loadFrom h key pack) w = loaded (Cached.loadFrom w.cache w.arena h key pack)
-exec clear w = let r = Cached.clear w.cache w.arena in inCache w r.cache (cleared r.answer)
+exec (load_from h key pack) w = loaded (Cached.load_from w.cache w.arena h key pack)
+exec clear w = let r = Cached.clear w.cache w.arena in in_cache w r.cache (cleared r.answer)
 
 -- a fresh cache of n pages over an arena
 abbrev pub start : ℕ → List ℕ → World

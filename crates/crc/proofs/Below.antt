@@ -23,14 +23,14 @@ fcs-length m =
     let b : length (remainder bits) ≡ 32 = remainder-length bits (omega (arith, length-append m (zeros 32), zeros-length 32)) in
     length-map (add (remainder ones) (remainder bits)) not ∙ add-length (remainder ones) (remainder bits) (omega (arith, a, b)) ∙ b
 
-number-below : (bs : List Bool) → number bs < 2 ^ length bs
+number_below : (bs : List Bool) → number bs < 2 ^ length bs
 unfolding number
-number-below [] = omega arith
-number-below (true ∷ bs) = omega (arith, pow-suc 2 (length bs), number-below bs)
-number-below (false ∷ bs) = omega (arith, pow-suc 2 (length bs), number-below bs)
+number_below [] = omega arith
+number_below (true ∷ bs) = omega (arith, pow-suc 2 (length bs), number_below bs)
+number_below (false ∷ bs) = omega (arith, pow-suc 2 (length bs), number_below bs)
 
-pub crc-below : (os : List ℕ) → crc32 os < 0x1_0000_0000
+pub crc_below : (os : List ℕ) → crc32 os < 0x1_0000_0000
 unfolding crc32
-crc-below os =
+crc_below os =
     let e : length (fcs (message os)) ≡ 32 = fcs-length (message os) in
-    rw e at (number-below (fcs (message os)))
+    rw e at (number_below (fcs (message os)))

@@ -46,14 +46,14 @@ times-length [] = zeros-length 32
 times-length (false ∷ q) = let e = times-length q in omega arith
 times-length (true ∷ q) = let e = times-length q in omega (arith, add-length lower (times q) (omega (arith, lower-length)))
 
-times-gone : (q : List Bool) → divide (length q) (times q) ≡ zeros 32
+times_gone : (q : List Bool) → divide (length q) (times q) ≡ zeros 32
 unfolding times divide add
-times-gone [] = refl
-times-gone (false ∷ q) = times-gone q
-times-gone (true ∷ q) = ap (divide (length q)) (twice lower (times q) (omega (arith, lower-length, times-length q))) ∙ times-gone q
+times_gone [] = refl
+times_gone (false ∷ q) = times_gone q
+times_gone (true ∷ q) = ap (divide (length q)) (twice lower (times q) (omega (arith, lower-length, times-length q))) ∙ times_gone q
 
 pub only : (q r : List Bool) → length r ≡ 32 → divide (length q) (add (times q) (zeros (length q) ++ r)) ≡ r
 only q r e =
     linear (length q) (times q) (zeros (length q) ++ r) (omega (arith, times-length q)) (omega (arith, length-append (zeros (length q)) r, zeros-length (length q)))
-    ∙ ap₂ add (times-gone q) (divide-zeros (length q) r)
+    ∙ ap₂ add (times_gone q) (divide-zeros (length q) r)
     ∙ add-zeros 32 r (omega arith)

@@ -28,12 +28,12 @@ plus_assoc true false c = refl
 plus_assoc true true true = refl
 plus_assoc true true false = refl
 
-plus-cancel : (a b c : Bool) → plus (plus a b) (plus a c) ≡ plus b c
-plus-cancel false b c = refl
-plus-cancel true true true = refl
-plus-cancel true true false = refl
-plus-cancel true false true = refl
-plus-cancel true false false = refl
+plus_cancel : (a b c : Bool) → plus (plus a b) (plus a c) ≡ plus b c
+plus_cancel false b c = refl
+plus_cancel true true true = refl
+plus_cancel true true false = refl
+plus_cancel true false true = refl
+plus_cancel true false false = refl
 
 pub add_comm : (p q : List Bool) → add p q ≡ add q p
 unfolding add
@@ -49,15 +49,15 @@ add_assoc (a ∷ p) [] r = refl
 add_assoc (a ∷ p) (b ∷ q) [] = refl
 add_assoc (a ∷ p) (b ∷ q) (c ∷ r) = ap₂ ◌∷◌ (plus_assoc a b c) (add_assoc p q r)
 
-add-swap : (p g q : List Bool) → add p (add g q) ≡ add g (add p q)
-add-swap p g q = sym (add_assoc p g q) ∙ ap (λ (x : List Bool). add x q) (add_comm p g) ∙ add_assoc g p q
+add_swap : (p g q : List Bool) → add p (add g q) ≡ add g (add p q)
+add_swap p g q = sym (add_assoc p g q) ∙ ap (λ (x : List Bool). add x q) (add_comm p g) ∙ add_assoc g p q
 
-pub add-cancel : (g p q : List Bool) → length g ≤ length p → length g ≤ length q → add (add g p) (add g q) ≡ add p q
+pub add_cancel : (g p q : List Bool) → length g ≤ length p → length g ≤ length q → add (add g p) (add g q) ≡ add p q
 unfolding add
-add-cancel [] p q h l = refl
-add-cancel (a ∷ g) [] q h l = absurd (omega arith)
-add-cancel (a ∷ g) (b ∷ p) [] h l = absurd (omega arith)
-add-cancel (a ∷ g) (b ∷ p) (c ∷ q) h l = ap₂ ◌∷◌ (plus-cancel a b c) (add-cancel g p q (omega arith) (omega arith))
+add_cancel [] p q h l = refl
+add_cancel (a ∷ g) [] q h l = absurd (omega arith)
+add_cancel (a ∷ g) (b ∷ p) [] h l = absurd (omega arith)
+add_cancel (a ∷ g) (b ∷ p) (c ∷ q) h l = ap₂ ◌∷◌ (plus_cancel a b c) (add_cancel g p q (omega arith) (omega arith))
 
 pub add-length : (g p : List Bool) → length g ≤ length p → length (add g p) ≡ length p
 unfolding add
@@ -72,11 +72,11 @@ add-zeros zero p h = refl
 add-zeros (suc n) [] h = absurd (omega arith)
 add-zeros (suc n) (a ∷ p) h = ap (λ (x : List Bool). a ∷ x) (add-zeros n p (omega arith))
 
-pub add-tail : (p q : List Bool) (n : ℕ) → length q + n ≤ length p → add (q ++ zeros n) p ≡ add q p
+pub add_tail : (p q : List Bool) (n : ℕ) → length q + n ≤ length p → add (q ++ zeros n) p ≡ add q p
 unfolding add
-add-tail p [] n h = add-zeros n p (omega arith)
-add-tail [] (b ∷ q) n h = absurd (omega arith)
-add-tail (a ∷ p) (b ∷ q) n h = ap (λ (x : List Bool). plus b a ∷ x) (add-tail p q n (omega arith))
+add_tail p [] n h = add-zeros n p (omega arith)
+add_tail [] (b ∷ q) n h = absurd (omega arith)
+add_tail (a ∷ p) (b ∷ q) n h = ap (λ (x : List Bool). plus b a ∷ x) (add_tail p q n (omega arith))
 
 pub add-append : (p q r s : List Bool) → length p ≡ length q → add (p ++ r) (q ++ s) ≡ add p q ++ add r s
 unfolding add
@@ -104,9 +104,9 @@ linear (suc k) (false ∷ p) (false ∷ q) h l = linear k p q (omega arith) (ome
 linear (suc k) (true ∷ p) (false ∷ q) h l =
     rw (← add_assoc lower p q) (linear k (add lower p) q (omega (arith, add-length lower p (omega (arith, lower-length)))) (omega arith))
 linear (suc k) (false ∷ p) (true ∷ q) h l =
-    rw (← add-swap p lower q) (linear k p (add lower q) (omega arith) (omega (arith, add-length lower q (omega (arith, lower-length)))))
+    rw (← add_swap p lower q) (linear k p (add lower q) (omega arith) (omega (arith, add-length lower q (omega (arith, lower-length)))))
 linear (suc k) (true ∷ p) (true ∷ q) h l =
-    rw (← add-cancel lower p q (omega (arith, lower-length)) (omega (arith, lower-length)))
+    rw (← add_cancel lower p q (omega (arith, lower-length)) (omega (arith, lower-length)))
     (linear k (add lower p) (add lower q) (omega (arith, add-length lower p (omega (arith, lower-length)))) (omega (arith, add-length lower q (omega (arith, lower-length)))))
 
 divide-nil : (k : ℕ) → divide k [] ≡ []
@@ -114,23 +114,23 @@ unfolding divide
 divide-nil zero = refl
 divide-nil (suc k) = refl
 
-pub divide-more : (k j : ℕ) (p : List Bool) → divide (k + j) p ≡ divide k (divide j p)
+pub divide_more : (k j : ℕ) (p : List Bool) → divide (k + j) p ≡ divide k (divide j p)
 unfolding divide add
-divide-more k zero p = rw (add-zero k)
-divide-more k (suc j) [] = rw (add-suc k j) (sym (divide-nil k))
-divide-more k (suc j) (false ∷ p) = rw (add-suc k j) (divide-more k j p)
-divide-more k (suc j) (true ∷ p) = rw (add-suc k j) (divide-more k j (add lower p))
+divide_more k zero p = rw (add-zero k)
+divide_more k (suc j) [] = rw (add-suc k j) (sym (divide-nil k))
+divide_more k (suc j) (false ∷ p) = rw (add-suc k j) (divide_more k j p)
+divide_more k (suc j) (true ∷ p) = rw (add-suc k j) (divide_more k j (add lower p))
 
 pub divide-zeros : (j : ℕ) (p : List Bool) → divide j (zeros j ++ p) ≡ p
 unfolding divide zeros
 divide-zeros zero p = refl
 divide-zeros (suc j) p = divide-zeros j p
 
-pub add-more : (g p q : List Bool) → length g ≤ length p → add g (p ++ q) ≡ add g p ++ q
+pub add_more : (g p q : List Bool) → length g ≤ length p → add g (p ++ q) ≡ add g p ++ q
 unfolding add
-add-more [] p q h = refl
-add-more (a ∷ g) [] q h = absurd (omega arith)
-add-more (a ∷ g) (b ∷ p) q h = ap (λ (l : List Bool). plus a b ∷ l) (add-more g p q (omega arith))
+add_more [] p q h = refl
+add_more (a ∷ g) [] q h = absurd (omega arith)
+add_more (a ∷ g) (b ∷ p) q h = ap (λ (l : List Bool). plus a b ∷ l) (add_more g p q (omega arith))
 
 -- what is left of the division is not reached by it
 pub divide-append : (k : ℕ) (p q : List Bool) → k + 32 ≤ length p → divide k (p ++ q) ≡ divide k p ++ q
@@ -139,7 +139,7 @@ divide-append zero p q h = refl
 divide-append (suc k) [] q h = absurd (omega arith)
 divide-append (suc k) (false ∷ p) q h = divide-append k p q (omega arith)
 divide-append (suc k) (true ∷ p) q h =
-    rw (add-more lower p q (omega (arith, lower-length))) (divide-append k (add lower p) q (omega (arith, add-length lower p (omega (arith, lower-length)))))
+    rw (add_more lower p q (omega (arith, lower-length))) (divide-append k (add lower p) q (omega (arith, add-length lower p (omega (arith, lower-length)))))
 
 pub divide-length : (k : ℕ) (p : List Bool) → k + 32 ≤ length p → length (divide k p) + k ≡ length p
 unfolding divide add
@@ -156,8 +156,8 @@ apart n [] y h = add_comm y (zeros n) ∙ add-zeros n y h
 apart n (a ∷ x) y h = ap (λ (l : List Bool). a ∷ l) (apart n x y h)
 
 -- the first terms of a dividend are divided by themselves, and the rest is added
-divide-first : (x y : List Bool) → 32 ≤ length y → divide (length x) (x ++ y) ≡ add (divide (length x) (x ++ zeros 32)) y
-divide-first x y h =
+divide_first : (x y : List Bool) → 32 ≤ length y → divide (length x) (x ++ y) ≡ add (divide (length x) (x ++ zeros 32)) y
+divide_first x y h =
     ap (divide (length x)) (sym (apart 32 x y h))
     ∙ linear (length x) (zeros (length x) ++ y) (x ++ zeros 32)
     (omega (arith, length-append (zeros (length x)) y, zeros-length (length x)))
@@ -172,43 +172,43 @@ unfolding bits
 bits-length zero x = refl
 bits-length (suc n) x = ap suc (bits-length n (x / 2))
 
-bit-xor : (a b : ℕ) → a < 2 → b < 2 → eqb (bit_xor a b) 1 ≡ plus (eqb a 1) (eqb b 1)
-bit-xor zero zero h l = refl
-bit-xor zero (suc zero) h l = refl
-bit-xor zero (suc (suc b)) h l = absurd (omega arith)
-bit-xor (suc zero) zero h l = refl
-bit-xor (suc zero) (suc zero) h l = refl
-bit-xor (suc zero) (suc (suc b)) h l = absurd (omega arith)
-bit-xor (suc (suc a)) b h l = absurd (omega arith)
+bit_xor_lem : (a b : ℕ) → a < 2 → b < 2 → eqb (bit_xor a b) 1 ≡ plus (eqb a 1) (eqb b 1)
+bit_xor_lem zero zero h l = refl
+bit_xor_lem zero (suc zero) h l = refl
+bit_xor_lem zero (suc (suc b)) h l = absurd (omega arith)
+bit_xor_lem (suc zero) zero h l = refl
+bit_xor_lem (suc zero) (suc zero) h l = refl
+bit_xor_lem (suc zero) (suc (suc b)) h l = absurd (omega arith)
+bit_xor_lem (suc (suc a)) b h l = absurd (omega arith)
 
-pub bits-xor : (n a b : ℕ) → bits n (bit_xor a b) ≡ add (bits n a) (bits n b)
+pub bits_xor : (n a b : ℕ) → bits n (bit_xor a b) ≡ add (bits n a) (bits n b)
 unfolding bits add
-bits-xor zero a b = refl
-bits-xor (suc n) a b =
-    ap₂ ◌∷◌ (ap (λ (x : ℕ). eqb x 1) (xor_mod a b 1) ∙ bit-xor (a % 2) (b % 2) (omega arith) (omega arith))
-    (ap (bits n) (xor_shr a b 1) ∙ bits-xor n (a / 2) (b / 2))
+bits_xor zero a b = refl
+bits_xor (suc n) a b =
+    ap₂ ◌∷◌ (ap (λ (x : ℕ). eqb x 1) (xor_mod a b 1) ∙ bit_xor_lem (a % 2) (b % 2) (omega arith) (omega arith))
+    (ap (bits n) (xor_shr a b 1) ∙ bits_xor n (a / 2) (b / 2))
 
-pub bits-zero : (n : ℕ) → bits n 0 ≡ zeros n
+pub bits_zero : (n : ℕ) → bits n 0 ≡ zeros n
 unfolding bits zeros
-bits-zero zero = refl
-bits-zero (suc n) = ap (λ (l : List Bool). false ∷ l) (bits-zero n)
+bits_zero zero = refl
+bits_zero (suc n) = ap (λ (l : List Bool). false ∷ l) (bits_zero n)
 
-pub bits-split : (n m x : ℕ) → bits (n + m) x ≡ bits m x ++ bits n (x / 2 ^ m)
+pub bits_split : (n m x : ℕ) → bits (n + m) x ≡ bits m x ++ bits n (x / 2 ^ m)
 unfolding bits
-bits-split n zero x = ap₂ bits (add-zero n) (omega arith)
-bits-split n (suc m) x =
+bits_split n zero x = ap₂ bits (add-zero n) (omega arith)
+bits_split n (suc m) x =
     rw (add-suc n m)
     (ap (λ (l : List Bool). eqb (x % 2) 1 ∷ l)
-    (bits-split n m (x / 2) ∙ ap (λ (y : ℕ). bits m (x / 2) ++ bits n y) (shr-shr x 1 m ∙ ap (λ (k : ℕ). x / 2 ^ k) (omega arith))))
+    (bits_split n m (x / 2) ∙ ap (λ (y : ℕ). bits m (x / 2) ++ bits n y) (shr-shr x 1 m ∙ ap (λ (k : ℕ). x / 2 ^ k) (omega arith))))
 
 -- the low bits are those of the remainder
-pub bits-low : (m x : ℕ) → bits m (x % 2 ^ m) ≡ bits m x
+pub bits_low : (m x : ℕ) → bits m (x % 2 ^ m) ≡ bits m x
 unfolding bits
-bits-low zero x = refl
-bits-low (suc m) x =
+bits_low zero x = refl
+bits_low (suc m) x =
     let e : suc m ≡ m + 1 = omega arith in
     rw e
-    (ap₂ (λ (a b : ℕ). eqb a 1 ∷ bits m b) (mod-mod-pow x m 1) (field x m 1) ∙ ap (λ (l : List Bool). eqb (x % 2) 1 ∷ l) (bits-low m (x / 2)))
+    (ap₂ (λ (a b : ℕ). eqb a 1 ∷ bits m b) (mod-mod-pow x m 1) (field x m 1) ∙ ap (λ (l : List Bool). eqb (x % 2) 1 ∷ l) (bits_low m (x / 2)))
 
 bit_not : (u : ℕ) → u < 2 → cond (not (eqb u 1)) 1 0 + u ≡ 1
 bit_not zero h = refl
@@ -226,9 +226,9 @@ number-not (suc n) x h =
 -- ---- the register: 32 bits that stand under the first terms of what is left of the dividend
 
 -- the table is asked at the low half octet
-pub half-low : (k x : ℕ) → half k (x % 16) ≡ half k x
+pub half_low : (k x : ℕ) → half k (x % 16) ≡ half k x
 unfolding half
-half-low k x = ap (λ (l : List Bool). remainder (l ++ zeros (4 * k + 32))) (bits-low 4 x)
+half_low k x = ap (λ (l : List Bool). remainder (l ++ zeros (4 * k + 32))) (bits_low 4 x)
 
 -- the register, shifted by n
 shifted : (j n c t : ℕ) → j + n ≡ 32 → c < 2 ^ 32 → bits 32 (bit_xor t (c / 2 ^ n)) ≡ add (bits 32 t) (bits j (c / 2 ^ n))
@@ -236,26 +236,26 @@ shifted j n c t e h =
     let y : ℕ = c / 2 ^ n in
     let w : n + j ≡ 32 = omega arith in
     let z : y / 2 ^ j ≡ 0 = shr-shr c n j ∙ ap (λ (k : ℕ). c / 2 ^ k) w ∙ div-eq_of_lt h in
-    bits-xor 32 t y
-    ∙ ap (add (bits 32 t)) (ap (λ (k : ℕ). bits k y) (sym w) ∙ bits-split n j y ∙ ap (λ (x : ℕ). bits j y ++ bits n x) z ∙ ap (λ (l : List Bool). bits j y ++ l) (bits-zero n))
+    bits_xor 32 t y
+    ∙ ap (add (bits 32 t)) (ap (λ (k : ℕ). bits k y) (sym w) ∙ bits_split n j y ∙ ap (λ (x : ℕ). bits j y ++ bits n x) z ∙ ap (λ (l : List Bool). bits j y ++ l) (bits_zero n))
     ∙ add_comm (bits 32 t) (bits j y ++ zeros n)
-    ∙ add-tail (bits 32 t) (bits j y) n (omega (arith, bits-length 32 t, bits-length j y))
+    ∙ add_tail (bits 32 t) (bits j y) n (omega (arith, bits-length 32 t, bits-length j y))
     ∙ add_comm (bits j y) (bits 32 t)
 
 -- bits of the message at once: x is these plus the register above them, s what is left of the register, and t the remainder for x
-taken-bits : (x s o m : List Bool) (c t : ℕ) → length x ≡ length o → length s ≤ 32 → add (bits 32 c) ((o ++ m) ++ zeros 32) ≡ x ++ add s (m ++ zeros 32)
+taken_bits : (x s o m : List Bool) (c t : ℕ) → length x ≡ length o → length s ≤ 32 → add (bits 32 c) ((o ++ m) ++ zeros 32) ≡ x ++ add s (m ++ zeros 32)
     → bits 32 t ≡ remainder (x ++ zeros 32) → left c (o ++ m) ≡ divide (length m) (add (add (bits 32 t) s) (m ++ zeros 32))
 unfolding left remainder
-taken-bits x s o m c t n h first e =
+taken_bits x s o m c t n h first e =
     let y : List Bool = add s (m ++ zeros 32) in
     let k : length (o ++ m) ≡ length m + length x = omega (arith, length-append o m) in
     let z : length (m ++ zeros 32) ≡ length m + 32 = length-append m (zeros 32) ∙ ap (λ (i : ℕ). length m + i) (zeros-length 32) in
     let l : length y ≡ length (m ++ zeros 32) = add-length s (m ++ zeros 32) (omega arith) in
     let d : length (x ++ zeros 32) - 32 ≡ length x = omega (arith, length-append x (zeros 32), zeros-length 32) in
     ap₂ divide k first
-    ∙ divide-more (length m) (length x) (x ++ y)
+    ∙ divide_more (length m) (length x) (x ++ y)
     ∙ ap (divide (length m))
-    (divide-first x y (omega arith)
+    (divide_first x y (omega arith)
     ∙ ap (λ (l : List Bool). add l y) (ap (λ (i : ℕ). divide i (x ++ zeros 32)) (sym d) ∙ sym e)
     ∙ sym (add_assoc (bits 32 t) s (m ++ zeros 32)))
 
@@ -266,17 +266,17 @@ unfolding left
 taken j n c o t m w h e =
     let s : List Bool = bits j (c / 2 ^ n) in
     let first : add (bits 32 c) ((bits n o ++ m) ++ zeros 32) ≡ bits n (bit_xor c o) ++ add s (m ++ zeros 32) =
-    ap₂ add (ap (λ (i : ℕ). bits i c) (sym w) ∙ bits-split j n c) (append_assoc (bits n o) m (zeros 32))
+    ap₂ add (ap (λ (i : ℕ). bits i c) (sym w) ∙ bits_split j n c) (append_assoc (bits n o) m (zeros 32))
     ∙ add-append (bits n c) (bits n o) s (m ++ zeros 32) (bits-length n c ∙ sym (bits-length n o))
-    ∙ ap (λ (l : List Bool). l ++ add s (m ++ zeros 32)) (sym (bits-xor n c o)) in
-    taken-bits (bits n (bit_xor c o)) s (bits n o) m c t (bits-length n (bit_xor c o) ∙ sym (bits-length n o)) (omega (arith, bits-length j (c / 2 ^ n))) first e
+    ∙ ap (λ (l : List Bool). l ++ add s (m ++ zeros 32)) (sym (bits_xor n c o)) in
+    taken_bits (bits n (bit_xor c o)) s (bits n o) m c t (bits-length n (bit_xor c o) ∙ sym (bits-length n o)) (omega (arith, bits-length j (c / 2 ^ n))) first e
     ∙ ap (λ (l : List Bool). divide (length m) (add l (m ++ zeros 32))) (sym (shifted j n c t w h))
 
 -- ---- the loop over octets: its start, a turn, its end
 
-ones-are : replicate 32 true ≡ bits 32 4294967295
+ones_are : replicate 32 true ≡ bits 32 4294967295
 unfolding bits
-ones-are = refl
+ones_are = refl
 
 -- the sum of the two remainders is what is left from the register of 32 ones
 pub start : (os : List ℕ) → crc32 os ≡ number (map not (left 4294967295 (message os)))
@@ -289,10 +289,10 @@ start os =
     let ea : length (ones ++ zeros (length m)) - 32 ≡ length m = omega arith in
     let eb : length (m ++ zeros 32) - 32 ≡ length m = omega arith in
     ap (λ (l : List Bool). number (map not l))
-    (ap (λ (l : List Bool). add (divide (length (l ++ zeros (length m)) - 32) (l ++ zeros (length m))) (divide (length (m ++ zeros 32) - 32) (m ++ zeros 32))) ones-are
+    (ap (λ (l : List Bool). add (divide (length (l ++ zeros (length m)) - 32) (l ++ zeros (length m))) (divide (length (m ++ zeros 32) - 32) (m ++ zeros 32))) ones_are
     ∙ ap₂ (λ (i j : ℕ). add (divide i (ones ++ zeros (length m))) (divide j (m ++ zeros 32))) ea eb
     ∙ sym (linear (length m) (ones ++ zeros (length m)) (m ++ zeros 32) (omega arith) (omega arith))
-    ∙ ap (divide (length m)) (add-tail (m ++ zeros 32) ones (length m) (omega (arith, bits-length 32 4294967295))))
+    ∙ ap (divide (length m)) (add_tail (m ++ zeros 32) ones (length m) (omega (arith, bits-length 32 4294967295))))
 
 -- ---- 32 bits at once: the remainder for them plus the register is the sum of an entry for each half octet
 
@@ -312,7 +312,7 @@ parted a b =
     ∙ ap₂ divide n (sym (apart (k + 32) a q (omega arith)) ∙ add_comm (zeros (length a) ++ q) p)
     ∙ linear (k + length a) p (zeros (length a) ++ q) (omega arith) (omega (arith, length-append (zeros (length a)) q, zeros-length (length a)))
     ∙ ap₂ add (ap (λ (i : ℕ). divide i p) np)
-    (divide-more k (length a) (zeros (length a) ++ q) ∙ ap (divide k) (divide-zeros (length a) q) ∙ ap (λ (i : ℕ). divide i q) nq)
+    (divide_more k (length a) (zeros (length a) ++ q) ∙ ap (divide k) (divide-zeros (length a) q) ∙ ap (λ (i : ℕ). divide i q) nq)
 
 -- the entries of the n + 1 low half octets, each for as many half octets of zero as there are behind it
 unfoldable pub halves : ℕ → ℕ → List Bool
@@ -325,43 +325,43 @@ halves_are zero v = refl
 halves_are (suc n) v =
     let w : 4 * suc (suc n) ≡ 4 * suc n + 4 = omega arith in
     let b : List Bool = bits (4 * suc n) (v / 16) in
-    ap (λ (l : List Bool). remainder (l ++ zeros 32)) (ap (λ (k : ℕ). bits k v) w ∙ bits-split (4 * suc n) 4 v)
+    ap (λ (l : List Bool). remainder (l ++ zeros 32)) (ap (λ (k : ℕ). bits k v) w ∙ bits_split (4 * suc n) 4 v)
     ∙ parted (bits 4 v) b
     ∙ ap₂ add (ap (λ (k : ℕ). remainder (bits 4 v ++ zeros (k + 32))) (bits-length (4 * suc n) (v / 16))) (halves_are n (v / 16))
 
 -- ---- steps of the register
 
-pub takes-octet : (c o t : ℕ) → c < 2 ^ 32 → bits 32 t ≡ halves 1 (bit_xor c o) → Takes c (o ∷ []) (bit_xor t (c / 256))
+pub takes_octet : (c o t : ℕ) → c < 2 ^ 32 → bits 32 t ≡ halves 1 (bit_xor c o) → Takes c (o ∷ []) (bit_xor t (c / 256))
 unfolding Takes message
-takes-octet c o t h e m =
+takes_octet c o t h e m =
     sym (ap (λ (l : List Bool). left c (l ++ m)) (append-nil (bits 8 o)) ∙ taken 24 8 c o t m refl h (e ∙ sym (halves_are 1 (bit_xor c o))))
 
-taken-whole : (c w t : ℕ) (m : List Bool) → c < 2 ^ 32 → bits 32 t ≡ remainder (bits 32 (bit_xor c w) ++ zeros 32) → left c (bits 32 w ++ m) ≡ left t m
-taken-whole c w t m h e =
+taken_whole : (c w t : ℕ) (m : List Bool) → c < 2 ^ 32 → bits 32 t ≡ remainder (bits 32 (bit_xor c w) ++ zeros 32) → left c (bits 32 w ++ m) ≡ left t m
+taken_whole c w t m h e =
     taken 0 32 c w t m refl h e ∙ ap (λ (k : ℕ). left k m) (ap (bit_xor t) (div-eq_of_lt h) ∙ xor_zero_r t)
 
-pub takes-four : (c w t : ℕ) (os : List ℕ) → c < 2 ^ 32 → bits 32 w ≡ message os → bits 32 t ≡ remainder (bits 32 (bit_xor c w) ++ zeros 32) → Takes c os t
+pub takes_four : (c w t : ℕ) (os : List ℕ) → c < 2 ^ 32 → bits 32 w ≡ message os → bits 32 t ≡ remainder (bits 32 (bit_xor c w) ++ zeros 32) → Takes c os t
 unfolding Takes
-takes-four c w t os h o e m = sym (ap (λ (l : List Bool). left c (l ++ m)) (sym o) ∙ taken-whole c w t m h e)
+takes_four c w t os h o e m = sym (ap (λ (l : List Bool). left c (l ++ m)) (sym o) ∙ taken_whole c w t m h e)
 
-pub takes-word : (c w t r : ℕ) → c < 2 ^ 32 → t < 2 ^ 32 → bits 32 t ≡ remainder (bits 32 (bit_xor c (w % 2 ^ 32)) ++ zeros 32)
+pub takes_word : (c w t r : ℕ) → c < 2 ^ 32 → t < 2 ^ 32 → bits 32 t ≡ remainder (bits 32 (bit_xor c (w % 2 ^ 32)) ++ zeros 32)
     → bits 32 r ≡ remainder (bits 32 (bit_xor t (w / 2 ^ 32)) ++ zeros 32) → TakesWord c w r
 unfolding TakesWord
-takes-word c w t r h l e f m =
+takes_word c w t r h l e f m =
     let rest : List Bool = bits 32 (w / 2 ^ 32) ++ m in
     sym
     (ap (left c)
-    (ap (λ (l : List Bool). l ++ m) (bits-split 32 32 w) ∙ append_assoc (bits 32 w) (bits 32 (w / 2 ^ 32)) m ∙ ap (λ (l : List Bool). l ++ rest) (sym (bits-low 32 w)))
-    ∙ taken-whole c (w % 2 ^ 32) t rest h e
-    ∙ taken-whole t (w / 2 ^ 32) r m l f)
+    (ap (λ (l : List Bool). l ++ m) (bits_split 32 32 w) ∙ append_assoc (bits 32 w) (bits 32 (w / 2 ^ 32)) m ∙ ap (λ (l : List Bool). l ++ rest) (sym (bits_low 32 w)))
+    ∙ taken_whole c (w % 2 ^ 32) t rest h e
+    ∙ taken_whole t (w / 2 ^ 32) r m l f)
 
 -- two numbers, one behind the other
-pub bits-join : (n m a b : ℕ) → a < 2 ^ m → bits (n + m) (a + b * 2 ^ m) ≡ bits m a ++ bits n b
-bits-join n m a b h =
+pub bits_join : (n m a b : ℕ) → a < 2 ^ m → bits (n + m) (a + b * 2 ^ m) ≡ bits m a ++ bits n b
+bits_join n m a b h =
     let w : a + b * 2 ^ m ≡ b * 2 ^ m + a = omega arith in
     ap (bits (n + m)) w
-    ∙ bits-split n m (b * 2 ^ m + a)
-    ∙ ap₂ ◌++◌ (sym (bits-low m (b * 2 ^ m + a)) ∙ ap (bits m) (low b m h)) (ap (bits n) (high b m h))
+    ∙ bits_split n m (b * 2 ^ m + a)
+    ∙ ap₂ ◌++◌ (sym (bits_low m (b * 2 ^ m + a)) ∙ ap (bits m) (low b m h)) (ap (bits n) (high b m h))
 
 pub message-length : (os : List ℕ) → length (message os) ≡ 8 * length os
 unfolding message
@@ -375,15 +375,15 @@ unfolding message
 message-append [] b = refl
 message-append (o ∷ a) b = ap (λ (l : List Bool). bits 8 o ++ l) (message-append a b) ∙ sym (append_assoc (bits 8 o) (message a) (message b))
 
-pub takes-append : (c r s : ℕ) (a b : List ℕ) → Takes c a r → Takes r b s → Takes c (a ++ b) s
+pub takes_append : (c r s : ℕ) (a b : List ℕ) → Takes c a r → Takes r b s → Takes c (a ++ b) s
 unfolding Takes
-takes-append c r s a b f g m =
+takes_append c r s a b f g m =
     g m ∙ f (message b ++ m) ∙ ap (left c) (sym (append_assoc (message a) (message b) m) ∙ ap (λ (l : List Bool). l ++ m) (sym (message-append a b)))
 
 -- from 32 ones, the check sequence is the register's complement
-pub takes-crc : (os : List ℕ) (r : ℕ) → r < 2 ^ 32 → Takes 4294967295 os r → crc32 os ≡ 4294967295 - r
+pub takes_crc : (os : List ℕ) (r : ℕ) → r < 2 ^ 32 → Takes 4294967295 os r → crc32 os ≡ 4294967295 - r
 unfolding Takes
-takes-crc os r h f =
+takes_crc os r h f =
     start os
     ∙ ap (λ (l : List Bool). number (map not (left 4294967295 l))) (sym (append-nil (message os)))
     ∙ ap (λ (l : List Bool). number (map not l)) (sym (f []))
@@ -392,9 +392,9 @@ takes-crc os r h f =
 
 -- ---- four octets taken as zero
 
-pub zeroed-at : (os : List ℕ) (at : ℕ) → at < length os → zeroed os at ≡ take at os ++ (replicate (min 4 (length os - at)) 0 ++ drop (at + min 4 (length os - at)) os)
+pub zeroed_at : (os : List ℕ) (at : ℕ) → at < length os → zeroed os at ≡ take at os ++ (replicate (min 4 (length os - at)) 0 ++ drop (at + min 4 (length os - at)) os)
 unfolding zeroed
-zeroed-at os at h =
+zeroed_at os at h =
     let n : length (take 4 (drop at os)) ≡ min 4 (length os - at) = length-take 4 (drop at os) ∙ ap (min 4) (length-drop at os) in
     let e : drop 4 (drop at os) ≡ drop (at + min 4 (length os - at)) os = drop-drop 4 at os ∙ rest (leb 4 (length os - at)) refl in
     ap₂ (λ (k : ℕ) (l : List ℕ). take at os ++ (replicate k 0 ++ l)) n e
@@ -406,6 +406,6 @@ zeroed-at os at h =
         let k : min 4 (length os - at) ≡ length os - at = min-eq_right (le_of_lt l) in
         drop_of_length-le os {i = at + 4} (omega arith) ∙ sym (drop_of_length-le os {i = at + min 4 (length os - at)} (omega arith))
 
-pub zeroed-past : (os : List ℕ) (at : ℕ) → length os ≤ at → zeroed os at ≡ os
+pub zeroed_past : (os : List ℕ) (at : ℕ) → length os ≤ at → zeroed os at ≡ os
 unfolding zeroed
-zeroed-past os at h = rw (take_all at os h, drop_of_length-le os h) (append-nil os)
+zeroed_past os at h = rw (take_all at os h, drop_of_length-le os h) (append-nil os)

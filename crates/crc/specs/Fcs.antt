@@ -45,8 +45,8 @@ unfoldable pub zeros : ℕ → List Bool
 zeros n = replicate n false
 
 -- x^n times p
-abbrev pub timesX : ℕ → List Bool → List Bool
-timesX n p = p ++ zeros n
+abbrev pub times_x : ℕ → List Bool → List Bool
+times_x n p = p ++ zeros n
 
 -- ---- octets
 
@@ -68,7 +68,7 @@ message (o ∷ os) = bits 8 o ++ message os
 -- V.42, 8.1.1.6.2: the ones' complement of the sum modulo 2 of (a) the remainder of x^k (x^31 + x^30 + .. + 1), k the number of bits of the message,
 -- and (b) the remainder of x^32 times the message, both divided by the generator polynomial
 unfoldable pub fcs : List Bool → List Bool
-fcs m = map not (add (remainder (timesX (length m) (replicate 32 true))) (remainder (timesX 32 m)))
+fcs m = map not (add (remainder (times_x (length m) (replicate 32 true))) (remainder (times_x 32 m)))
 
 -- The highest term is sent first and an octet's low bit is sent first, so the sequence's four octets are a number with its low octet first.
 unfoldable pub crc32 : List ℕ → ℕ
@@ -79,5 +79,5 @@ crc32 os = number (fcs (message os))
 unfoldable pub zeroed : List ℕ → ℕ → List ℕ
 zeroed os at = take at os ++ (replicate (length (take 4 (drop at os))) 0 ++ drop 4 (drop at os))
 
-unfoldable pub crc32Skipping : List ℕ → ℕ → ℕ
-crc32Skipping os at = crc32 (zeroed os at)
+unfoldable pub crc32_skipping : List ℕ → ℕ → ℕ
+crc32_skipping os at = crc32 (zeroed os at)

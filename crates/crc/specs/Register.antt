@@ -30,11 +30,11 @@ words [] = []
 words (x ∷ xs) = bits 64 x ++ words xs
 
 -- what is left of the division when the words stand under the message m
-unfoldable pub leftBy : List ℕ → List Bool → List Bool
-leftBy ws m = divide (length m) (add (words ws) (m ++ zeros 32))
+unfoldable pub left_by : List ℕ → List Bool → List Bool
+left_by ws m = divide (length m) (add (words ws) (m ++ zeros 32))
 
 unfoldable pub left_of : Pending → List Bool → List Bool
-left_of p m = leftBy (p.first ∷ p.second ∷ p.third ∷ p.fourth ∷ p.fifth ∷ []) m
+left_of p m = left_by (p.first ∷ p.second ∷ p.third ∷ p.fourth ∷ p.fifth ∷ []) m
 
 -- r is what is pending after the word x, p what was before it: whatever follows, if it is as long as five words
 unfoldable pub Turns : Pending → ℕ → Pending → Type 0

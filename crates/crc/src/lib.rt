@@ -249,7 +249,7 @@ fn crc_zeroed(table: &[u32; 128], bytes: &[u8], at: usize) -> u32
 
 // CRC-32 of the bytes with the four at `at` read as zero. Past the end there is nothing to read: fewer than four, or none, are skipped.
 pub fn crc32_skipping(bytes: &[u8], at: usize) -> u32
-    ensures { result ≡ Fcs.crc32Skipping bytes.now at }
+    ensures { result ≡ Fcs.crc32_skipping bytes.now at }
 {
     if bytes.len() <= at {
         return crc32(bytes);

@@ -6,29 +6,29 @@ use mathlib.Core.List.{List, [], ◌∷◌}
 use native.Mathlib.Omega.{arith}
 use lib.ListN.{get_or}
 use Rattle.pack.specs.Sector.{rules}
-use Rattle.pack.specs.Grid.{isPoint, inGrid}
+use Rattle.pack.specs.Grid.{is_point, in_grid}
 use Rattle.pack.specs.declared.Header.{Header}
 use Rattle.pack.specs.declared.TileKey.{TileKey}
 use Rattle.tile.specs.Layout.{edge_of}
 use Rattle.tile.specs.Parse.{accepts}
 use Rattle.geo.specs.declared.Point.{Point}
-use Rattle.crossing.specs.Crossing.{refusal, number_of, MeetsTransect, pointAt, Crosses}
-use Rattle.crossing.specs.Sides.{place_of, Passed, meetsAt, InTile}
+use Rattle.crossing.specs.Crossing.{refusal, number_of, MeetsTransect, point_at, Crosses}
+use Rattle.crossing.specs.Sides.{place_of, Passed, meets_at, InTile}
 use Rattle.crossing.specs.declared.Crossed.{Crossed}
 use Rattle.crossing.specs.declared.Crossed.TheVariants as Crossed
-use Rattle.crossing.proofs.Reach.{end-reach, point-reach}
-use Rattle.crossing.proofs.Meeting.{meets-meet, meet-meets}
+use Rattle.crossing.proofs.Reach.{end_reach, point_reach}
+use Rattle.crossing.proofs.Meeting.{meets_meet, meet_meets}
 
 -- what has passed where nothing is refused
 pub record Accepted (first second : Point) (h : Header) (k : TileKey) : Type 0 where
   pub passed : Passed h k
-  pub first-in : isPoint first.lat first.lon ≡ true
-  pub second-in : isPoint second.lat second.lon ≡ true
+  pub first_in : is_point first.lat first.lon ≡ true
+  pub second_in : is_point second.lat second.lon ≡ true
 
 module _ (first second : Point) (h : Header) (k : TileKey) (bs : List ℕ) where
   pub accepted : refusal first second h k bs ≡ 0 → Accepted first second h k
   unfolding refusal
-  accepted e = go (rules h) (isPoint first.lat first.lon) (isPoint second.lat second.lon) (inGrid h k) refl refl refl refl e
+  accepted e = go (rules h) (is_point first.lat first.lon) (is_point second.lat second.lon) (in_grid h k) refl refl refl refl e
     where
       listed : Bool → Bool → Bool → Bool → ℕ
       listed r p q g = number_of ((r, 12) ∷ (p, 8) ∷ (q, 8) ∷ (g, 9) ∷ (accepts bs k h.tile, 4) ∷ [])
@@ -36,29 +36,29 @@ module _ (first second : Point) (h : Header) (k : TileKey) (bs : List ℕ) where
       go :
           (r p q g : Bool) →
           rules h ≡ r →
-          isPoint first.lat first.lon ≡ p →
-          isPoint second.lat second.lon ≡ q →
-          inGrid h k ≡ g →
+          is_point first.lat first.lon ≡ p →
+          is_point second.lat second.lon ≡ q →
+          in_grid h k ≡ g →
           listed r p q g ≡ 0 →
           Accepted first second h k
-      go true true true true u v w x z = record { passed = record { ruled = u; gridded = x }; first-in = v; second-in = w }
+      go true true true true u v w x z = record { passed = record { ruled = u; gridded = x }; first_in = v; second_in = w }
       go true true true false u v w x z = absurd (omega arith)
       go true true false g u v w x z = absurd (omega arith)
       go true false q g u v w x z = absurd (omega arith)
       go false p q g u v w x z = absurd (omega arith)
 
   module _ (a : Accepted first second h k) (bytes : (i : ℕ) → get_or bs i 0 < 256) where
-    tells : (edge s : ℕ) → meetsAt (place_of first) (place_of second) h k bs (edge_of bs edge) s ≡ true → MeetsTransect first second h k bs edge s
-    unfolding meetsAt
+    tells : (edge s : ℕ) → meets_at (place_of first) (place_of second) h k bs (edge_of bs edge) s ≡ true → MeetsTransect first second h k bs edge s
+    unfolding meets_at
     tells edge s =
-        meets-meet first second (pointAt h k bs edge s) (pointAt h k bs edge (s + 1)) (end-reach first a.first-in).near (end-reach second a.second-in).near
-        (point-reach bs bytes h k a.passed (edge_of bs edge) s).near (point-reach bs bytes h k a.passed (edge_of bs edge) (s + 1)).near
+        meets_meet first second (point_at h k bs edge s) (point_at h k bs edge (s + 1)) (end_reach first a.first_in).near (end_reach second a.second_in).near
+        (point_reach bs bytes h k a.passed (edge_of bs edge) s).near (point_reach bs bytes h k a.passed (edge_of bs edge) (s + 1)).near
 
-    told : (edge s : ℕ) → MeetsTransect first second h k bs edge s → meetsAt (place_of first) (place_of second) h k bs (edge_of bs edge) s ≡ true
-    unfolding meetsAt
+    told : (edge s : ℕ) → MeetsTransect first second h k bs edge s → meets_at (place_of first) (place_of second) h k bs (edge_of bs edge) s ≡ true
+    unfolding meets_at
     told edge s =
-        meet-meets first second (pointAt h k bs edge s) (pointAt h k bs edge (s + 1)) (end-reach first a.first-in).near (end-reach second a.second-in).near
-        (point-reach bs bytes h k a.passed (edge_of bs edge) s).near (point-reach bs bytes h k a.passed (edge_of bs edge) (s + 1)).near
+        meet_meets first second (point_at h k bs edge s) (point_at h k bs edge (s + 1)) (end_reach first a.first_in).near (end_reach second a.second_in).near
+        (point_reach bs bytes h k a.passed (edge_of bs edge) s).near (point_reach bs bytes h k a.passed (edge_of bs edge) (s + 1)).near
 
     pub answered : refusal first second h k bs ≡ 0 → (r : Crossed) → InTile (place_of first) (place_of second) h k bs r → Crosses first second h k bs r
     answered e (Crossed.At edge s) f = record { accepted = e; there = f.0; meets = tells edge s f.1 }

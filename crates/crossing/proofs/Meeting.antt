@@ -13,7 +13,7 @@ use Rattle.crossing.specs.Segments.{along, Meet}
 use Rattle.crossing.specs.Sides.{raised, place_of, side, left, beside, apart, meets}
 use Rattle.crossing.specs.declared.Place.{Place}
 use Rattle.crossing.proofs.Reach.{raised_is, Near}
-use Rattle.crossing.proofs.Plane.{Common, exchanged, no-gap-y, no-gap-x, not_left, not_right, found}
+use Rattle.crossing.proofs.Plane.{Common, exchanged, no_gap_y, no_gap_x, not_left, not_right, found}
 
 -- ---- the tests over ℕ
 
@@ -48,32 +48,32 @@ module _ (a b c e : Place) where
       go false u true false p q r s = refl
       go false u false w p q r s = refl
 
-  astrides-left : beside a b c e ≡ false → side b a c < side a b c → side b a e < side a b e → ⊥
+  astrides_left : beside a b c e ≡ false → side b a c < side a b c → side b a e < side a b e → ⊥
   unfolding beside
-  astrides-left h p q = true≢false (sym (rw (lt-ltb (side b a c) (side a b c) p, lt-ltb (side b a e) (side a b e) q)) ∙ h)
+  astrides_left h p q = true≢false (sym (rw (lt-ltb (side b a c) (side a b c) p, lt-ltb (side b a e) (side a b e) q)) ∙ h)
 
-  astrides-right : beside a b c e ≡ false → side a b c < side b a c → side a b e < side b a e → ⊥
+  astrides_right : beside a b c e ≡ false → side a b c < side b a c → side a b e < side b a e → ⊥
   unfolding beside
-  astrides-right h p q =
+  astrides_right h p q =
       let not_left : side a b c ≤ side b a c = omega arith in
       true≢false (sym (rw (le-ltb (side b a c) (side a b c) not_left, lt-ltb (side a b c) (side b a c) p, lt-ltb (side a b e) (side b a e) q)) ∙ h)
 
 -- ---- exactly where there is a common point
 
-pub common-meets : {a b c e : Place} → Common a b c e → meets a b c e ≡ true
+pub common_meets : {a b c e : Place} → Common a b c e → meets a b c e ≡ true
 unfolding meets
-common-meets {a} {b} {c} {e} g =
+common_meets {a} {b} {c} {e} g =
     let back = exchanged {a = c} {b = e} {c = a} {e = b} g in
     rw (
-      clear a.y b.y c.y e.y (no-gap-y g) (no-gap-y back),
-      clear a.x b.x c.x e.x (no-gap-x g) (no-gap-x back),
+      clear a.y b.y c.y e.y (no_gap_y g) (no_gap_y back),
+      clear a.x b.x c.x e.x (no_gap_x g) (no_gap_x back),
       astride a b c e (not_left g) (not_right g),
       astride c e a b (not_left back) (not_right back),
     )
 
-pub meets-common : (a b c e : Place) → meets a b c e ≡ true → Common a b c e
+pub meets_common : (a b c e : Place) → meets a b c e ≡ true → Common a b c e
 unfolding meets
-meets-common a b c e h = go (apart a.y b.y c.y e.y) (apart a.x b.x c.x e.x) (beside a b c e) (beside c e a b) refl refl refl refl h
+meets_common a b c e h = go (apart a.y b.y c.y e.y) (apart a.x b.x c.x e.x) (beside a b c e) (beside c e a b) refl refl refl refl h
   where
     go :
         (t u v w : Bool) →
@@ -88,17 +88,17 @@ meets-common a b c e h = go (apart a.y b.y c.y e.y) (apart a.x b.x c.x e.x) (bes
     go false false true w p q r s f = absurd (true≢false (sym f))
     go false false false true p q r s f = absurd (true≢false (sym f))
     go false false false false p q r s f =
-        let (y-low, y-high) = clears a.y b.y c.y e.y p in
-        let (x-low, x-high) = clears a.x b.x c.x e.x q in
+        let (y_low, y_high) = clears a.y b.y c.y e.y p in
+        let (x_low, x_high) = clears a.x b.x c.x e.x q in
         found a b c e (record {
-          y-low = y-low;
-          y-high = y-high;
-          x-low = x-low;
-          x-high = x-high;
-          left = astrides-left a b c e r;
-          right = astrides-right a b c e r;
-          left' = astrides-left c e a b s;
-          right' = astrides-right c e a b s;
+          y_low = y_low;
+          y_high = y_high;
+          x_low = x_low;
+          x_high = x_high;
+          left = astrides_left a b c e r;
+          right = astrides_right a b c e r;
+          left' = astrides_left c e a b s;
+          right' = astrides_right c e a b s;
         })
 
 -- ---- from places to points
@@ -108,46 +108,46 @@ abbrev weighed : ℕ → ℕ → ℤ → ℤ → ℤ
 weighed m i from to = from *ℤ pos m +ℤ to *ℤ pos i
 
 module _ (m i n j : ℕ) (a b c e : ℤ) (whole : m + i ≡ n + j) where
-  parts-of : (z : ℤ) (w : ℕ) → dn z ≤ 360000000 → w * raised z + dn (z *ℤ pos w) ≡ up (z *ℤ pos w) + 360000000 * w
-  parts-of z w h = omega (arith, ap (λ (t : ℕ). t * w) (raised_is z h), mul z w)
+  parts_of : (z : ℤ) (w : ℕ) → dn z ≤ 360000000 → w * raised z + dn (z *ℤ pos w) ≡ up (z *ℤ pos w) + 360000000 * w
+  parts_of z w h = omega (arith, ap (λ (t : ℕ). t * w) (raised_is z h), mul z w)
 
-  to-places :
+  to_places :
       dn a ≤ 360000000 → dn b ≤ 360000000 → dn c ≤ 360000000 → dn e ≤ 360000000 →
       weighed m i a b ≡ weighed n j c e → m * raised a + i * raised b ≡ n * raised c + j * raised e
-  to-places ha hb hc he h =
+  to_places ha hb hc he h =
       omega (
         arith,
-        parts-of a m ha,
-        parts-of b i hb,
-        parts-of c n hc,
-        parts-of e j he,
+        parts_of a m ha,
+        parts_of b i hb,
+        parts_of c n hc,
+        parts_of e j he,
         add (a *ℤ pos m) (b *ℤ pos i),
         add (c *ℤ pos n) (e *ℤ pos j),
         ap up h,
         ap dn h,
       )
 
-  to-points :
+  to_points :
       dn a ≤ 360000000 → dn b ≤ 360000000 → dn c ≤ 360000000 → dn e ≤ 360000000 →
       m * raised a + i * raised b ≡ n * raised c + j * raised e → weighed m i a b ≡ weighed n j c e
-  to-points ha hb hc he h =
+  to_points ha hb hc he h =
       same (weighed m i a b) (weighed n j c e)
       (omega (
         arith,
-        parts-of a m ha,
-        parts-of b i hb,
-        parts-of c n hc,
-        parts-of e j he,
+        parts_of a m ha,
+        parts_of b i hb,
+        parts_of c n hc,
+        parts_of e j he,
         add (a *ℤ pos m) (b *ℤ pos i),
         add (c *ℤ pos n) (e *ℤ pos j),
       ))
 
 module _ (a b c e : Point) (na : Near a) (nb : Near b) (nc : Near c) (ne : Near e) where
-  meet-common : Meet a b c e → Common (place_of a) (place_of b) (place_of c) (place_of e)
+  meet_common : Meet a b c e → Common (place_of a) (place_of b) (place_of c) (place_of e)
   unfolding along
-  meet-common g =
-      let i-in = g.first in
-      let j-in = g.second in
+  meet_common g =
+      let i_in = g.first in
+      let j_in = g.second in
       let whole : (g.parts - g.i) + g.i ≡ (g.parts - g.j) + g.j = omega arith in
       record {
         m = g.parts - g.i;
@@ -156,15 +156,15 @@ module _ (a b c e : Point) (na : Near a) (nb : Near b) (nc : Near c) (ne : Near 
         j = g.j;
         some = omega (arith, g.some);
         whole = whole;
-        lat = to-places (g.parts - g.i) g.i (g.parts - g.j) g.j a.lat b.lat c.lat e.lat whole na.lat nb.lat nc.lat ne.lat g.lat;
-        lon = to-places (g.parts - g.i) g.i (g.parts - g.j) g.j a.lon b.lon c.lon e.lon whole na.lon nb.lon nc.lon ne.lon g.lon;
+        lat = to_places (g.parts - g.i) g.i (g.parts - g.j) g.j a.lat b.lat c.lat e.lat whole na.lat nb.lat nc.lat ne.lat g.lat;
+        lon = to_places (g.parts - g.i) g.i (g.parts - g.j) g.j a.lon b.lon c.lon e.lon whole na.lon nb.lon nc.lon ne.lon g.lon;
       }
 
-  common-meet : Common (place_of a) (place_of b) (place_of c) (place_of e) → Meet a b c e
+  common_meet : Common (place_of a) (place_of b) (place_of c) (place_of e) → Meet a b c e
   unfolding along
-  common-meet g =
-      let left-i : (g.m + g.i) - g.i ≡ g.m = omega arith in
-      let left-j : (g.m + g.i) - g.j ≡ g.n = omega (arith, g.whole) in
+  common_meet g =
+      let left_i : (g.m + g.i) - g.i ≡ g.m = omega arith in
+      let left_j : (g.m + g.i) - g.j ≡ g.n = omega (arith, g.whole) in
       record {
         parts = g.m + g.i;
         i = g.i;
@@ -172,13 +172,13 @@ module _ (a b c e : Point) (na : Near a) (nb : Near b) (nc : Near c) (ne : Near 
         some = g.some;
         first = omega arith;
         second = omega (arith, g.whole);
-        lat = rw (left-i, left-j) (to-points g.m g.i g.n g.j a.lat b.lat c.lat e.lat g.whole na.lat nb.lat nc.lat ne.lat g.lat);
-        lon = rw (left-i, left-j) (to-points g.m g.i g.n g.j a.lon b.lon c.lon e.lon g.whole na.lon nb.lon nc.lon ne.lon g.lon);
+        lat = rw (left_i, left_j) (to_points g.m g.i g.n g.j a.lat b.lat c.lat e.lat g.whole na.lat nb.lat nc.lat ne.lat g.lat);
+        lon = rw (left_i, left_j) (to_points g.m g.i g.n g.j a.lon b.lon c.lon e.lon g.whole na.lon nb.lon nc.lon ne.lon g.lon);
       }
 
   -- the sign tests tell where two segments meet
-  pub meets-meet : meets (place_of a) (place_of b) (place_of c) (place_of e) ≡ true → Meet a b c e
-  meets-meet h = common-meet (meets-common (place_of a) (place_of b) (place_of c) (place_of e) h)
+  pub meets_meet : meets (place_of a) (place_of b) (place_of c) (place_of e) ≡ true → Meet a b c e
+  meets_meet h = common_meet (meets_common (place_of a) (place_of b) (place_of c) (place_of e) h)
 
-  pub meet-meets : Meet a b c e → meets (place_of a) (place_of b) (place_of c) (place_of e) ≡ true
-  meet-meets g = common-meets (meet-common g)
+  pub meet_meets : Meet a b c e → meets (place_of a) (place_of b) (place_of c) (place_of e) ≡ true
+  meet_meets g = common_meets (meet_common g)

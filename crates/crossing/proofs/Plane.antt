@@ -41,11 +41,11 @@ flipped g = record { m = g.m; i = g.i; n = g.n; j = g.j; some = g.some; whole = 
 gap : (m i n j p q r s : ℕ) → 0 < m + i → m + i ≡ n + j → m * p + i * q ≡ n * r + j * s → max p q < min r s → ⊥
 gap m i n j p q r s some whole same h =
     let top = max p q in
-    let p-top : p ≤ top = omega arith in
-    let q-top : q ≤ top = omega arith in
+    let p_top : p ≤ top = omega arith in
+    let q_top : q ≤ top = omega arith in
     let r_top : top + 1 ≤ r = omega arith in
-    let s-top : top + 1 ≤ s = omega arith in
-    sum top (mul-le-mul_right m p-top) (mul-le-mul_right i q-top) (mul-le-mul_right n r_top) (mul-le-mul_right j s-top)
+    let s_top : top + 1 ≤ s = omega arith in
+    sum top (mul-le-mul_right m p_top) (mul-le-mul_right i q_top) (mul-le-mul_right n r_top) (mul-le-mul_right j s_top)
   where
     sum : (top : ℕ) → p * m ≤ top * m → q * i ≤ top * i → (top + 1) * n ≤ r * n → (top + 1) * j ≤ s * j → ⊥
     sum top hp hq hr hs = omega (arith, ap (λ t. t * top) whole)
@@ -59,17 +59,17 @@ module _ (a b c e : Place) where
   areas = omega arith
 
   -- and so do the four points, weighted by the areas opposite to them
-  balance-y :
+  balance_y :
       side c e b * a.y + side e c a * b.y + side a b e * c.y + side b a c * e.y
       ≡ side e c b * a.y + side c e a * b.y + side b a e * c.y + side a b c * e.y
   unfolding side
-  balance-y = omega arith
+  balance_y = omega arith
 
-  balance-x :
+  balance_x :
       side c e b * a.x + side e c a * b.x + side a b e * c.x + side b a c * e.x
       ≡ side e c b * a.x + side c e a * b.x + side b a e * c.x + side a b c * e.x
   unfolding side
-  balance-x = omega arith
+  balance_x = omega arith
 
   -- the areas of c and e about the line a to b, weighted
   weighed : (n j : ℕ) → n * side a b c + j * side a b e ≡ b.x * (n * c.y + j * e.y) + (n + j) * (b.y * a.x) + a.y * (n * c.x + j * e.x)
@@ -106,11 +106,11 @@ tilt n j p q r s some same h k = sum (mul-le-mul_right n hp) (mul-le-mul_right j
 -- ---- what a common point rules out
 
 module _ {a b c e : Place} (g : Common a b c e) where
-  pub no-gap-y : max a.y b.y < min c.y e.y → ⊥
-  no-gap-y h = gap g.m g.i g.n g.j a.y b.y c.y e.y g.some g.whole g.lat h
+  pub no_gap_y : max a.y b.y < min c.y e.y → ⊥
+  no_gap_y h = gap g.m g.i g.n g.j a.y b.y c.y e.y g.some g.whole g.lat h
 
-  pub no-gap-x : max a.x b.x < min c.x e.x → ⊥
-  no-gap-x h = gap g.m g.i g.n g.j a.x b.x c.x e.x g.some g.whole g.lon h
+  pub no_gap_x : max a.x b.x < min c.x e.x → ⊥
+  no_gap_x h = gap g.m g.i g.n g.j a.x b.x c.x e.x g.some g.whole g.lon h
 
   pub not_left : side b a c < side a b c → side b a e < side a b e → ⊥
   not_left h k = tilt g.n g.j (side a b c) (side b a c) (side a b e) (side b a e) (omega arith) (level a b c e g) h k
@@ -155,21 +155,21 @@ settled pa na pb nb pc nc pe ne u v w z same hb ha he hc = go (nb - pb) (pa - na
 
 -- nothing separates the segment a to b from the segment c to e: no gap in a coordinate, and neither lies strictly on one side of the other's line
 pub record Joined (a b c e : Place) : Type 0 where
-  pub y-low : min c.y e.y ≤ max a.y b.y
-  pub y-high : min a.y b.y ≤ max c.y e.y
-  pub x-low : min c.x e.x ≤ max a.x b.x
-  pub x-high : min a.x b.x ≤ max c.x e.x
+  pub y_low : min c.y e.y ≤ max a.y b.y
+  pub y_high : min a.y b.y ≤ max c.y e.y
+  pub x_low : min c.x e.x ≤ max a.x b.x
+  pub x_high : min a.x b.x ≤ max c.x e.x
   pub left : side b a c < side a b c → side b a e < side a b e → ⊥
   pub right : side a b c < side b a c → side a b e < side b a e → ⊥
   pub left' : side e c a < side c e a → side e c b < side c e b → ⊥
   pub right' : side c e a < side e c a → side c e b < side e c b → ⊥
 
-joined-swapped : {a b c e : Place} → Joined a b c e → Joined a b e c
-joined-swapped g = record {
-  y-low = let h = g.y-low in omega arith;
-  y-high = let h = g.y-high in omega arith;
-  x-low = let h = g.x-low in omega arith;
-  x-high = let h = g.x-high in omega arith;
+joined_swapped : {a b c e : Place} → Joined a b c e → Joined a b e c
+joined_swapped g = record {
+  y_low = let h = g.y_low in omega arith;
+  y_high = let h = g.y_high in omega arith;
+  x_low = let h = g.x_low in omega arith;
+  x_high = let h = g.x_high in omega arith;
   left = λ h k. g.left k h;
   right = λ h k. g.right k h;
   left' = g.right';
@@ -181,8 +181,8 @@ crossed : (a b c e : Place) → Joined a b c e → side a b c + side b a e < sid
 crossed a b c e g rise =
     let sum = areas a b c e in
     let fall : side c e b + side e c a < side c e a + side e c b = omega arith in
-    let (c-low, e-high) = around (side a b c) (side b a c) (side a b e) (side b a e) g.left g.right rise in
-    let (b-low, a-high) =
+    let (c_low, e_high) = around (side a b c) (side b a c) (side a b e) (side b a e) g.left g.right rise in
+    let (b_low, a_high) =
     around (side c e b) (side e c b) (side c e a) (side e c a) (λ h k. g.left' k h) (λ h k. g.right' k h) fall in
     record {
       m = side e c b - side c e b;
@@ -193,10 +193,10 @@ crossed a b c e g rise =
       whole = omega arith;
       lat =
           settled (side c e a) (side e c a) (side c e b) (side e c b) (side a b c) (side b a c) (side a b e) (side b a e) a.y b.y c.y e.y
-          (balance-y a b c e) b-low a-high e-high c-low;
+          (balance_y a b c e) b_low a_high e_high c_low;
       lon =
           settled (side c e a) (side e c a) (side c e b) (side e c b) (side a b c) (side b a c) (side a b e) (side b a e) a.x b.x c.x e.x
-          (balance-x a b c e) b-low a-high e-high c-low;
+          (balance_x a b c e) b_low a_high e_high c_low;
     }
 
 -- ---- one line for both
@@ -208,11 +208,11 @@ record Flat (a b c e : Place) : Type 0 where
   pub zc : side a b c ≡ side b a c
   pub ze : side a b e ≡ side b a e
 
-flat-swapped : {a b c e : Place} → Flat a b c e → Flat a b e c
-flat-swapped f = record { za = sym f.za; zb = sym f.zb; zc = f.ze; ze = f.zc }
+flat_swapped : {a b c e : Place} → Flat a b c e → Flat a b e c
+flat_swapped f = record { za = sym f.za; zb = sym f.zb; zc = f.ze; ze = f.zc }
 
-flat-turned : {a b c e : Place} → Flat a b c e → Flat b a c e
-flat-turned f = record { za = f.zb; zb = f.za; zc = sym f.zc; ze = sym f.ze }
+flat_turned : {a b c e : Place} → Flat a b c e → Flat b a c e
+flat_turned f = record { za = f.zb; zb = f.za; zc = sym f.zc; ze = sym f.ze }
 
 turned : {a b c e : Place} → Common b a c e → Common a b c e
 turned g = record { m = g.i; i = g.m; n = g.n; j = g.j; some = omega arith; whole = omega arith; lat = omega arith; lon = omega arith }
@@ -253,10 +253,10 @@ ordered a b c e f ab ce cb ae extent = go (ltb a.y b.y) (ltb c.y e.y) (ltb c.y a
     go false false false p q r = absurd (omega (arith, ltb-false a.y b.y p, ltb-false c.y e.y q))
 
 -- the same in any order
-collinear-y :
+collinear_y :
     (a b c e : Place) → Flat a b c e → min c.y e.y ≤ max a.y b.y → min a.y b.y ≤ max c.y e.y →
     min a.y b.y + min c.y e.y < max a.y b.y + max c.y e.y → Common a b c e
-collinear-y a b c e f low high extent = go (ltb b.y a.y) (ltb e.y c.y) refl refl
+collinear_y a b c e f low high extent = go (ltb b.y a.y) (ltb e.y c.y) refl refl
   where
     go : (t u : Bool) → ltb b.y a.y ≡ t → ltb e.y c.y ≡ u → Common a b c e
     go false false p q =
@@ -266,19 +266,19 @@ collinear-y a b c e f low high extent = go (ltb b.y a.y) (ltb e.y c.y) refl refl
     go false true p q =
         let h = ltb-false b.y a.y p in
         let k = ltb-true e.y c.y q in
-        swapped (ordered a b e c (flat-swapped f) h (omega arith) (omega arith) (omega arith) (omega arith))
+        swapped (ordered a b e c (flat_swapped f) h (omega arith) (omega arith) (omega arith) (omega arith))
     go true false p q =
         let h = ltb-true b.y a.y p in
         let k = ltb-false e.y c.y q in
-        turned (ordered b a c e (flat-turned f) (omega arith) k (omega arith) (omega arith) (omega arith))
+        turned (ordered b a c e (flat_turned f) (omega arith) k (omega arith) (omega arith) (omega arith))
     go true true p q =
         let h = ltb-true b.y a.y p in
         let k = ltb-true e.y c.y q in
-        turned (swapped (ordered b a e c (flat-turned (flat-swapped f)) (omega arith) (omega arith) (omega arith) (omega arith) (omega arith)))
+        turned (swapped (ordered b a e c (flat_turned (flat_swapped f)) (omega arith) (omega arith) (omega arith) (omega arith) (omega arith)))
 
-flat-flipped : {a b c e : Place} → Flat a b c e → Flat (flip a) (flip b) (flip c) (flip e)
+flat_flipped : {a b c e : Place} → Flat a b c e → Flat (flip a) (flip b) (flip c) (flip e)
 unfolding side
-flat-flipped {a} {b} {c} {e} f = record {
+flat_flipped {a} {b} {c} {e} f = record {
   za = let h = f.za in omega arith;
   zb = let h = f.zb in omega arith;
   zc = let h = f.zc in omega arith;
@@ -299,8 +299,8 @@ collinear a b c e g f =
         ltb (min a.y b.y + min c.y e.y) (max a.y b.y + max c.y e.y) ≡ t →
         ltb (min a.x b.x + min c.x e.x) (max a.x b.x + max c.x e.x) ≡ u →
         Common a b c e
-    go true u p q = collinear-y a b c e f g.y-low g.y-high (ltb-true _ _ p)
-    go false true p q = flipped (collinear-y (flip a) (flip b) (flip c) (flip e) (flat-flipped f) g.x-low g.x-high (ltb-true _ _ q))
+    go true u p q = collinear_y a b c e f g.y_low g.y_high (ltb-true _ _ p)
+    go false true p q = flipped (collinear_y (flip a) (flip b) (flip c) (flip e) (flat_flipped f) g.x_low g.x_high (ltb-true _ _ q))
     go false false p q = record {
       m = 1;
       i = 0;
@@ -308,8 +308,8 @@ collinear a b c e g f =
       j = 0;
       some = omega arith;
       whole = refl;
-      lat = point a.y b.y c.y e.y g.y-low g.y-high (ltb-false _ _ p);
-      lon = point a.x b.x c.x e.x g.x-low g.x-high (ltb-false _ _ q);
+      lat = point a.y b.y c.y e.y g.y_low g.y_high (ltb-false _ _ p);
+      lon = point a.x b.x c.x e.x g.x_low g.x_high (ltb-false _ _ q);
     }
 
 -- ---- nothing separates them: there is a common point
@@ -318,8 +318,8 @@ pub found : (a b c e : Place) → Joined a b c e → Common a b c e
 found a b c e g =
     go (ltb (side a b c + side b a e) (side a b e + side b a c)) (ltb (side a b e + side b a c) (side a b c + side b a e)) refl refl
   where
-    level-ends : side a b c + side b a e ≡ side a b e + side b a c → Flat a b c e
-    level-ends h =
+    level_ends : side a b c + side b a e ≡ side a b e + side b a c → Flat a b c e
+    level_ends h =
         let sum = areas a b c e in
         let (zc, ze) = nothing (side a b c) (side b a c) (side a b e) (side b a e) g.left g.right h in
         let (za, zb) = nothing (side c e a) (side e c a) (side c e b) (side e c b) g.left' g.right' (omega arith) in
@@ -331,8 +331,8 @@ found a b c e g =
         ltb (side a b e + side b a c) (side a b c + side b a e) ≡ u →
         Common a b c e
     go true u p q = crossed a b c e g (ltb-true _ _ p)
-    go false true p q = swapped (crossed a b e c (joined-swapped g) (ltb-true _ _ q))
+    go false true p q = swapped (crossed a b e c (joined_swapped g) (ltb-true _ _ q))
     go false false p q =
         let h = ltb-false (side a b c + side b a e) (side a b e + side b a c) p in
         let k = ltb-false (side a b e + side b a c) (side a b c + side b a e) q in
-        collinear a b c e g (level-ends (omega arith))
+        collinear a b c e g (level_ends (omega arith))

@@ -2,7 +2,7 @@
 -- Which of the meeting segments is named stays open, as the request says: `Crosses` limits the answer and does not fix it.
 use Rattle.std.specs.Prelude.{ℕ, ◌+◌, ◌≤◌, ◌<◌, ◌≡◌, Bool, cond, List, [], ◌∷◌}
 use Rattle.pack.specs.Sector.{rules}
-use Rattle.pack.specs.Grid.{isPoint, inGrid}
+use Rattle.pack.specs.Grid.{is_point, in_grid}
 use Rattle.pack.specs.declared.Header.{Header}
 use Rattle.pack.specs.declared.TileKey.{TileKey}
 use Rattle.tile.specs.Layout as Layout
@@ -17,15 +17,15 @@ use Rattle.crossing.specs.declared.Crossed.TheVariants as Crossed
 
 -- an edge with v vertices has the segments 0 to v
 pub record IsSegment (bs : List ℕ) (edge segment : ℕ) : Type 0 where
-  pub edge-there : edge < Layout.edgesOf bs
-  pub segment-there : segment ≤ (Layout.edge_of bs edge).vertices
+  pub edge_there : edge < Layout.edges_of bs
+  pub segment_there : segment ≤ (Layout.edge_of bs edge).vertices
 
 -- segment s of an edge joins the edge's points s and s + 1: the exact ones of the tile in its grid
-abbrev pub pointAt : Header → TileKey → List ℕ → ℕ → ℕ → Point
-pointAt h k bs edge index = Points.point_of h k (Layout.point_of bs (Layout.edge_of bs edge) index)
+abbrev pub point_at : Header → TileKey → List ℕ → ℕ → ℕ → Point
+point_at h k bs edge index = Points.point_of h k (Layout.point_of bs (Layout.edge_of bs edge) index)
 
 abbrev pub MeetsTransect : Point → Point → Header → TileKey → List ℕ → ℕ → ℕ → Type 0
-MeetsTransect first second h k bs edge segment = Meet first second (pointAt h k bs edge segment) (pointAt h k bs edge (segment + 1))
+MeetsTransect first second h k bs edge segment = Meet first second (point_at h k bs edge segment) (point_at h k bs edge (segment + 1))
 
 -- ---- refusals, in document 01's order, 0 where nothing is refused
 
@@ -37,9 +37,9 @@ unfoldable pub refusal : Point → Point → Header → TileKey → List ℕ →
 refusal first second h k bs =
     number_of
     ((rules h, 12)
-    ∷ (isPoint first.lat first.lon, 8)
-    ∷ (isPoint second.lat second.lon, 8)
-    ∷ (inGrid h k, 9)
+    ∷ (is_point first.lat first.lon, 8)
+    ∷ (is_point second.lat second.lon, 8)
+    ∷ (in_grid h k, 9)
     ∷ (accepts bs k h.tile, 4)
     ∷ [])
 

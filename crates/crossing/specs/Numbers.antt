@@ -3,7 +3,7 @@ use Rattle.std.specs.Prelude.{ℕ}
 use Rattle.crossing.specs.declared.Crossed.{Crossed}
 use Rattle.crossing.specs.declared.Crossed.TheVariants as Crossed
 
-abbrev pub numberOfCrossed : Crossed → ℕ
-numberOfCrossed (Crossed.At edge segment) = 0
-numberOfCrossed Crossed.Nothing = 0
-numberOfCrossed (Crossed.Refused number) = number
+abbrev pub number_of_crossed : Crossed → ℕ
+number_of_crossed (Crossed.At edge segment) = 0
+number_of_crossed Crossed.Nothing = 0
+number_of_crossed (Crossed.Refused number) = number

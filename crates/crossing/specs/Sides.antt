@@ -2,7 +2,7 @@
 -- A place is a point counted from -360,000,000, so that its numbers are not negative.
 use Rattle.std.specs.Prelude.{ℕ, ◌+◌, ◌*◌, ◌≤◌, ◌<◌, ◌^◌, min, max, ◌≡◌, Bool, true, false, ◌&&◌, ◌||◌, not, cond, List, ltb, ℤ, pos, ◌+ℤ◌}
 use Rattle.pack.specs.Sector.{rules}
-use Rattle.pack.specs.Grid.{natural, inGrid}
+use Rattle.pack.specs.Grid.{natural, in_grid}
 use Rattle.pack.specs.declared.Header.{Header}
 use Rattle.pack.specs.declared.TileKey.{TileKey}
 use Rattle.tile.specs.Layout as Layout
@@ -53,26 +53,26 @@ meets a b c e =
 -- what the inner functions are given: the header and the key have passed
 pub record Passed (h : Header) (k : TileKey) : Type 0 where
   pub ruled : rules h ≡ true
-  pub gridded : inGrid h k ≡ true
+  pub gridded : in_grid h k ≡ true
 
-abbrev pub placeAt : Header → TileKey → List ℕ → Edge → ℕ → Place
-placeAt h k bs e index = place_of (Points.point_of h k (Layout.point_of bs e index))
+abbrev pub place_at : Header → TileKey → List ℕ → Edge → ℕ → Place
+place_at h k bs e index = place_of (Points.point_of h k (Layout.point_of bs e index))
 
 -- an edge's place, small enough for the areas
 pub record Placed (h : Header) (k : TileKey) (bs : List ℕ) (e : Edge) (index : ℕ) (r : Place) : Type 0 where
-  pub is : r ≡ placeAt h k bs e index
+  pub is : r ≡ place_at h k bs e index
   pub small : Small r
 
-unfoldable pub meetsAt : Place → Place → Header → TileKey → List ℕ → Edge → ℕ → Bool
-meetsAt a b h k bs e s = meets a b (placeAt h k bs e s) (placeAt h k bs e (s + 1))
+unfoldable pub meets_at : Place → Place → Header → TileKey → List ℕ → Edge → ℕ → Bool
+meets_at a b h k bs e s = meets a b (place_at h k bs e s) (place_at h k bs e (s + 1))
 
 -- a segment of an edge that meets the transect, or a number past its segments
 pub record InEdge (a b : Place) (h : Header) (k : TileKey) (bs : List ℕ) (e : Edge) (r : ℕ) : Type 0 where
-  pub hit : r ≤ e.vertices → meetsAt a b h k bs e r ≡ true
-  pub miss : e.vertices < r → (s : ℕ) → s ≤ e.vertices → meetsAt a b h k bs e s ≡ false
+  pub hit : r ≤ e.vertices → meets_at a b h k bs e r ≡ true
+  pub miss : e.vertices < r → (s : ℕ) → s ≤ e.vertices → meets_at a b h k bs e s ≡ false
 
 -- a segment of a tile that does, or none; the search refuses nothing
 abbrev pub InTile : Place → Place → Header → TileKey → List ℕ → Crossed → Type 0
-InTile a b h k bs (Crossed.At edge s) = IsSegment bs edge s × (meetsAt a b h k bs (Layout.edge_of bs edge) s ≡ true)
-InTile a b h k bs Crossed.Nothing = (edge s : ℕ) → IsSegment bs edge s → meetsAt a b h k bs (Layout.edge_of bs edge) s ≡ false
+InTile a b h k bs (Crossed.At edge s) = IsSegment bs edge s × (meets_at a b h k bs (Layout.edge_of bs edge) s ≡ true)
+InTile a b h k bs Crossed.Nothing = (edge s : ℕ) → IsSegment bs edge s → meets_at a b h k bs (Layout.edge_of bs edge) s ≡ false
 InTile a b h k bs (Crossed.Refused number) = ⊥

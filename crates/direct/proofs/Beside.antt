@@ -26,11 +26,11 @@ use Rattle.matcher.specs.declared.Matched.{Matched}
 use Rattle.matcher.specs.declared.Matcher.{Matcher}
 use Rattle.engine.specs.declared.Fix.{Fix}
 use Rattle.engine.specs.declared.Follower.{Follower}
-use Rattle.engine.specs.State.{refused, engineOk}
+use Rattle.engine.specs.State.{refused, engine_ok}
 use Rattle.engine.specs.Steps.{stepped}
-use Rattle.engine.specs.Work.{counted, ended, offMap, mayAsk, matchedBy, matched, matchAsks, matchEndedBy, rematch, roadAsks, roadEndedBy, published}
+use Rattle.engine.specs.Work.{counted, ended, off_map, may_ask, matched_by, matched, match_asks, match_ended_by, rematch, road_asks, road_ended_by, published}
 use Rattle.engine.specs.Deliver as Delivered
-use Rattle.engine.specs.Deliver.{After, over, sectorOf, arrived, headerFailed, loadFailed, loadedBy}
+use Rattle.engine.specs.Deliver.{After, over, sector_of, arrived, header_failed, load_failed, loaded_by}
 use Rattle.engine.specs.Calls as Engines
 use Rattle.engine.specs.declared.Engine.{Engine}
 use Rattle.engine.specs.declared.Phase.{Phase}
@@ -38,10 +38,10 @@ use Rattle.engine.specs.declared.Phase.TheVariants as Phase
 use Rattle.engine.specs.declared.Status.{Status}
 use Rattle.engine.specs.declared.Status.TheVariants as Status
 use Rattle.engine.specs.declared.Stepped.{Stepped}
-use Rattle.direct.specs.Finished.{Task, match_of, roadAt}
-use Rattle.direct.specs.Claims.{openRead}
+use Rattle.direct.specs.Finished.{Task, match_of, road_at}
+use Rattle.direct.specs.Claims.{open_read}
 use Rattle.engine_states.proofs.Ways as Ways
-use Rattle.engine_states.proofs.Ways.{Same, Rests, Steps, brought, Delivers, step_is, deliver-is}
+use Rattle.engine_states.proofs.Ways.{Same, Rests, Steps, brought, Delivers, step_is, deliver_is}
 
 -- ---- followers
 
@@ -61,9 +61,9 @@ either_same f true x y p q = p
 either_same f false x y p q = q
 
 -- a tile that a match asks for changes nothing of it
-pub match-asks : (f : Follower) (pages : ℕ) (key : TileKey) → Same f (matchAsks f pages key)
-match-asks f pages key =
-    either_same f (mayAsk f.due pages) _ _ (record { sight = refl; matcher = refl; horizon = refl; ahead = refl })
+pub match_asks_lem : (f : Follower) (pages : ℕ) (key : TileKey) → Same f (match_asks f pages key)
+match_asks_lem f pages key =
+    either_same f (may_ask f.due pages) _ _ (record { sight = refl; matcher = refl; horizon = refl; ahead = refl })
     (record { sight = refl; matcher = refl; horizon = refl; ahead = refl })
 
 -- the follower after a match that was finished, or a road that asked for a tile
@@ -72,20 +72,20 @@ pub record Holds (f : Follower) (m : Matcher) (g : Follower) : Type 0 where
   pub matcher : g.matcher ≡ m
   pub horizon : g.horizon_m ≡ f.horizon_m
 
-pub road-asks : (f : Follower) (pages : ℕ) (fix : Fix) (found : Matched) (key : TileKey) → Holds f f.matcher (roadAsks f pages fix found key)
+pub road_asks_lem : (f : Follower) (pages : ℕ) (fix : Fix) (found : Matched) (key : TileKey) → Holds f f.matcher (road_asks f pages fix found key)
 unfolding published
-road-asks f pages fix found key =
-    by (mayAsk f.due pages) _ _ (record { sight = refl; matcher = refl; horizon = refl }) (record { sight = refl; matcher = refl; horizon = refl })
+road_asks_lem f pages fix found key =
+    by (may_ask f.due pages) _ _ (record { sight = refl; matcher = refl; horizon = refl }) (record { sight = refl; matcher = refl; horizon = refl })
   where
     by : (t : Bool) (x y : Follower) → Holds f f.matcher x → Holds f f.matcher y → Holds f f.matcher (cond t x y)
     by true x y p q = p
     by false x y p q = q
 
-pub match-holds : (f : Follower) (m : Matcher) (fix : Fix) → Holds f m (matched f m fix)
+pub match_holds : (f : Follower) (m : Matcher) (fix : Fix) → Holds f m (matched f m fix)
 unfolding matched
-match-holds f m fix = by m.current
+match_holds f m fix = by m.current
   where
-    by : (x : Current) → Holds f m (matchedBy x f m fix)
+    by : (x : Current) → Holds f m (matched_by x f m fix)
     by Current.Nothing = record { sight = refl; matcher = refl; horizon = refl }
     by (Current.Is found) = record { sight = refl; matcher = refl; horizon = refl }
 
@@ -104,47 +104,47 @@ module _ (e : Engine) where
   beside_same : Beside e e
   beside_same = record { phase = refl; header = refl; sight = refl; horizon = refl }
 
-  ended-beside : (c : Cache) (f : Follower) (a : Status) → f.sight ≡ e.follower.sight → f.horizon_m ≡ e.follower.horizon_m
+  ended_beside : (c : Cache) (f : Follower) (a : Status) → f.sight ≡ e.follower.sight → f.horizon_m ≡ e.follower.horizon_m
       → Beside e (ended e c f a).engine
-  ended-beside c f a p q = record { phase = refl; header = refl; sight = p; horizon = q }
+  ended_beside c f a p q = record { phase = refl; header = refl; sight = p; horizon = q }
 
-  either-beside : (t : Bool) (x y : Stepped) → Beside e x.engine → Beside e y.engine → Beside e (cond t x y).engine
-  either-beside true x y p q = p
-  either-beside false x y p q = q
+  either_beside : (t : Bool) (x y : Stepped) → Beside e x.engine → Beside e y.engine → Beside e (cond t x y).engine
+  either_beside true x y p q = p
+  either_beside false x y p q = q
 
-  match-beside : (x : MatchOutcome.Outcome) (fix : Fix) (u : Updated) → Beside e (matchEndedBy x e f₁ fix u).engine
-  match-beside (Match.Found m) fix u = let r = match-holds f₁ u.matcher fix in ended-beside u.cache _ Status.Working r.sight r.horizon
-  match-beside Match.Nothing fix u = let r = match-holds f₁ u.matcher fix in ended-beside u.cache _ Status.Working r.sight r.horizon
-  match-beside (Match.Need key) fix u = let r = match-asks f₁ u.cache.pages.count key in ended-beside u.cache _ Status.Working r.sight r.horizon
-  match-beside (Match.Refused number) fix u = beside_same
+  match_beside : (x : MatchOutcome.Outcome) (fix : Fix) (u : Updated) → Beside e (match_ended_by x e f₁ fix u).engine
+  match_beside (Match.Found m) fix u = let r = match_holds f₁ u.matcher fix in ended_beside u.cache _ Status.Working r.sight r.horizon
+  match_beside Match.Nothing fix u = let r = match_holds f₁ u.matcher fix in ended_beside u.cache _ Status.Working r.sight r.horizon
+  match_beside (Match.Need key) fix u = let r = match_asks_lem f₁ u.cache.pages.count key in ended_beside u.cache _ Status.Working r.sight r.horizon
+  match_beside (Match.Refused number) fix u = beside_same
 
-  road-beside : (x : RoadOutcome.Outcome) (fix : Fix) (found : Matched) (r : Predict.After) → Beside e (roadEndedBy x e f₁ fix found r).engine
+  road_beside : (x : RoadOutcome.Outcome) (fix : Fix) (found : Matched) (r : Predict.After) → Beside e (road_ended_by x e f₁ fix found r).engine
   unfolding published
-  road-beside (Roads.Road p) fix found r = ended-beside r.predicted.cache _ Status.Working refl refl
-  road-beside (Roads.Need key) fix found r =
-      let s = road-asks f₁ r.predicted.cache.pages.count fix found key in ended-beside r.predicted.cache _ Status.Working s.sight s.horizon
-  road-beside Roads.Rematch fix found r = ended-beside r.predicted.cache _ Status.Working refl refl
-  road-beside (Roads.Refused number) fix found r =
-      either-beside (eqb number 10) _ _ (ended-beside r.predicted.cache (rematch f₁) Status.Working refl refl) beside_same
+  road_beside (Roads.Road p) fix found r = ended_beside r.predicted.cache _ Status.Working refl refl
+  road_beside (Roads.Need key) fix found r =
+      let s = road_asks_lem f₁ r.predicted.cache.pages.count fix found key in ended_beside r.predicted.cache _ Status.Working s.sight s.horizon
+  road_beside Roads.Rematch fix found r = ended_beside r.predicted.cache _ Status.Working refl refl
+  road_beside (Roads.Refused number) fix found r =
+      either_beside (eqb number 10) _ _ (ended_beside r.predicted.cache (rematch f₁) Status.Working refl refl) beside_same
 
-  pub steps-beside : {arena : List ℕ} {x : Task} {s : Stepped} → Steps e arena x s → Beside e s.engine
-  unfolding arrived offMap
-  steps-beside (Ways.repeats o) = beside_same
-  steps-beside (Ways.fails failed) = beside_same
-  steps-beside (Ways.opens p offset len o f r) = record { phase = refl; header = refl; sight = refl; horizon = refl }
-  steps-beside (Ways.spoils key i r s p) = beside_same
-  steps-beside (Ways.arrives key n r s f) = record { phase = refl; header = refl; sight = refl; horizon = refl }
-  steps-beside (Ways.rests f s d idle) = ended-beside e.shared.cache f Status.Idle s.sight s.horizon
-  steps-beside (Ways.leaves f w o) = record { phase = refl; header = refl; sight = refl; horizon = refl }
-  steps-beside {arena} (Ways.matches f key w k due) = match-beside (match_of e arena f).answer f (match_of e arena f)
-  steps-beside {arena} (Ways.follows f key found w k c) = road-beside (roadAt e arena found).predicted.answer f found (roadAt e arena found)
+  pub steps_beside : {arena : List ℕ} {x : Task} {s : Stepped} → Steps e arena x s → Beside e s.engine
+  unfolding arrived off_map
+  steps_beside (Ways.repeats o) = beside_same
+  steps_beside (Ways.fails failed) = beside_same
+  steps_beside (Ways.opens p offset len o f r) = record { phase = refl; header = refl; sight = refl; horizon = refl }
+  steps_beside (Ways.spoils key i r s p) = beside_same
+  steps_beside (Ways.arrives key n r s f) = record { phase = refl; header = refl; sight = refl; horizon = refl }
+  steps_beside (Ways.rests f s d idle) = ended_beside e.shared.cache f Status.Idle s.sight s.horizon
+  steps_beside (Ways.leaves f w o) = record { phase = refl; header = refl; sight = refl; horizon = refl }
+  steps_beside {arena} (Ways.matches f key w k due) = match_beside (match_of e arena f).answer f (match_of e arena f)
+  steps_beside {arena} (Ways.follows f key found w k c) = road_beside (road_at e arena found).predicted.answer f found (road_at e arena found)
 
-  pub step-beside : (arena : List ℕ) → Beside e (Engines.step e arena).engine
+  pub step_beside : (arena : List ℕ) → Beside e (Engines.step e arena).engine
   unfolding Engines.step
-  step-beside arena = by (engineOk e (length arena)) refl
+  step_beside arena = by (engine_ok e (length arena)) refl
     where
-      by : (t : Bool) → engineOk e (length arena) ≡ t → Beside e (cond t (stepped e arena) (refused e 12)).engine
-      by true ok = steps-beside (step_is e arena ok)
+      by : (t : Bool) → engine_ok e (length arena) ≡ t → Beside e (cond t (stepped e arena) (refused e 12)).engine
+      by true ok = steps_beside (step_is e arena ok)
       by false ok = beside_same
 
 -- ---- what a delivery leaves beside the cache
@@ -154,8 +154,8 @@ pub data Heads (e : Engine) (failure : ℕ) (bs : List ℕ) : Status → Phase �
   kept : {a : Status} → Heads e failure bs a e.shared.phase e.shared.header
   unread : {a : Status} → Heads e failure bs a Phase.Unread e.shared.header
   failed : {a : Status} → Heads e failure bs a Phase.Failed e.shared.header
-  came : openRead e ≡ Status.Fetch 0 512 → failure ≡ 0 → length bs ≡ 512 → (parse (sectorOf bs)).answer ≡ SectorIs.Accepted
-      → Heads e failure bs Status.Working Phase.Ready (parse (sectorOf bs)).header
+  came : open_read e ≡ Status.Fetch 0 512 → failure ≡ 0 → length bs ≡ 512 → (parse (sector_of bs)).answer ≡ SectorIs.Accepted
+      → Heads e failure bs Status.Working Phase.Ready (parse (sector_of bs)).header
 
 pub record Left (e : Engine) (failure : ℕ) (bs : List ℕ) (a : Status) (n : Engine) : Type 0 where
   pub heads : Heads e failure bs a n.shared.phase n.shared.header
@@ -163,8 +163,8 @@ pub record Left (e : Engine) (failure : ℕ) (bs : List ℕ) (a : Status) (n : E
   pub due : Rests e.follower n.follower
 
 module _ (e : Engine) (failure : ℕ) (bs : List ℕ) where
-  left-same : {a : Status} → Left e failure bs a e
-  left-same = record { heads = kept; follower = same_self e.follower; due = record { matching = refl; road = inl refl } }
+  left_same : {a : Status} → Left e failure bs a e
+  left_same = record { heads = kept; follower = same_self e.follower; due = record { matching = refl; road = inl refl } }
 
   either_left : (t : Bool) (x y : Stepped) → Left e failure bs x.answer x.engine → Left e failure bs y.answer y.engine
       → Left e failure bs (cond t x y).answer (cond t x y).engine
@@ -175,35 +175,35 @@ module _ (e : Engine) (failure : ℕ) (bs : List ℕ) where
       → f.ahead ≡ e.follower.ahead → Same e.follower f
   same_parts p q r s = record { sight = p; matcher = q; horizon = r; ahead = s }
 
-  left-parts : {a : Status} {n : Engine} → Heads e failure bs a n.shared.phase n.shared.header → Same e.follower n.follower
+  left_parts : {a : Status} {n : Engine} → Heads e failure bs a n.shared.phase n.shared.header → Same e.follower n.follower
       → n.follower.due.matching ≡ e.follower.due.matching → n.follower.due.road ≡ e.follower.due.road → Left e failure bs a n
-  left-parts h s m r = record { heads = h; follower = s; due = record { matching = m; road = inl r } }
+  left_parts h s m r = record { heads = h; follower = s; due = record { matching = m; road = inl r } }
 
-  loaded-left : (p : Progress) (c : Cache) → Left e failure bs (loadedBy p e c).answer (loadedBy p e c).engine
-  unfolding arrived loadFailed
-  loaded-left Progress.Done c = left-parts kept (same_parts refl refl refl refl) refl refl
-  loaded-left Progress.More c = left-parts kept (same_parts refl refl refl refl) refl refl
-  loaded-left (Progress.Failed number) c =
-      either_left (ltb e.follower.failures 7) _ _ (left-parts kept (same_parts refl refl refl refl) refl refl)
-      (left-parts failed (same_parts refl refl refl refl) refl refl)
-  loaded-left (Progress.Refused number) c = left-same
+  loaded_left : (p : Progress) (c : Cache) → Left e failure bs (loaded_by p e c).answer (loaded_by p e c).engine
+  unfolding arrived load_failed
+  loaded_left Progress.Done c = left_parts kept (same_parts refl refl refl refl) refl refl
+  loaded_left Progress.More c = left_parts kept (same_parts refl refl refl refl) refl refl
+  loaded_left (Progress.Failed number) c =
+      either_left (ltb e.follower.failures 7) _ _ (left_parts kept (same_parts refl refl refl refl) refl refl)
+      (left_parts failed (same_parts refl refl refl refl) refl refl)
+  loaded_left (Progress.Refused number) c = left_same
 
-  delivers-left : {arena : List ℕ} {r : After} → Delivers e arena failure bs r → Left e failure bs r.answer r.engine
-  unfolding headerFailed
-  delivers-left Ways.refuses = left-same
-  delivers-left (Ways.loses number o s) =
-      either_left (eqb number 1 && ltb e.follower.failures 7) _ _ (left-parts unread (same_parts refl refl refl refl) refl refl)
-      (left-parts failed (same_parts refl refl refl refl) refl refl)
-  delivers-left (Ways.parses o z s a) = left-parts (came o z s a) (same_parts refl refl refl refl) refl refl
-  delivers-left {arena} (Ways.brings key b) = loaded-left (brought e arena key failure bs).answer (brought e arena key failure bs).cache
+  delivers_left : {arena : List ℕ} {r : After} → Delivers e arena failure bs r → Left e failure bs r.answer r.engine
+  unfolding header_failed
+  delivers_left Ways.refuses = left_same
+  delivers_left (Ways.loses number o s) =
+      either_left (eqb number 1 && ltb e.follower.failures 7) _ _ (left_parts unread (same_parts refl refl refl refl) refl refl)
+      (left_parts failed (same_parts refl refl refl refl) refl refl)
+  delivers_left (Ways.parses o z s a) = left_parts (came o z s a) (same_parts refl refl refl refl) refl refl
+  delivers_left {arena} (Ways.brings key b) = loaded_left (brought e arena key failure bs).answer (brought e arena key failure bs).cache
 
-  pub deliver-left : (arena : List ℕ) → Left e failure bs (Engines.deliver e arena failure bs).answer (Engines.deliver e arena failure bs).engine
+  pub deliver_left : (arena : List ℕ) → Left e failure bs (Engines.deliver e arena failure bs).answer (Engines.deliver e arena failure bs).engine
   unfolding Engines.deliver
-  deliver-left arena = by (engineOk e (length arena)) refl
+  deliver_left arena = by (engine_ok e (length arena)) refl
     where
       left : Bool → After
       left t = cond t (Delivered.delivered e arena failure bs) (over (refused e 12) arena)
 
-      by : (t : Bool) → engineOk e (length arena) ≡ t → Left e failure bs (left t).answer (left t).engine
-      by true ok = delivers-left (deliver-is e arena ok failure bs)
-      by false ok = left-same
+      by : (t : Bool) → engine_ok e (length arena) ≡ t → Left e failure bs (left t).answer (left t).engine
+      by true ok = delivers_left (deliver_is e arena ok failure bs)
+      by false ok = left_same

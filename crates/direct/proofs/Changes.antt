@@ -8,13 +8,13 @@ use lib.Dec.{eqb, ltb}
 use lib.Ieee.{Float}
 use lib.IntN.{ℤ}
 use lib.ListN.{length}
-use Rattle.pack.specs.Grid.{inGrid, isPoint}
+use Rattle.pack.specs.Grid.{in_grid, is_point}
 use Rattle.pack.specs.declared.Header.{Header}
 use Rattle.pack.specs.declared.TileKey.{TileKey}
 use Rattle.geo.specs.declared.Point.{Point}
 use Rattle.cache.specs.Direct.{look, looked}
-use Rattle.cache.specs.Lookups.{landsOn, passes, len_at, touched, gotAt, gotReady, got, nextStep}
-use Rattle.cache.specs.State.{pendingFits, cacheOk}
+use Rattle.cache.specs.Lookups.{lands_on, passes, len_at, touched, got_at, got_ready, got, next_step}
+use Rattle.cache.specs.State.{pending_fits, cache_ok}
 use Rattle.cache.specs.declared.Cache.{Cache}
 use Rattle.cache.specs.declared.Pending.{Pending}
 use Rattle.cache.specs.declared.Pending.TheVariants as Pending
@@ -24,13 +24,13 @@ use Rattle.cache.specs.declared.next.Next.{Next}
 use Rattle.cache.specs.declared.next.Next.TheVariants as Next
 use Rattle.cache.specs.Loads as Loads
 use Rattle.cache.specs.Loads.{forgot, told}
-use Rattle.cache_lists.proofs.Lookups.{next-is}
-use Rattle.cache_lists.proofs.Steps.{Step, refuses, knows, uses, noPages, fails, lacks, begins, goesOn, readies, spoils, load_is}
+use Rattle.cache_lists.proofs.Lookups.{next_is}
+use Rattle.cache_lists.proofs.Steps.{Step, refuses, knows, uses, no_pages, fails, lacks, begins, goes_on, readies, spoils, load_is}
 use Rattle.matcher.specs.declared.Heading.{Heading}
 use Rattle.matcher.specs.declared.Matched.{Matched}
 use Rattle.matcher.specs.Calls as Matching
 use Rattle.matcher.specs.Gather as Gather
-use Rattle.matcher.specs.State.{headingOk, callOk, refused}
+use Rattle.matcher.specs.State.{heading_ok, call_ok, refused}
 use Rattle.matcher.specs.declared.Matcher.{Matcher}
 use Rattle.matcher.specs.declared.Outcome as MatchOutcome
 use Rattle.matcher.specs.declared.Outcome.TheVariants as Match
@@ -43,19 +43,19 @@ use Rattle.predict.specs.declared.Outcome.TheVariants as Roads
 use Rattle.engine.specs.declared.Fix.{Fix}
 use Rattle.engine.specs.declared.Follower.{Follower}
 use Rattle.engine.specs.State as States
-use Rattle.engine.specs.State.{engineOk}
-use Rattle.engine.specs.Work.{counted, matchEndedBy, roadEndedBy}
-use Rattle.engine.specs.Deliver.{After, withPending, arrived, headerFailed, loadFailed, loaded}
+use Rattle.engine.specs.State.{engine_ok}
+use Rattle.engine.specs.Work.{counted, match_ended_by, road_ended_by}
+use Rattle.engine.specs.Deliver.{After, with_pending, arrived, header_failed, load_failed, loaded}
 use Rattle.engine.specs.Deliver as Delivered
 use Rattle.engine.proofs.NeedLaws.{settled}
 use Rattle.engine.specs.Steps.{stepped}
 use Rattle.engine.specs.Calls as Engines
 use Rattle.engine.specs.declared.Engine.{Engine}
 use Rattle.engine.specs.declared.Stepped.{Stepped}
-use Rattle.direct.specs.Lists.{numberOfStatus}
-use Rattle.direct.specs.Finished.{Task, match_of, roadAt}
+use Rattle.direct.specs.Lists.{number_of_status}
+use Rattle.direct.specs.Finished.{Task, match_of, road_at}
 use Rattle.engine_states.proofs.Ways as Ways
-use Rattle.engine_states.proofs.Ways.{Steps, Delivers, Brings, brought, step_is, deliver-is}
+use Rattle.engine_states.proofs.Ways.{Steps, Delivers, Brings, brought, step_is, deliver_is}
 
 module _ (Q : Cache → List ℕ → Type 0) (touches : (c : Cache) (arena : List ℕ) (i : ℕ) → Q c arena → Q (touched c i) arena) where
   -- ---- lookups
@@ -65,167 +65,167 @@ module _ (Q : Cache → List ℕ → Type 0) (touches : (c : Cache) (arena : Lis
   either false c d arena p q = q
 
   module _ (arena : List ℕ) (size : ℕ) where
-    got-at : (c : Cache) (key : TileKey) (x : Landing) → Q c arena → Q (gotAt x c arena size key).cache arena
-    got-at c key Landing.Missing q = q
-    got-at c key Landing.Nothing q = q
-    got-at c key (Landing.At i) q = by (passes arena i (len_at c i) key size)
+    got_at_lem : (c : Cache) (key : TileKey) (x : Landing) → Q c arena → Q (got_at x c arena size key).cache arena
+    got_at_lem c key Landing.Missing q = q
+    got_at_lem c key Landing.Nothing q = q
+    got_at_lem c key (Landing.At i) q = by (passes arena i (len_at c i) key size)
       where
-        by : (t : Bool) → Q (gotReady t c i).cache arena
+        by : (t : Bool) → Q (got_ready t c i).cache arena
         by true = touches c arena i q
         by false = q
 
-    pub looked-keeps : (keys : List TileKey) (c : Cache) → Q c arena → Q (looked c arena size keys) arena
+    pub looked_keeps : (keys : List TileKey) (c : Cache) → Q c arena → Q (looked c arena size keys) arena
     unfolding looked got
-    looked-keeps [] c q = q
-    looked-keeps (key ∷ keys) c q = looked-keeps keys (got c arena size key).cache (got-at c key (landsOn c key) q)
+    looked_keeps [] c q = q
+    looked_keeps (key ∷ keys) c q = looked_keeps keys (got c arena size key).cache (got_at_lem c key (lands_on c key) q)
 
   -- ---- a match and a road
 
-  match-after : (x : Ending) (c d : Cache) (arena : List ℕ) → Q c arena → Q d arena → Q (Gather.cacheAfter x c d) arena
-  match-after Ending.All c d arena p q = q
-  match-after (Ending.Need key) c d arena p q = q
-  match-after Ending.Stale c d arena p q = p
+  match_after : (x : Ending) (c d : Cache) (arena : List ℕ) → Q c arena → Q d arena → Q (Gather.cache_after x c d) arena
+  match_after Ending.All c d arena p q = q
+  match_after (Ending.Need key) c d arena p q = q
+  match_after Ending.Stale c d arena p q = p
 
-  pub updated-keeps : (m : Matcher) (c : Cache) (arena : List ℕ) (h : Header) (fix : Point) (heading : Heading) → Q c arena
+  pub updated_keeps : (m : Matcher) (c : Cache) (arena : List ℕ) (h : Header) (fix : Point) (heading : Heading) → Q c arena
       → Q (Gather.updated m c arena h fix heading).cache arena
   unfolding Gather.updated
-  updated-keeps m c arena h fix heading q = let r = Gather.runOver (look c arena h.tile) m h fix heading in
-      match-after r.end c _ arena q (looked-keeps arena h.tile r.found c q)
+  updated_keeps m c arena h fix heading q = let r = Gather.run_over (look c arena h.tile) m h fix heading in
+      match_after r.end c _ arena q (looked_keeps arena h.tile r.found c q)
 
-  road-after : (x : RoadOutcome.Outcome) (c d : Cache) (arena : List ℕ) → Q c arena → Q d arena → Q (Predict.cacheAfter x c d) arena
-  road-after (Roads.Road p) c d arena s q = q
-  road-after (Roads.Need key) c d arena s q = q
-  road-after Roads.Rematch c d arena s q = q
-  road-after (Roads.Refused number) c d arena s q = either (eqb number 12) c d arena s q
+  road_after : (x : RoadOutcome.Outcome) (c d : Cache) (arena : List ℕ) → Q c arena → Q d arena → Q (Predict.cache_after x c d) arena
+  road_after (Roads.Road p) c d arena s q = q
+  road_after (Roads.Need key) c d arena s q = q
+  road_after Roads.Rematch c d arena s q = q
+  road_after (Roads.Refused number) c d arena s q = either (eqb number 12) c d arena s q
 
-  pub predicted-keeps : (c : Cache) (arena : List ℕ) (h : Header) (m : Matched) (horizon : Float) (samples behind : List ℤ) → Q c arena
-      → Q (Predict.predictedIn c arena h m horizon samples behind).predicted.cache arena
-  unfolding Predict.predictedIn
-  predicted-keeps c arena h m horizon samples behind q = let f = Predict.predictOver (look c arena h.tile) c.pages.count h m horizon samples behind in
-      road-after f.answer c _ arena q (looked-keeps arena h.tile f.carried c q)
+  pub predicted_keeps : (c : Cache) (arena : List ℕ) (h : Header) (m : Matched) (horizon : Float) (samples behind : List ℤ) → Q c arena
+      → Q (Predict.predicted_in c arena h m horizon samples behind).predicted.cache arena
+  unfolding Predict.predicted_in
+  predicted_keeps c arena h m horizon samples behind q = let f = Predict.predict_over (look c arena h.tile) c.pages.count h m horizon samples behind in
+      road_after f.answer c _ arena q (looked_keeps arena h.tile f.carried c q)
 
-  pub update-keeps : (m : Matcher) (c : Cache) (arena : List ℕ) (h : Header) (fix : Point) (heading : Heading) → Q c arena
+  pub update_keeps : (m : Matcher) (c : Cache) (arena : List ℕ) (h : Header) (fix : Point) (heading : Heading) → Q c arena
       → Q (Matching.update m c arena h fix heading).cache arena
   unfolding Matching.update
-  update-keeps m c arena h fix heading q = by (callOk m c h (length arena)) (isPoint fix.lat fix.lon && headingOk heading)
+  update_keeps m c arena h fix heading q = by (call_ok m c h (length arena)) (is_point fix.lat fix.lon && heading_ok heading)
     where
       by : (s t : Bool)
           → Q (cond s (cond t (Gather.updated m c arena h fix heading) (refused m c 8)) (refused m c 12)).cache arena
-      by true true = updated-keeps m c arena h fix heading q
+      by true true = updated_keeps m c arena h fix heading q
       by true false = q
       by false t = q
 
-  pub predict-keeps : (c : Cache) (arena : List ℕ) (h : Header) (m : Matched) (horizon : Float) (samples behind : List ℤ) → Q c arena
+  pub predict_keeps : (c : Cache) (arena : List ℕ) (h : Header) (m : Matched) (horizon : Float) (samples behind : List ℤ) → Q c arena
       → Q (Predict.predict c arena h m horizon samples behind).predicted.cache arena
   unfolding Predict.predict
-  predict-keeps c arena h m horizon samples behind q = by (cacheOk c h (length arena)) (inGrid h m.tile.key)
+  predict_keeps c arena h m horizon samples behind q = by (cache_ok c h (length arena)) (in_grid h m.tile.key)
     where
       by : (s t : Bool)
           → Q (cond s
-          (cond t (Predict.predictedIn c arena h m horizon samples behind) (Predict.untouched (Predict.refused c 9) samples behind))
+          (cond t (Predict.predicted_in c arena h m horizon samples behind) (Predict.untouched (Predict.refused c 9) samples behind))
           (Predict.untouched (Predict.refused c 12) samples behind)).predicted.cache arena
-      by true true = predicted-keeps c arena h m horizon samples behind q
+      by true true = predicted_keeps c arena h m horizon samples behind q
       by true false = q
       by false t = q
 
 module _ (Q : Cache → List ℕ → Type 0)
     (touches : (c : Cache) (arena : List ℕ) (i : ℕ) → Q c arena → Q (touched c i) arena)
     (forgets : (c : Cache) (arena : List ℕ) (key : TileKey) → c.pages.count ≡ 0 → Q c arena → Q (forgot c key) arena)
-    (pends : (c : Cache) (arena : List ℕ) (p : Pending) → pendingFits p c ≡ true → Q c arena → Q (withPending c p) arena)
+    (pends : (c : Cache) (arena : List ℕ) (p : Pending) → pending_fits p c ≡ true → Q c arena → Q (with_pending c p) arena)
   where
-    either-stepped : (t : Bool) (x y : Stepped) (arena : List ℕ) → Q x.engine.shared.cache arena → Q y.engine.shared.cache arena
+    either_stepped : (t : Bool) (x y : Stepped) (arena : List ℕ) → Q x.engine.shared.cache arena → Q y.engine.shared.cache arena
         → Q (cond t x y).engine.shared.cache arena
-    either-stepped true x y arena p q = p
-    either-stepped false x y arena p q = q
+    either_stepped true x y arena p q = p
+    either_stepped false x y arena p q = q
 
     -- ---- a step
 
     module _ (e : Engine) (arena : List ℕ) (q : Q e.shared.cache arena) where
-      match-ended : (f : Follower) (fix : Fix) (u : Updated) (x : MatchOutcome.Outcome) → Q u.cache arena
-          → Q (matchEndedBy x e f fix u).engine.shared.cache arena
-      match-ended f fix u (Match.Found m) p = p
-      match-ended f fix u Match.Nothing p = p
-      match-ended f fix u (Match.Need key) p = p
-      match-ended f fix u (Match.Refused number) p = q
+      match_ended : (f : Follower) (fix : Fix) (u : Updated) (x : MatchOutcome.Outcome) → Q u.cache arena
+          → Q (match_ended_by x e f fix u).engine.shared.cache arena
+      match_ended f fix u (Match.Found m) p = p
+      match_ended f fix u Match.Nothing p = p
+      match_ended f fix u (Match.Need key) p = p
+      match_ended f fix u (Match.Refused number) p = q
 
-      road-ended : (f : Follower) (fix : Fix) (found : Matched) (r : Predict.After) (x : RoadOutcome.Outcome) → Q r.predicted.cache arena
-          → Q (roadEndedBy x e f fix found r).engine.shared.cache arena
-      road-ended f fix found r (Roads.Road y) p = p
-      road-ended f fix found r (Roads.Need key) p = p
-      road-ended f fix found r Roads.Rematch p = p
-      road-ended f fix found r (Roads.Refused number) p = either-stepped (eqb number 10) _ _ arena p q
+      road_ended : (f : Follower) (fix : Fix) (found : Matched) (r : Predict.After) (x : RoadOutcome.Outcome) → Q r.predicted.cache arena
+          → Q (road_ended_by x e f fix found r).engine.shared.cache arena
+      road_ended f fix found r (Roads.Road y) p = p
+      road_ended f fix found r (Roads.Need key) p = p
+      road_ended f fix found r Roads.Rematch p = p
+      road_ended f fix found r (Roads.Refused number) p = either_stepped (eqb number 10) _ _ arena p q
 
-      settled-keeps : (n : Next) (key : TileKey) → nextStep e.shared.cache key ≡ n → Q (settled e.shared.cache n key) arena
-      settled-keeps (Next.Ready i) key r = touches e.shared.cache arena i q
-      settled-keeps Next.NoPages key r = forgets e.shared.cache arena key (rw r at (next-is e.shared.cache key)) q
-      settled-keeps Next.Missing key r = q
-      settled-keeps Next.Entry key r = q
-      settled-keeps (Next.Chunk l) key r = q
+      settled_keeps : (n : Next) (key : TileKey) → next_step e.shared.cache key ≡ n → Q (settled e.shared.cache n key) arena
+      settled_keeps (Next.Ready i) key r = touches e.shared.cache arena i q
+      settled_keeps Next.NoPages key r = forgets e.shared.cache arena key (rw r at (next_is e.shared.cache key)) q
+      settled_keeps Next.Missing key r = q
+      settled_keeps Next.Entry key r = q
+      settled_keeps (Next.Chunk l) key r = q
 
-      steps-keep : {x : Task} {s : Stepped} → Steps e arena x s → Q s.engine.shared.cache arena
+      steps_keep : {x : Task} {s : Stepped} → Steps e arena x s → Q s.engine.shared.cache arena
       unfolding arrived
-      steps-keep (Ways.repeats o) = q
-      steps-keep (Ways.fails failed) = q
-      steps-keep (Ways.opens p offset len o f r) = pends e.shared.cache arena p f q
-      steps-keep (Ways.spoils key i r s p) = q
-      steps-keep (Ways.arrives key n r s f) = settled-keeps n key s
-      steps-keep (Ways.rests f s d idle) = q
-      steps-keep (Ways.leaves f w o) = q
-      steps-keep (Ways.matches f key w k due) = match-ended (counted e.follower) f (match_of e arena f) (match_of e arena f).answer
-          (updated-keeps Q touches _ e.shared.cache arena _ _ _ q)
-      steps-keep (Ways.follows f key found w k c) =
-          road-ended (counted e.follower) f found (roadAt e arena found) (roadAt e arena found).predicted.answer
-          (predicted-keeps Q touches e.shared.cache arena _ found _ _ _ q)
+      steps_keep (Ways.repeats o) = q
+      steps_keep (Ways.fails failed) = q
+      steps_keep (Ways.opens p offset len o f r) = pends e.shared.cache arena p f q
+      steps_keep (Ways.spoils key i r s p) = q
+      steps_keep (Ways.arrives key n r s f) = settled_keeps n key s
+      steps_keep (Ways.rests f s d idle) = q
+      steps_keep (Ways.leaves f w o) = q
+      steps_keep (Ways.matches f key w k due) = match_ended (counted e.follower) f (match_of e arena f) (match_of e arena f).answer
+          (updated_keeps Q touches _ e.shared.cache arena _ _ _ q)
+      steps_keep (Ways.follows f key found w k c) =
+          road_ended (counted e.follower) f found (road_at e arena found) (road_at e arena found).predicted.answer
+          (predicted_keeps Q touches e.shared.cache arena _ found _ _ _ q)
 
       pub step_keeps : Q (Engines.step e arena).engine.shared.cache arena
       unfolding Engines.step
-      step_keeps = by (engineOk e (length arena)) refl
+      step_keeps = by (engine_ok e (length arena)) refl
         where
-          by : (t : Bool) → engineOk e (length arena) ≡ t → Q (cond t (stepped e arena) (States.refused e 12)).engine.shared.cache arena
-          by true ok = steps-keep (step_is e arena ok)
+          by : (t : Bool) → engine_ok e (length arena) ≡ t → Q (cond t (stepped e arena) (States.refused e 12)).engine.shared.cache arena
+          by true ok = steps_keep (step_is e arena ok)
           by false ok = q
 
     -- ---- a delivery: what comes of a part of a tile is the cache's to say
 
     module _ (e : Engine) (arena : List ℕ) (failure : ℕ) (bs : List ℕ) (q : Q e.shared.cache arena)
         (part : (key : TileKey) → Brings e arena key failure bs
-        → numberOfStatus (loaded e (told (brought e arena key failure bs))).answer ≡ numberOfStatus (Engines.deliver e arena failure bs).answer
+        → number_of_status (loaded e (told (brought e arena key failure bs))).answer ≡ number_of_status (Engines.deliver e arena failure bs).answer
         → Q (brought e arena key failure bs).cache (brought e arena key failure bs).arena) where
-      loaded-keeps : {h : Header} {key : TileKey} {r : Loads.After} → Step e.shared.cache arena h key failure bs r → Q r.cache r.arena
+      loaded_keeps : {h : Header} {key : TileKey} {r : Loads.After} → Step e.shared.cache arena h key failure bs r → Q r.cache r.arena
           → Q (loaded e (told r)).engine.shared.cache r.arena
-      unfolding arrived loadFailed
-      loaded-keeps (refuses n s) p = p
-      loaded-keeps (knows r) p = p
-      loaded-keeps (uses i r) p = p
-      loaded-keeps (noPages r) p = p
-      loaded-keeps (fails n) p = either-stepped (ltb e.follower.failures 7) _ _ arena p p
-      loaded-keeps (lacks came s) p = p
-      loaded-keeps (begins came offset len slot r s v) p = p
-      loaded-keeps (goesOn l came b) p = p
-      loaded-keeps (readies l came b r) p = p
-      loaded-keeps (spoils l came b r) p = p
+      unfolding arrived load_failed
+      loaded_keeps (refuses n s) p = p
+      loaded_keeps (knows r) p = p
+      loaded_keeps (uses i r) p = p
+      loaded_keeps (no_pages r) p = p
+      loaded_keeps (fails n) p = either_stepped (ltb e.follower.failures 7) _ _ arena p p
+      loaded_keeps (lacks came s) p = p
+      loaded_keeps (begins came offset len slot r s v) p = p
+      loaded_keeps (goes_on l came b) p = p
+      loaded_keeps (readies l came b r) p = p
+      loaded_keeps (spoils l came b r) p = p
 
-      failed-keeps : (number : ℕ) → Q (headerFailed e number).engine.shared.cache arena
-      unfolding headerFailed
-      failed-keeps number =
-          let none : Q (withPending e.shared.cache Pending.Nothing) arena = pends e.shared.cache arena Pending.Nothing refl q in
-          either-stepped (eqb number 1 && ltb e.follower.failures 7) _ _ arena none none
+      failed_keeps : (number : ℕ) → Q (header_failed e number).engine.shared.cache arena
+      unfolding header_failed
+      failed_keeps number =
+          let none : Q (with_pending e.shared.cache Pending.Nothing) arena = pends e.shared.cache arena Pending.Nothing refl q in
+          either_stepped (eqb number 1 && ltb e.follower.failures 7) _ _ arena none none
 
-      delivers-keep : {r : After} → Delivers e arena failure bs r → numberOfStatus r.answer ≡ numberOfStatus (Engines.deliver e arena failure bs).answer
+      delivers_keep : {r : After} → Delivers e arena failure bs r → number_of_status r.answer ≡ number_of_status (Engines.deliver e arena failure bs).answer
           → Q r.engine.shared.cache r.arena
-      delivers-keep Ways.refuses same = q
-      delivers-keep (Ways.loses number o s) same = failed-keeps number
-      delivers-keep (Ways.parses o z s a) same = pends e.shared.cache arena Pending.Nothing refl q
-      delivers-keep (Ways.brings key b) same =
-          loaded-keeps (load_is e.shared.cache arena e.shared.header key failure bs) (part key b same)
+      delivers_keep Ways.refuses same = q
+      delivers_keep (Ways.loses number o s) same = failed_keeps number
+      delivers_keep (Ways.parses o z s a) same = pends e.shared.cache arena Pending.Nothing refl q
+      delivers_keep (Ways.brings key b) same =
+          loaded_keeps (load_is e.shared.cache arena e.shared.header key failure bs) (part key b same)
 
-      pub deliver-keeps : Q (Engines.deliver e arena failure bs).engine.shared.cache (Engines.deliver e arena failure bs).arena
+      pub deliver_keeps : Q (Engines.deliver e arena failure bs).engine.shared.cache (Engines.deliver e arena failure bs).arena
       unfolding Engines.deliver
-      deliver-keeps = by (engineOk e (length arena)) refl
+      deliver_keeps = by (engine_ok e (length arena)) refl
         where
           left : Bool → After
           left t = cond t (Delivered.delivered e arena failure bs) (Delivered.over (States.refused e 12) arena)
 
-          by : (t : Bool) → engineOk e (length arena) ≡ t → Q (left t).engine.shared.cache (left t).arena
-          by true ok = delivers-keep (deliver-is e arena ok failure bs) (rw ok)
+          by : (t : Bool) → engine_ok e (length arena) ≡ t → Q (left t).engine.shared.cache (left t).arena
+          by true ok = delivers_keep (deliver_is e arena ok failure bs) (rw ok)
           by false ok = q

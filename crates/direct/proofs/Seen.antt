@@ -36,48 +36,48 @@ use Rattle.predict.specs.Predict as Predict
 use Rattle.predict.specs.Relied as RoadRelied
 use Rattle.predict.specs.declared.Outcome as RoadOutcome
 use Rattle.predict.specs.declared.Outcome.TheVariants as Roads
-use Rattle.predict.proofs.RoadLaws.{predict-agrees}
+use Rattle.predict.proofs.RoadLaws.{predict_agrees}
 use Rattle.predict.specs.declared.End.TheVariants as End
 use Rattle.engine.specs.Fixes.{place_of}
-use Rattle.engine.specs.Publish.{withMatch, withoutMatch}
-use Rattle.engine.specs.Follow.{isMatched}
+use Rattle.engine.specs.Publish.{with_match, without_match}
+use Rattle.engine.specs.Follow.{is_matched}
 use Rattle.engine.specs.declared.Ahead.{Ahead}
 use Rattle.engine.specs.declared.Fix.{Fix}
 use Rattle.engine.specs.declared.MaybeFix.{MaybeFix}
 use Rattle.engine.specs.declared.MaybeFix.TheVariants as MaybeFix
 use Rattle.engine.specs.State as States
 use Rattle.engine.specs.Work as Work
-use Rattle.engine.specs.Work.{counted, matchEndedBy, roadEndedBy, published}
+use Rattle.engine.specs.Work.{counted, match_ended_by, road_ended_by, published}
 use Rattle.engine.specs.Deliver.{arrived}
 use Rattle.engine.specs.declared.Engine.{Engine}
 use Rattle.engine.specs.declared.Status.TheVariants as Status
 use Rattle.engine.specs.declared.Stepped.{Stepped}
-use Rattle.direct.specs.Finished.{Shown, nothing, isMatch, isRoad, roadOf, Task, match_of, roadAt, matchShown, roadShown, taskShown}
+use Rattle.direct.specs.Finished.{Shown, nothing, is_match, is_road, road_of, Task, match_of, road_at, match_shown, road_shown, task_shown}
 use Rattle.direct.specs.Finished as Shows
-use Rattle.direct.specs.Direct.{Made, Told, Lookup, headerOf, Held, withMatcher, Worked, idle, matchWorked, roadWorked, emptyWorked, currentWorked, keyWorked, fixWorked, stepWorkedBy, stepWorked, matchHeld, roadHeld}
+use Rattle.direct.specs.Direct.{Made, Told, Lookup, header_of, Held, with_matcher, Worked, idle, match_worked, road_worked, empty_worked, current_worked, key_worked, fix_worked, step_worked_by, step_worked, match_held, road_held}
 use Rattle.direct.specs.Claims.{made_of}
 use Rattle.engine_states.proofs.Ways as Ways
 use Rattle.engine_states.proofs.Ways.{OffGrid, Works, Steps}
-use Rattle.direct.proofs.Beside.{match-asks, road-asks, match-holds}
+use Rattle.direct.proofs.Beside.{match_asks_lem, road_asks_lem, match_holds}
 
 -- what is told of a call that shows s
-abbrev pub toldBy : Bool → Bool → Shown → Told
-toldBy refused fetching s = record { refused = refused; fetching = fetching; match = isMatch s; road = isRoad s }
+abbrev pub told_by : Bool → Bool → Shown → Told
+told_by refused fetching s = record { refused = refused; fetching = fetching; match = is_match s; road = is_road s }
 
 -- a match that was made is the matcher's current one
-pub made-current : (e : Engine) (arena : List ℕ) (f : Fix) (x : MatchOutcome.Outcome) → (match_of e arena f).answer ≡ x → MatchRelied.isFinished x ≡ true
+pub made_current : (e : Engine) (arena : List ℕ) (f : Fix) (x : MatchOutcome.Outcome) → (match_of e arena f).answer ≡ x → MatchRelied.is_finished x ≡ true
     → Gather.outcome (match_of e arena f).matcher.current ≡ x
-unfolding Gather.updated Gather.updateOver
-made-current e arena f =
-    let r = Gather.runOver (look e.shared.cache arena e.shared.header.tile) e.follower.matcher e.shared.header (place_of f)
+unfolding Gather.updated Gather.update_over
+made_current e arena f =
+    let r = Gather.run_over (look e.shared.cache arena e.shared.header.tile) e.follower.matcher e.shared.header (place_of f)
     e.follower.sight.heading in
     by r.end r.kept e.follower.matcher e.follower.sight.heading
   where
-    by : (end : Ending) (k : Kept) (m : Matcher) (heading : Heading) (x : MatchOutcome.Outcome) → (Gather.matchingBy end k m heading).answer ≡ x
-        → MatchRelied.isFinished x ≡ true → Gather.outcome (Gather.matchingBy end k m heading).matcher.current ≡ x
+    by : (end : Ending) (k : Kept) (m : Matcher) (heading : Heading) (x : MatchOutcome.Outcome) → (Gather.matching_by end k m heading).answer ≡ x
+        → MatchRelied.is_finished x ≡ true → Gather.outcome (Gather.matching_by end k m heading).matcher.current ≡ x
     by Ending.All k m heading x q fin = q
-    by (Ending.Need key) k m heading x q fin = absurd (true≢false (sym fin ∙ ap MatchRelied.isFinished (sym q)))
-    by Ending.Stale k m heading x q fin = absurd (true≢false (sym fin ∙ ap MatchRelied.isFinished (sym q)))
+    by (Ending.Need key) k m heading x q fin = absurd (true≢false (sym fin ∙ ap MatchRelied.is_finished (sym q)))
+    by Ending.Stale k m heading x q fin = absurd (true≢false (sym fin ∙ ap MatchRelied.is_finished (sym q)))
 
 module _ (at : Lookup) (n : ℕ) (horizon : Float) (P : List ℕ) where
   abbrev made : Made
@@ -85,21 +85,21 @@ module _ (at : Lookup) (n : ℕ) (horizon : Float) (P : List ℕ) where
 
   -- ---- the direct engine's step, by what it is told
 
-  pub idle-worked : (t : Told) (d : Held) → t.match ≡ false → t.road ≡ false → stepWorked at made P t d ≡ idle d
-  unfolding stepWorked
-  idle-worked t d m r = by d.sight.fix
+  pub idle_worked : (t : Told) (d : Held) → t.match ≡ false → t.road ≡ false → step_worked at made P t d ≡ idle d
+  unfolding step_worked
+  idle_worked t d m r = by d.sight.fix
     where
-      by : (x : MaybeFix) → stepWorkedBy at made P x t d ≡ idle d
+      by : (x : MaybeFix) → step_worked_by at made P x t d ≡ idle d
       by MaybeFix.Nothing = refl
       by (MaybeFix.Is f) = rw (m, r)
 
-  at-fix : (t : Told) (d : Held) (f : Fix) → d.sight.fix ≡ MaybeFix.Is f → stepWorked at made P t d ≡ fixWorked at made P t d f
-  unfolding stepWorked
-  at-fix t d f e = ap (λ (x : MaybeFix). stepWorkedBy at made P x t d) e
+  at_fix : (t : Told) (d : Held) (f : Fix) → d.sight.fix ≡ MaybeFix.Is f → step_worked at made P t d ≡ fix_worked at made P t d f
+  unfolding step_worked
+  at_fix t d f e = ap (λ (x : MaybeFix). step_worked_by at made P x t d) e
 
   -- ---- an engine that has the pack's header, and what a look at its cache settles is what `at` gives
 
-  module _ (e : Engine) (arena : List ℕ) (header : e.shared.header ≡ headerOf P) (reach : e.follower.horizon_m ≡ min horizon (whole 10000))
+  module _ (e : Engine) (arena : List ℕ) (header : e.shared.header ≡ header_of P) (reach : e.follower.horizon_m ≡ min horizon (whole 10000))
       (count : e.shared.cache.pages.count ≡ n) (agree : Agree (look e.shared.cache arena e.shared.header.tile) (at P))
       (last : Current) (refused fetching : Bool) where
     -- what the direct engine holds where nothing waits
@@ -108,73 +108,73 @@ module _ (at : Lookup) (n : ℕ) (horizon : Float) (P : List ℕ) where
 
     -- a step that shows s and leaves the matcher m
     pub record Agrees (s : Shown) (m : Matcher) : Type 0 where
-      pub shown : (stepWorked at made P (toldBy refused fetching s) held).shown ≡ s
-      pub matcher : (stepWorked at made P (toldBy refused fetching s) held).held.matcher ≡ m
-      pub sight : (stepWorked at made P (toldBy refused fetching s) held).held.sight ≡ e.follower.sight
+      pub shown : (step_worked at made P (told_by refused fetching s) held).shown ≡ s
+      pub matcher : (step_worked at made P (told_by refused fetching s) held).held.matcher ≡ m
+      pub sight : (step_worked at made P (told_by refused fetching s) held).held.sight ≡ e.follower.sight
 
-    agrees-by : {s : Shown} {m : Matcher} (x : Worked) → stepWorked at made P (toldBy refused fetching s) held ≡ x → x.shown ≡ s → x.held.matcher ≡ m
+    agrees_by : {s : Shown} {m : Matcher} (x : Worked) → step_worked at made P (told_by refused fetching s) held ≡ x → x.shown ≡ s → x.held.matcher ≡ m
         → x.held.sight ≡ e.follower.sight → Agrees s m
-    agrees-by x q a b c = record {
+    agrees_by x q a b c = record {
       shown = ap (λ (y : Worked). y.shown) q ∙ a;
       matcher = ap (λ (y : Worked). y.held.matcher) q ∙ b;
       sight = ap (λ (y : Worked). y.held.sight) q ∙ c;
     }
 
-    nothing-agrees : {m : Matcher} → e.follower.matcher ≡ m → Agrees nothing m
-    nothing-agrees q = agrees-by (idle held) (idle-worked (toldBy refused fetching nothing) held refl refl) refl q refl
+    nothing_agrees : {m : Matcher} → e.follower.matcher ≡ m → Agrees nothing m
+    nothing_agrees q = agrees_by (idle held) (idle_worked (told_by refused fetching nothing) held refl refl) refl q refl
 
     -- ---- off the map
 
-    off-grid : (f : Fix) (t : Told) → Works e f → OffGrid (key_of e.shared.header f.lat f.lon) → t.match ≡ false → t.road ≡ true
-        → stepWorked at made P t held ≡ emptyWorked held f
-    off-grid f t w o m r =
-        at-fix t held f w.fix ∙ rw (m, r) (by (key_of (headerOf P) f.lat f.lon) (rw header at o))
+    off_grid : (f : Fix) (t : Told) → Works e f → OffGrid (key_of e.shared.header f.lat f.lon) → t.match ≡ false → t.road ≡ true
+        → step_worked at made P t held ≡ empty_worked held f
+    off_grid f t w o m r =
+        at_fix t held f w.fix ∙ rw (m, r) (by (key_of (header_of P) f.lat f.lon) (rw header at o))
       where
-        by : (x : Keyed) → OffGrid x → keyWorked at made P x held f ≡ emptyWorked held f
+        by : (x : Keyed) → OffGrid x → key_worked at made P x held f ≡ empty_worked held f
         by (Keyed.In key) o = absurd o
         by Keyed.Outside o = refl
         by (Keyed.Refused number) o = refl
 
-    leaves-agrees : (f : Fix) → Works e f → OffGrid (key_of e.shared.header f.lat f.lon)
-        → Agrees (taskShown (Shows.offMap f) e arena (record { shared = e.shared; follower = Work.offMap (counted e.follower) f }))
-        (Work.offMap (counted e.follower) f).matcher
-    unfolding Work.offMap withoutMatch
-    leaves-agrees f w o = by (isMatched e.follower.ahead.matched)
+    leaves_agrees : (f : Fix) → Works e f → OffGrid (key_of e.shared.header f.lat f.lon)
+        → Agrees (task_shown (Shows.off_map f) e arena (record { shared = e.shared; follower = Work.off_map (counted e.follower) f }))
+        (Work.off_map (counted e.follower) f).matcher
+    unfolding Work.off_map without_match
+    leaves_agrees f w o = by (is_matched e.follower.ahead.matched)
       where
         left : Bool → Ahead
-        left t = cond t (withoutMatch e.follower.ahead f.at_ms End.MapEdge) e.follower.ahead
+        left t = cond t (without_match e.follower.ahead f.at_ms End.MapEdge) e.follower.ahead
 
         cleared : Bool → Matcher
         cleared t = cond t Matching.reset e.follower.matcher
 
-        by : (t : Bool) → Agrees (cond t (Shows.emptied (cleared t) (roadOf (left t))) nothing) (cleared t)
-        by true = agrees-by (emptyWorked held f) (off-grid f _ w o refl refl) refl refl refl
-        by false = nothing-agrees refl
+        by : (t : Bool) → Agrees (cond t (Shows.emptied (cleared t) (road_of (left t))) nothing) (cleared t)
+        by true = agrees_by (empty_worked held f) (off_grid f _ w o refl refl) refl refl refl
+        by false = nothing_agrees refl
 
     -- ---- a match
 
-    abbrev matchAt : Fix → Gather.Matching
-    matchAt f =
-        Gather.updateOver (look e.shared.cache arena e.shared.header.tile) e.follower.matcher e.shared.header (place_of f)
+    abbrev match_at : Fix → Gather.Matching
+    match_at f =
+        Gather.update_over (look e.shared.cache arena e.shared.header.tile) e.follower.matcher e.shared.header (place_of f)
         e.follower.sight.heading
 
-    match_is : (f : Fix) → MatchRelied.isFinished (matchAt f).answer ≡ true → matchHeld at made P held f ≡ matchAt f
+    match_is : (f : Fix) → MatchRelied.is_finished (match_at f).answer ≡ true → match_held at made P held f ≡ match_at f
     match_is f fin =
-        ap (λ (h : Header). Gather.updateOver (at P) e.follower.matcher h (place_of f) e.follower.sight.heading) (sym header)
+        ap (λ (h : Header). Gather.update_over (at P) e.follower.matcher h (place_of f) e.follower.sight.heading) (sym header)
         ∙ update_agrees (look e.shared.cache arena e.shared.header.tile) (at P) agree e.follower.matcher e.shared.header (place_of f)
         e.follower.sight.heading fin
 
-    match-worked : (f : Fix) (t : Told) (x : MatchOutcome.Outcome) → Works e f → (matchAt f).answer ≡ x → MatchRelied.isFinished x ≡ true → t.match ≡ true
-        → stepWorked at made P t held ≡ matchWorked x t.road held f (matchAt f).matcher
-    match-worked f t x w a fin m =
-        at-fix t held f w.fix
-        ∙ (rw m (ap (λ (y : Gather.Matching). matchWorked y.answer t.road held f y.matcher) (match_is f (rw a fin))))
-        ∙ ap (λ (y : MatchOutcome.Outcome). matchWorked y t.road held f (matchAt f).matcher) a
+    match_worked_lem : (f : Fix) (t : Told) (x : MatchOutcome.Outcome) → Works e f → (match_at f).answer ≡ x → MatchRelied.is_finished x ≡ true → t.match ≡ true
+        → step_worked at made P t held ≡ match_worked x t.road held f (match_at f).matcher
+    match_worked_lem f t x w a fin m =
+        at_fix t held f w.fix
+        ∙ (rw m (ap (λ (y : Gather.Matching). match_worked y.answer t.road held f y.matcher) (match_is f (rw a fin))))
+        ∙ ap (λ (y : MatchOutcome.Outcome). match_worked y t.road held f (match_at f).matcher) a
 
     -- finding none leaves no match
-    none-current : (f : Fix) → (matchAt f).answer ≡ Match.Nothing → (matchAt f).matcher.current ≡ Current.Nothing
+    none_current : (f : Fix) → (match_at f).answer ≡ Match.Nothing → (match_at f).matcher.current ≡ Current.Nothing
     unfolding Gather.updated
-    none-current f a = by (matchAt f).matcher.current (made-current e arena f Match.Nothing a refl)
+    none_current f a = by (match_at f).matcher.current (made_current e arena f Match.Nothing a refl)
       where
         by : (x : Current) → Gather.outcome x ≡ Match.Nothing → x ≡ Current.Nothing
         by Current.Nothing q = refl
@@ -182,91 +182,91 @@ module _ (at : Lookup) (n : ℕ) (horizon : Float) (P : List ℕ) where
 
     -- what is published of it
     abbrev emptied : Fix → Bool → Ahead
-    emptied f t = cond t (withoutMatch e.follower.ahead f.at_ms End.Uncertain) e.follower.ahead
+    emptied f t = cond t (without_match e.follower.ahead f.at_ms End.Uncertain) e.follower.ahead
 
-    none_ahead : (f : Fix) → (matchAt f).matcher.current ≡ Current.Nothing
-        → (Work.matched (counted e.follower) (matchAt f).matcher f).ahead ≡ emptied f (isMatched e.follower.ahead.matched)
+    none_ahead : (f : Fix) → (match_at f).matcher.current ≡ Current.Nothing
+        → (Work.matched (counted e.follower) (match_at f).matcher f).ahead ≡ emptied f (is_matched e.follower.ahead.matched)
     unfolding Work.matched
-    none_ahead f q = ap (λ (x : Current). (Work.matchedBy x (counted e.follower) (matchAt f).matcher f).ahead) q
+    none_ahead f q = ap (λ (x : Current). (Work.matched_by x (counted e.follower) (match_at f).matcher f).ahead) q
 
-    none-agrees : (f : Fix) → Works e f → (matchAt f).answer ≡ Match.Nothing → (t : Bool)
-        → Agrees (cond t (Shows.unmatched (matchAt f).matcher (roadOf (emptied f t))) (Shows.matched (matchAt f).matcher)) (matchAt f).matcher
-    unfolding withoutMatch
-    none-agrees f w a true =
-        let t : Told = toldBy refused fetching (Shows.unmatched (matchAt f).matcher (roadOf (emptied f true))) in
-        agrees-by _ (match-worked f t Match.Nothing w a refl refl) refl refl refl
-    none-agrees f w a false =
-        agrees-by _ (match-worked f (toldBy refused fetching (Shows.matched (matchAt f).matcher)) Match.Nothing w a refl refl) refl refl refl
+    none_agrees : (f : Fix) → Works e f → (match_at f).answer ≡ Match.Nothing → (t : Bool)
+        → Agrees (cond t (Shows.unmatched (match_at f).matcher (road_of (emptied f t))) (Shows.matched (match_at f).matcher)) (match_at f).matcher
+    unfolding without_match
+    none_agrees f w a true =
+        let t : Told = told_by refused fetching (Shows.unmatched (match_at f).matcher (road_of (emptied f true))) in
+        agrees_by _ (match_worked_lem f t Match.Nothing w a refl refl) refl refl refl
+    none_agrees f w a false =
+        agrees_by _ (match_worked_lem f (told_by refused fetching (Shows.matched (match_at f).matcher)) Match.Nothing w a refl refl) refl refl refl
 
-    matches-by : (f : Fix) (x : MatchOutcome.Outcome) → Works e f → (matchAt f).answer ≡ x
-        → let s = matchEndedBy x e (counted e.follower) f (match_of e arena f) in Agrees (matchShown x e s.engine) s.engine.follower.matcher
+    matches_by : (f : Fix) (x : MatchOutcome.Outcome) → Works e f → (match_at f).answer ≡ x
+        → let s = match_ended_by x e (counted e.follower) f (match_of e arena f) in Agrees (match_shown x e s.engine) s.engine.follower.matcher
     unfolding Gather.updated
-    matches-by f (Match.Found m) w a =
-        let h = match-holds (counted e.follower) (matchAt f).matcher f in
-        rw h.matcher (agrees-by _ (match-worked f _ (Match.Found m) w a refl refl) refl refl refl)
-    matches-by f Match.Nothing w a =
-        rw ((match-holds (counted e.follower) (matchAt f).matcher f).matcher, none_ahead f (none-current f a))
-        (none-agrees f w a (isMatched e.follower.ahead.matched))
-    matches-by f (Match.Need key) w a = nothing-agrees (sym (match-asks (counted e.follower) _ key).matcher)
-    matches-by f (Match.Refused number) w a = nothing-agrees refl
+    matches_by f (Match.Found m) w a =
+        let h = match_holds (counted e.follower) (match_at f).matcher f in
+        rw h.matcher (agrees_by _ (match_worked_lem f _ (Match.Found m) w a refl refl) refl refl refl)
+    matches_by f Match.Nothing w a =
+        rw ((match_holds (counted e.follower) (match_at f).matcher f).matcher, none_ahead f (none_current f a))
+        (none_agrees f w a (is_matched e.follower.ahead.matched))
+    matches_by f (Match.Need key) w a = nothing_agrees (sym (match_asks_lem (counted e.follower) _ key).matcher)
+    matches_by f (Match.Refused number) w a = nothing_agrees refl
 
     -- ---- a road
 
-    abbrev roadOver : Matched → Predict.Forecast (List TileKey)
-    roadOver found =
-        Predict.predictOver (look e.shared.cache arena e.shared.header.tile) e.shared.cache.pages.count e.shared.header found
+    abbrev road_over : Matched → Predict.Forecast (List TileKey)
+    road_over found =
+        Predict.predict_over (look e.shared.cache arena e.shared.header.tile) e.shared.cache.pages.count e.shared.header found
         e.follower.horizon_m
         (replicate 501 (pos 0)) (replicate 11 (pos 0))
 
-    road-is : (found : Matched) → RoadRelied.isFinished (roadOver found).answer ≡ true → roadHeld at made P found ≡ roadOver found
-    road-is found fin =
+    road_is : (found : Matched) → RoadRelied.is_finished (road_over found).answer ≡ true → road_held at made P found ≡ road_over found
+    road_is found fin =
         rw (← header, ← reach, ← count)
-        (predict-agrees (look e.shared.cache arena e.shared.header.tile) (at P) agree e.shared.cache.pages.count e.shared.header found
+        (predict_agrees (look e.shared.cache arena e.shared.header.tile) (at P) agree e.shared.cache.pages.count e.shared.header found
         e.follower.horizon_m (replicate 501 (pos 0)) (replicate 11 (pos 0)) fin)
 
-    road-worked : (f : Fix) (key : TileKey) (found : Matched) (t : Told) (x : RoadOutcome.Outcome) → Works e f
+    road_worked_lem : (f : Fix) (key : TileKey) (found : Matched) (t : Told) (x : RoadOutcome.Outcome) → Works e f
         → key_of e.shared.header f.lat f.lon ≡ Keyed.In key
-        → e.follower.matcher.current ≡ Current.Is found → (roadOver found).answer ≡ x → RoadRelied.isFinished x ≡ true → t.match ≡ false → t.road ≡ true
-        → stepWorked at made P t held ≡ roadWorked x held f found (roadOver found).samples (roadOver found).behind
-    road-worked f key found t x w k c a fin m r =
-        at-fix t held f w.fix
-        ∙ rw (m, r) (ap (λ (y : Keyed). keyWorked at made P y held f) (ap (λ (h : Header). key_of h f.lat f.lon) (sym header) ∙ k))
-        ∙ ap (λ (y : Current). currentWorked at made P y held f) c
-        ∙ ap (λ (y : Predict.Forecast (List TileKey)). roadWorked y.answer held f found y.samples y.behind) (road-is found (rw a fin))
-        ∙ ap (λ (y : RoadOutcome.Outcome). roadWorked y held f found (roadOver found).samples (roadOver found).behind) a
+        → e.follower.matcher.current ≡ Current.Is found → (road_over found).answer ≡ x → RoadRelied.is_finished x ≡ true → t.match ≡ false → t.road ≡ true
+        → step_worked at made P t held ≡ road_worked x held f found (road_over found).samples (road_over found).behind
+    road_worked_lem f key found t x w k c a fin m r =
+        at_fix t held f w.fix
+        ∙ rw (m, r) (ap (λ (y : Keyed). key_worked at made P y held f) (ap (λ (h : Header). key_of h f.lat f.lon) (sym header) ∙ k))
+        ∙ ap (λ (y : Current). current_worked at made P y held f) c
+        ∙ ap (λ (y : Predict.Forecast (List TileKey)). road_worked y.answer held f found y.samples y.behind) (road_is found (rw a fin))
+        ∙ ap (λ (y : RoadOutcome.Outcome). road_worked y held f found (road_over found).samples (road_over found).behind) a
 
     -- 10 clears the matcher; any other number is the late 12
-    refused-agrees : (f : Fix) (key : TileKey) (found : Matched) (number : ℕ) → Works e f → key_of e.shared.header f.lat f.lon ≡ Keyed.In key
-        → e.follower.matcher.current ≡ Current.Is found → (roadOver found).answer ≡ Roads.Refused number → (t : Bool) → eqb number 10 ≡ t
-        → let s : Stepped = cond t (Work.ended e (roadAt e arena found).predicted.cache (Work.rematch (counted e.follower)) Status.Working)
+    refused_agrees : (f : Fix) (key : TileKey) (found : Matched) (number : ℕ) → Works e f → key_of e.shared.header f.lat f.lon ≡ Keyed.In key
+        → e.follower.matcher.current ≡ Current.Is found → (road_over found).answer ≡ Roads.Refused number → (t : Bool) → eqb number 10 ≡ t
+        → let s : Stepped = cond t (Work.ended e (road_at e arena found).predicted.cache (Work.rematch (counted e.follower)) Status.Working)
         (States.refused e number) in
         Agrees (cond t (Shows.again 10 s.engine.follower.matcher) nothing) s.engine.follower.matcher
-    refused-agrees f key found number w k c a true q =
+    refused_agrees f key found number w k c a true q =
         let ten : number ≡ 10 = eqb-true number 10 q in
-        let t : Told = toldBy refused fetching (Shows.again 10 Matching.reset) in
-        agrees-by (record { held = withMatcher held Matching.reset; shown = Shows.again 10 Matching.reset })
-        (road-worked f key found t (Roads.Refused number) w k c a (rw ten) refl refl ∙ rw q) refl refl refl
-    refused-agrees f key found number w k c a false q = nothing-agrees refl
+        let t : Told = told_by refused fetching (Shows.again 10 Matching.reset) in
+        agrees_by (record { held = with_matcher held Matching.reset; shown = Shows.again 10 Matching.reset })
+        (road_worked_lem f key found t (Roads.Refused number) w k c a (rw ten) refl refl ∙ rw q) refl refl refl
+    refused_agrees f key found number w k c a false q = nothing_agrees refl
 
     follows_by : (f : Fix) (key : TileKey) (found : Matched) (x : RoadOutcome.Outcome) → Works e f → key_of e.shared.header f.lat f.lon ≡ Keyed.In key
-        → e.follower.matcher.current ≡ Current.Is found → (roadOver found).answer ≡ x
-        → let s = roadEndedBy x e (counted e.follower) f found (roadAt e arena found) in Agrees (roadShown x s.engine) s.engine.follower.matcher
-    unfolding Predict.predictedIn published withMatch
-    follows_by f key found (Roads.Road p) w k c a = agrees-by _ (road-worked f key found _ (Roads.Road p) w k c a refl refl refl) refl refl refl
-    follows_by f key found (Roads.Need other) w k c a = nothing-agrees (sym (road-asks (counted e.follower) _ f found other).matcher)
-    follows_by f key found Roads.Rematch w k c a = agrees-by _ (road-worked f key found _ Roads.Rematch w k c a refl refl refl) refl refl refl
-    follows_by f key found (Roads.Refused number) w k c a = refused-agrees f key found number w k c a (eqb number 10) refl
+        → e.follower.matcher.current ≡ Current.Is found → (road_over found).answer ≡ x
+        → let s = road_ended_by x e (counted e.follower) f found (road_at e arena found) in Agrees (road_shown x s.engine) s.engine.follower.matcher
+    unfolding Predict.predicted_in published with_match
+    follows_by f key found (Roads.Road p) w k c a = agrees_by _ (road_worked_lem f key found _ (Roads.Road p) w k c a refl refl refl) refl refl refl
+    follows_by f key found (Roads.Need other) w k c a = nothing_agrees (sym (road_asks_lem (counted e.follower) _ f found other).matcher)
+    follows_by f key found Roads.Rematch w k c a = agrees_by _ (road_worked_lem f key found _ Roads.Rematch w k c a refl refl refl) refl refl refl
+    follows_by f key found (Roads.Refused number) w k c a = refused_agrees f key found number w k c a (eqb number 10) refl
 
     -- ---- a step
 
-    pub steps-agree : {x : Task} {s : Stepped} → Steps e arena x s → Agrees (taskShown x e arena s.engine) s.engine.follower.matcher
-    unfolding arrived Gather.updated Predict.predictedIn
-    steps-agree (Ways.repeats o) = nothing-agrees refl
-    steps-agree (Ways.fails failed) = nothing-agrees refl
-    steps-agree (Ways.opens p offset len o f r) = nothing-agrees refl
-    steps-agree (Ways.spoils key i r s p) = nothing-agrees refl
-    steps-agree (Ways.arrives key n r s f) = nothing-agrees refl
-    steps-agree (Ways.rests f s d idle) = nothing-agrees (sym s.matcher)
-    steps-agree (Ways.leaves f w o) = leaves-agrees f w o
-    steps-agree (Ways.matches f key w k due) = matches-by f (matchAt f).answer w refl
-    steps-agree (Ways.follows f key found w k c) = follows_by f key found (roadOver found).answer w k c refl
+    pub steps_agree : {x : Task} {s : Stepped} → Steps e arena x s → Agrees (task_shown x e arena s.engine) s.engine.follower.matcher
+    unfolding arrived Gather.updated Predict.predicted_in
+    steps_agree (Ways.repeats o) = nothing_agrees refl
+    steps_agree (Ways.fails failed) = nothing_agrees refl
+    steps_agree (Ways.opens p offset len o f r) = nothing_agrees refl
+    steps_agree (Ways.spoils key i r s p) = nothing_agrees refl
+    steps_agree (Ways.arrives key n r s f) = nothing_agrees refl
+    steps_agree (Ways.rests f s d idle) = nothing_agrees (sym s.matcher)
+    steps_agree (Ways.leaves f w o) = leaves_agrees f w o
+    steps_agree (Ways.matches f key w k due) = matches_by f (match_at f).answer w refl
+    steps_agree (Ways.follows f key found w k c) = follows_by f key found (road_over found).answer w k c refl

@@ -1,4 +1,4 @@
--- A road from a start that lies within the tile looked up for it ends neither with 6 nor with 10 (`road-started`). The idea: the tile's id is the
+-- A road from a start that lies within the tile looked up for it ends neither with 6 nor with 10 (`road_started`). The idea: the tile's id is the
 -- start's own, and what number 10 asks of a start is what a match within its tile has; beyond these two tests a road is one, or Need or 12.
 use Prim.Native.Nat.{ℕ}
 use mathlib.Core.Path.{◌≡◌, refl, subst}
@@ -15,28 +15,28 @@ use Rattle.tile.specs.declared.TileId.{TileId}
 use Rattle.geo.specs.Flat.{whole}
 use Rattle.cache.specs.Direct.{Look, ready, missing, absent, stale}
 use Rattle.cache.specs.Reader.{plain}
-use Rattle.matcher.specs.Score.{sameId}
+use Rattle.matcher.specs.Score.{same_id}
 use Rattle.matcher.specs.Within.{Within}
 use Rattle.matcher.specs.declared.Forward.{Forward}
 use Rattle.matcher.specs.declared.Forward.TheVariants as Forward
 use Rattle.matcher.specs.declared.Matched.{Matched}
 use Rattle.predict.specs.Samples.{pushed}
-use Rattle.predict.specs.Start.{startOk, place}
+use Rattle.predict.specs.Start.{start_ok, place}
 use Rattle.predict.specs.declared.Trip.{Trip}
 use Rattle.predict.specs.declared.ridden.Behind.{Behind}
 use Rattle.predict.specs.Meets.{budget}
 use Rattle.predict.specs.declared.Ending.{Ending}
 use Rattle.predict.specs.declared.Ending.TheVariants as Ending
-use Rattle.predict.specs.Walk.{Run, walkOver}
+use Rattle.predict.specs.Walk.{Run, walk_over}
 use Rattle.predict.specs.declared.Track.{Track}
 use Rattle.predict.specs.declared.Walk.{Walk}
-use Rattle.predict.specs.Predict.{legOf, noMark, trackFrom, walkFrom, outcomeBy, roadOver, tileOver, tripOf, startLook, directedOver, forecastOver, predictOver}
+use Rattle.predict.specs.Predict.{leg_of, no_mark, track_from, walk_from, outcome_by, road_over, tile_over, trip_of, start_look, directed_over, forecast_over, predict_over}
 use Rattle.predict.specs.declared.Outcome.{Outcome}
 use Rattle.predict.specs.declared.Outcome.TheVariants as Outcome
 
 -- ---- the two tests of a start
 
-same_self : (id : TileId) → sameId id id ≡ true
+same_self : (id : TileId) → same_id id id ≡ true
 same_self id =
     rw (
       eq-eqb id.key.row id.key.row refl,
@@ -46,19 +46,19 @@ same_self id =
     )
 
 module _ (bs : List ℕ) (m : Matched) (within : Within bs m) where
-  pub within_same : sameId (Layout.id_of bs) m.tile ≡ true
+  pub within_same : same_id (Layout.id_of bs) m.tile ≡ true
   within_same = rw within.tile (same_self (Layout.id_of bs))
 
-  pub within-ok : startOk bs m ≡ true
-  unfolding startOk
-  within-ok =
+  pub within_ok : start_ok bs m ≡ true
+  unfolding start_ok
+  within_ok =
       rw (
-        lt-ltb m.edge (Layout.edgesOf bs) within.edge,
+        lt-ltb m.edge (Layout.edges_of bs) within.edge,
         le-leb m.segment (Layout.edge_of bs m.edge).vertices within.segment,
         within.at_least,
         within.at_most,
-        within.notBelow,
-        within.notAbove,
+        within.not_below,
+        within.not_above,
       )
 
 -- ---- the road
@@ -70,44 +70,44 @@ Started (Outcome.Need key) = Unit
 Started Outcome.Rematch = ⊥
 Started (Outcome.Refused number) = number ≡ 10 → ⊥
 
-outcome-started : (ending : Ending) (w : Walk) (t : Track) (b : Behind) → Started (outcomeBy ending w t b)
-outcome-started Ending.Going w t b = tt
-outcome-started (Ending.Stops end) w t b = tt
-outcome-started (Ending.Need key) w t b = tt
-outcome-started Ending.Stale w t b = λ e. omega (arith, e)
+outcome_started : (ending : Ending) (w : Walk) (t : Track) (b : Behind) → Started (outcome_by ending w t b)
+outcome_started Ending.Going w t b = tt
+outcome_started (Ending.Stops end) w t b = tt
+outcome_started (Ending.Need key) w t b = tt
+outcome_started Ending.Stale w t b = λ e. omega (arith, e)
 
 module _ (at : TileKey → Look) (n : ℕ) (h : Header) (m : Matched) (horizon : Float) (samples behind : List ℤ)
     (bs : List ℕ) (within : Within bs m) where
-  walked-started : (trip : Trip) (forward : Bool) (keys : List TileKey) → Started (roadOver (plain at) n trip m forward keys bs samples behind).answer
-  unfolding roadOver
-  walked-started trip forward keys =
+  walked_started : (trip : Trip) (forward : Bool) (keys : List TileKey) → Started (road_over (plain at) n trip m forward keys bs samples behind).answer
+  unfolding road_over
+  walked_started trip forward keys =
       let e = Layout.edge_of bs m.edge in
-      let first = pushed noMark samples (whole 0) (pos 0) in
-      let t : Track = trackFrom (place trip.header bs e m) first.mark in
-      let r : Run (List TileKey) = walkOver (plain at) trip (budget n) (walkFrom m (legOf trip.header m e forward)) t keys first.heights in
-      outcome-started r.walk.ending r.walk r.track _
+      let first = pushed no_mark samples (whole 0) (pos 0) in
+      let t : Track = track_from (place trip.header bs e m) first.mark in
+      let r : Run (List TileKey) = walk_over (plain at) trip (budget n) (walk_from m (leg_of trip.header m e forward)) t keys first.heights in
+      outcome_started r.walk.ending r.walk r.track _
 
-  tile-started : (trip : Trip) (forward : Bool) (keys : List TileKey) → Started (tileOver (plain at) n trip m forward keys bs samples behind).answer
-  tile-started trip forward keys = rw (within_same bs m within, within-ok bs m within) (walked-started trip forward keys)
+  tile_started : (trip : Trip) (forward : Bool) (keys : List TileKey) → Started (tile_over (plain at) n trip m forward keys bs samples behind).answer
+  tile_started trip forward keys = rw (within_same bs m within, within_ok bs m within) (walked_started trip forward keys)
 
-  look-started : (l : Look) → (l ≡ missing → ⊥) → ((cs : List ℕ) → l ≡ ready cs → cs ≡ bs) → (forward : Bool)
-      → Started (startLook (plain at) n l h m forward horizon [] samples behind).answer
-  look-started (ready cs) present same forward = rw (same cs refl) (tile-started (tripOf h m horizon) forward _)
-  look-started missing present same forward = present refl
-  look-started absent present same forward = tt
-  look-started stale present same forward = λ e. omega (arith, e)
+  look_started : (l : Look) → (l ≡ missing → ⊥) → ((cs : List ℕ) → l ≡ ready cs → cs ≡ bs) → (forward : Bool)
+      → Started (start_look (plain at) n l h m forward horizon [] samples behind).answer
+  look_started (ready cs) present same forward = rw (same cs refl) (tile_started (trip_of h m horizon) forward _)
+  look_started missing present same forward = present refl
+  look_started absent present same forward = tt
+  look_started stale present same forward = λ e. omega (arith, e)
 
   module _ (present : at m.tile.key ≡ missing → ⊥) (same : (cs : List ℕ) → at m.tile.key ≡ ready cs → cs ≡ bs) where
-    directed-started : (forward : Forward) → Started (directedOver (plain at) n forward h m horizon [] samples behind).answer
-    directed-started Forward.Unknown = tt
-    directed-started (Forward.Is forward) = look-started (at m.tile.key) present same forward
+    directed_started : (forward : Forward) → Started (directed_over (plain at) n forward h m horizon [] samples behind).answer
+    directed_started Forward.Unknown = tt
+    directed_started (Forward.Is forward) = look_started (at m.tile.key) present same forward
 
-    pub road-started : Started (predictOver at n h m horizon samples behind).answer
-    unfolding forecastOver
-    road-started = directed-started m.forward
+    pub road_started : Started (predict_over at n h m horizon samples behind).answer
+    unfolding forecast_over
+    road_started = directed_started m.forward
 
-    pub road-not-rematch : (predictOver at n h m horizon samples behind).answer ≡ Outcome.Rematch → ⊥
-    road-not-rematch e = subst Started e road-started
+    pub road_not_rematch : (predict_over at n h m horizon samples behind).answer ≡ Outcome.Rematch → ⊥
+    road_not_rematch e = subst Started e road_started
 
-    pub road-start-fits : (predictOver at n h m horizon samples behind).answer ≡ Outcome.Refused 10 → ⊥
-    road-start-fits e = subst Started e road-started refl
+    pub road_start_fits : (predict_over at n h m horizon samples behind).answer ≡ Outcome.Refused 10 → ⊥
+    road_start_fits e = subst Started e road_started refl

@@ -6,15 +6,15 @@ use mathlib.Core.List.{List, ◌++◌}
 use lib.IntN.{ℤ}
 use lib.ListN.{take, drop, take-append-drop}
 use Rattle.engine.specs.declared.Ahead.{Ahead}
-use Rattle.direct.specs.Finished.{Road, roadOf}
+use Rattle.direct.specs.Finished.{Road, road_of}
 
 -- a list by its first places and the rest
 joined : (n m : ℕ) (x y : List ℤ) → m ≡ n → take m y ≡ take n x → drop m y ≡ drop n x → y ≡ x
 joined n m x y e p q = sym (take-append-drop m y) ∙ ap (λ (z : List ℤ). z ++ drop m y) p ∙ ap (λ (z : List ℤ). take n x ++ z) q ∙ take-append-drop n x
 
-pub road-whole : (a b : Ahead) → roadOf b ≡ roadOf a → b.generation ≡ a.generation → drop b.len b.samples ≡ drop a.len a.samples
+pub road_whole : (a b : Ahead) → road_of b ≡ road_of a → b.generation ≡ a.generation → drop b.len b.samples ≡ drop a.len a.samples
     → drop b.behind_len b.behind ≡ drop a.behind_len a.behind → b ≡ a
-road-whole a b r g s t =
+road_whole a b r g s t =
     let samples : b.samples ≡ a.samples
     = joined a.len b.len a.samples b.samples (ap (λ (x : Road). x.len) r) (ap (λ (x : Road). x.samples) r) s in
     let behind : b.behind ≡ a.behind

@@ -7,14 +7,14 @@ use Rattle.geo.specs.declared.Point.{Point}
 use Rattle.cache.specs.declared.Cache.{Cache}
 use Rattle.cache.specs.declared.look.Landing.TheVariants as Landing
 use Rattle.cache.specs.Direct.{Agree, look}
-use Rattle.cache.specs.Lookups.{landsOn, len_at}
+use Rattle.cache.specs.Lookups.{lands_on, len_at}
 use Rattle.cache_lists.specs.Lists as CacheCalls
 use Rattle.cache_lists.specs.Claims as Cached
 use Rattle.cache_lists.specs.Claims.{Parsed, Apart, AllLive, Passed, Kind, keeps, brings, MayWrite, Written, SameBytes, ShortLoad, Read}
 use Rattle.matcher.specs.declared.Heading.{Heading}
 use Rattle.matcher.specs.declared.Matched.{Matched}
 use Rattle.matcher.specs.Gather as Gather
-use Rattle.matcher.specs.State.{countsOk, keyOk}
+use Rattle.matcher.specs.State.{counts_ok, key_ok}
 use Rattle.matcher.specs.declared.Matcher.{Matcher}
 use Rattle.predict.specs.Predict as Predict
 use Rattle.engine.specs.Fixes.{place_of}
@@ -22,28 +22,28 @@ use Rattle.engine.specs.Calls as Engines
 use Rattle.engine.specs.declared.Engine.{Engine}
 use Rattle.engine.specs.declared.Status.{Status}
 use Rattle.engine.specs.declared.Status.TheVariants as Status
-pub use Rattle.engine_states.specs.Tasks.{isOpen, openRead}
-use Rattle.direct.specs.Lists.{World, Call, fix, lost, reset, step, deliver, stepFrom, read, onCache, nearby, current, update, predict, cacheOf, number, exec, start, Along}
-use Rattle.direct.specs.Finished.{Shown, again, isMatch, isRoad, shown, Task, none, offMap, match, road, task_of}
-use Rattle.direct.specs.Direct.{Made, Told, Lookup, directly, newDirect, packAfter, directShows}
+pub use Rattle.engine_states.specs.Tasks.{is_open, open_read}
+use Rattle.direct.specs.Lists.{World, Call, fix, lost, reset, step, deliver, step_from, read, on_cache, nearby, current, update, predict, cache_of, number, exec, start, Along}
+use Rattle.direct.specs.Finished.{Shown, again, is_match, is_road, shown, Task, none, off_map, match, road, task_of}
+use Rattle.direct.specs.Direct.{Made, Told, Lookup, directly, new_direct, pack_after, direct_shows}
 
 -- ---- what the direct engine is told
 
-abbrev pub isFetching : Engine → Bool
-isFetching e = isOpen e.shared.cache.pending
+abbrev pub is_fetching : Engine → Bool
+is_fetching e = is_open e.shared.cache.pending
 
-abbrev pub toldOf : World → Call → Told
-toldOf w c =
+abbrev pub told_of : World → Call → Told
+told_of w c =
     let d = exec c w in record {
       refused = not (eqb (number d.answer) 0);
-      fetching = isFetching d.world.engine;
-      match = isMatch (shown w c);
-      road = isRoad (shown w c);
+      fetching = is_fetching d.world.engine;
+      match = is_match (shown w c);
+      road = is_road (shown w c);
     }
 
 unfoldable pub tolds : List Call → World → List Told
 tolds [] w = []
-tolds (c ∷ cs) w = toldOf w c ∷ tolds cs (exec c w).world
+tolds (c ∷ cs) w = told_of w c ∷ tolds cs (exec c w).world
 
 unfoldable pub shows : List Call → World → List Shown
 shows [] w = []
@@ -73,9 +73,9 @@ FairLent P (Status.Refused n) Q = Unit
 
 -- nothing is asked of a call that gives nothing, of a read that failed, nor of a delivery that is refused
 abbrev pub Fair : List ℕ → World → Call → Type 0
-Fair P w (deliver failure bs) = number (exec (deliver failure bs) w).answer ≡ 0 → failure ≡ 0 → FairBytes P (openRead w.engine) bs
-Fair P w (stepFrom Q) = FairLent P (Engines.step w.engine w.arena).answer Q
-Fair P w (onCache c) = Cached.Fair P (cacheOf w) c
+Fair P w (deliver failure bs) = number (exec (deliver failure bs) w).answer ≡ 0 → failure ≡ 0 → FairBytes P (open_read w.engine) bs
+Fair P w (step_from Q) = FairLent P (Engines.step w.engine w.arena).answer Q
+Fair P w (on_cache c) = Cached.Fair P (cache_of w) c
 Fair P w (nearby h p) = Parsed P h
 Fair P w (update m h p heading) = Parsed P h
 Fair P w (predict h m horizon samples behind) = Parsed P h
@@ -89,7 +89,7 @@ Fair P w (current m) = Unit
 -- along a list, each in the world that the calls before it left, for the pack of that time
 unfoldable pub AllFair : List ℕ → List Call → World → Type 0
 AllFair P [] w = Unit
-AllFair P (c ∷ cs) w = Fair P w c × AllFair (packAfter P c (toldOf w c)) cs (exec c w).world
+AllFair P (c ∷ cs) w = Fair P w c × AllFair (pack_after P c (told_of w c)) cs (exec c w).world
 
 -- ---- 1: finished matches and roads are the direct engine's
 
@@ -105,13 +105,13 @@ Answers n at = (P : List ℕ) → Agree (directly n P) (at P)
 abbrev pub AllSame : Type 0
 AllSame =
     (n : ℕ) → n ≤ 96 → (horizon : Float) (arena P : List ℕ) (cs : List Call) → AllFair P cs (start n horizon arena) → (at : Lookup) → Answers n at →
-    directShows at (made_of n horizon) P cs (tolds cs (start n horizon arena)) newDirect ≡ shows cs (start n horizon arena)
+    direct_shows at (made_of n horizon) P cs (tolds cs (start n horizon arena)) new_direct ≡ shows cs (start n horizon arena)
 
 -- document 01's direct engine itself
 abbrev pub AllDirect : Type 0
 AllDirect =
     (n : ℕ) → n ≤ 96 → (horizon : Float) (arena P : List ℕ) (cs : List Call) → AllFair P cs (start n horizon arena) →
-    directShows (directly n) (made_of n horizon) P cs (tolds cs (start n horizon arena)) newDirect ≡ shows cs (start n horizon arena)
+    direct_shows (directly n) (made_of n horizon) P cs (tolds cs (start n horizon arena)) new_direct ≡ shows cs (start n horizon arena)
 
 -- ---- 2: with no premise
 
@@ -122,37 +122,37 @@ AllOf Q (key ∷ keys) = Q key × AllOf Q keys
 -- a lookup of the key answers a run that lies in the arena and passes `Tile::parse` for it
 pub record HandsOut (c : Cache) (arena : List ℕ) (h : Header) (key : TileKey) : Type 0 where
   pub first : ℕ
-  pub lands : landsOn c key ≡ Landing.At first
+  pub lands : lands_on c key ≡ Landing.At first
   pub passed : Passed arena h key first (len_at c first)
 
 -- the keys of the tiles that a match found, and a road
-abbrev pub matchKeys : Matcher → Cache → List ℕ → Header → Point → Heading → List TileKey
-matchKeys m c arena h p heading = (Gather.runOver (look c arena h.tile) m h p heading).found
+abbrev pub match_keys : Matcher → Cache → List ℕ → Header → Point → Heading → List TileKey
+match_keys m c arena h p heading = (Gather.run_over (look c arena h.tile) m h p heading).found
 
-abbrev pub roadKeys : Cache → List ℕ → Header → Matched → Float → List ℤ → List ℤ → List TileKey
-roadKeys c arena h m horizon samples behind = (Predict.predictOver (look c arena h.tile) c.pages.count h m horizon samples behind).carried
+abbrev pub road_keys : Cache → List ℕ → Header → Matched → Float → List ℤ → List ℤ → List TileKey
+road_keys c arena h m horizon samples behind = (Predict.predict_over (look c arena h.tile) c.pages.count h m horizon samples behind).carried
 
-abbrev pub taskHands : Task → Engine → List ℕ → Type 0
-taskHands none e arena = Unit
-taskHands (offMap f) e arena = Unit
-taskHands (match f) e arena =
+abbrev pub task_hands : Task → Engine → List ℕ → Type 0
+task_hands none e arena = Unit
+task_hands (off_map f) e arena = Unit
+task_hands (match f) e arena =
     let c = e.shared.cache in
     let h = e.shared.header in
-    AllOf (HandsOut c arena h) (matchKeys e.follower.matcher c arena h (place_of f) e.follower.sight.heading)
-taskHands (road f found) e arena =
+    AllOf (HandsOut c arena h) (match_keys e.follower.matcher c arena h (place_of f) e.follower.sight.heading)
+task_hands (road f found) e arena =
     let c = e.shared.cache in
     let h = e.shared.header in
-    AllOf (HandsOut c arena h) (roadKeys c arena h found e.follower.horizon_m (replicate 501 (pos 0)) (replicate 11 (pos 0)))
+    AllOf (HandsOut c arena h) (road_keys c arena h found e.follower.horizon_m (replicate 501 (pos 0)) (replicate 11 (pos 0)))
 
 -- "hands out a tile that fails `Tile::parse` for its key": every run that a lookup of the call answers, inside steps too
 abbrev pub HandedOut : World → Call → Type 0
-HandedOut w step = taskHands (task_of w.engine) w.engine w.arena
-HandedOut w (stepFrom Q) = taskHands (task_of w.engine) w.engine w.arena
-HandedOut w (onCache c) = Cached.HandedOut (cacheOf w) c
+HandedOut w step = task_hands (task_of w.engine) w.engine w.arena
+HandedOut w (step_from Q) = task_hands (task_of w.engine) w.engine w.arena
+HandedOut w (on_cache c) = Cached.HandedOut (cache_of w) c
 HandedOut w (update m h p heading) =
-    let c = w.engine.shared.cache in AllOf (HandsOut c w.arena h) (matchKeys m c w.arena h p heading)
+    let c = w.engine.shared.cache in AllOf (HandsOut c w.arena h) (match_keys m c w.arena h p heading)
 HandedOut w (predict h m horizon samples behind) =
-    let c = w.engine.shared.cache in AllOf (HandsOut c w.arena h) (roadKeys c w.arena h m horizon samples behind)
+    let c = w.engine.shared.cache in AllOf (HandsOut c w.arena h) (road_keys c w.arena h m horizon samples behind)
 HandedOut w (fix f) = Unit
 HandedOut w lost = Unit
 HandedOut w (reset P) = Unit
@@ -170,20 +170,20 @@ reads_of Status.OffMap = []
 reads_of (Status.Refused n) = []
 
 -- of the lent-pack form: what its step asks for, and what is asked for still once that was delivered
-abbrev pub lentReads : Status → Status → List Read
-lentReads (Status.Fetch offset len) after = record { offset = offset; len = len } ∷ reads_of after
-lentReads Status.Idle after = []
-lentReads Status.Working after = []
-lentReads Status.NoPack after = []
-lentReads Status.OffMap after = []
-lentReads (Status.Refused n) after = []
+abbrev pub lent_reads : Status → Status → List Read
+lent_reads (Status.Fetch offset len) after = record { offset = offset; len = len } ∷ reads_of after
+lent_reads Status.Idle after = []
+lent_reads Status.Working after = []
+lent_reads Status.NoPack after = []
+lent_reads Status.OffMap after = []
+lent_reads (Status.Refused n) after = []
 
 -- the reads that a call asks for, or makes of a lent pack
 abbrev pub reads : World → Call → List Read
 reads w step = reads_of (Engines.step w.engine w.arena).answer
 reads w (deliver failure bs) = reads_of (Engines.deliver w.engine w.arena failure bs).answer
-reads w (stepFrom Q) = lentReads (Engines.step w.engine w.arena).answer (Engines.stepFrom w.engine w.arena Q).answer
-reads w (onCache c) = Cached.reads (cacheOf w) c
+reads w (step_from Q) = lent_reads (Engines.step w.engine w.arena).answer (Engines.step_from w.engine w.arena Q).answer
+reads w (on_cache c) = Cached.reads (cache_of w) c
 reads w (fix f) = []
 reads w lost = []
 reads w (reset P) = []
@@ -204,8 +204,8 @@ SameFor (Status.Refused n) Q R = Unit
 -- "fetches twice in a step" by values: of a lent pack a call sees the one read that its step asks for, or its `fetch` tells, and nothing else; and a
 -- delivery asks for none
 pub record LentOnly (w : World) (c : Call) : Type 0 where
-  pub step : (Q R : List ℕ) → c ≡ stepFrom Q → SameFor (Engines.step w.engine w.arena).answer Q R → exec (stepFrom R) w ≡ exec c w
-  pub load : (x : CacheCalls.Call) → c ≡ onCache x → Cached.LentOnly (cacheOf w) x
+  pub step : (Q R : List ℕ) → c ≡ step_from Q → SameFor (Engines.step w.engine w.arena).answer Q R → exec (step_from R) w ≡ exec c w
+  pub load : (x : CacheCalls.Call) → c ≡ on_cache x → Cached.LentOnly (cache_of w) x
   pub delivery : (failure : ℕ) (bs : List ℕ) → c ≡ deliver failure bs → reads w c ≡ []
 
 abbrev pub HasLen : Status → ℕ → Type 0
@@ -218,13 +218,13 @@ HasLen (Status.Refused k) n = ⊥
 
 -- bytes that a delivery takes are those of the open fetch: with any other number of them it is refused
 abbrev pub TakesOnly : World → Call → Type 0
-TakesOnly w (deliver failure bs) = failure ≡ 0 → number (exec (deliver failure bs) w).answer ≡ 0 → HasLen (openRead w.engine) (length bs)
-TakesOnly w (onCache c) = Cached.TakesOnly (cacheOf w) c
+TakesOnly w (deliver failure bs) = failure ≡ 0 → number (exec (deliver failure bs) w).answer ≡ 0 → HasLen (open_read w.engine) (length bs)
+TakesOnly w (on_cache c) = Cached.TakesOnly (cache_of w) c
 TakesOnly w (fix f) = Unit
 TakesOnly w lost = Unit
 TakesOnly w (reset P) = Unit
 TakesOnly w step = Unit
-TakesOnly w (stepFrom Q) = Unit
+TakesOnly w (step_from Q) = Unit
 TakesOnly w (read r) = Unit
 TakesOnly w (nearby h p) = Unit
 TakesOnly w (current m) = Unit
@@ -234,8 +234,8 @@ TakesOnly w (predict h m horizon samples behind) = Unit
 -- what a call may do to the arena: a delivery, the lent-pack form's own included, and a direct `load` or `load_from` bring a chunk
 abbrev pub kind_of : Call → Kind
 kind_of (deliver failure bs) = brings
-kind_of (stepFrom Q) = brings
-kind_of (onCache c) = Cached.kind_of c
+kind_of (step_from Q) = brings
+kind_of (on_cache c) = Cached.kind_of c
 kind_of (fix f) = keeps
 kind_of lost = keeps
 kind_of (reset P) = keeps
@@ -256,11 +256,11 @@ KeptBytes w c =
 -- none; and no tile that stays ready changes
 pub record Safe (w : World) (c : Call) : Type 0 where
   pub apart : Apart (exec c w).world.engine.shared.cache
-  pub allLive : AllLive (exec c w).world.engine.shared.cache
-  pub handedOut : HandedOut w c
-  pub oneRead : length (reads w c) ≤ 1
-  pub lentOnly : LentOnly w c
-  pub takesOnly : TakesOnly w c
+  pub all_live : AllLive (exec c w).world.engine.shared.cache
+  pub handed_out : HandedOut w c
+  pub one_read : length (reads w c) ≤ 1
+  pub lent_only : LentOnly w c
+  pub takes_only : TakesOnly w c
   pub written : Written (MayWrite (kind_of c) w.engine.shared.cache) w.arena (exec c w).world.arena
   pub kept : KeptBytes w c
 
@@ -279,16 +279,16 @@ AllShort = (n : ℕ) → n ≤ 96 → (horizon : Float) (arena : List ℕ) (cs :
 
 -- a matcher that the caller gives can be one that 12 names; nothing else of a call is
 abbrev pub Blamed : Call → Type 0
-Blamed (update m h p heading) = (countsOk m && keyOk m.current h) ≡ false
-Blamed (current m) = countsOk m ≡ false
+Blamed (update m h p heading) = (counts_ok m && key_ok m.current h) ≡ false
+Blamed (current m) = counts_ok m ≡ false
 Blamed (fix f) = ⊥
 Blamed lost = ⊥
 Blamed (reset P) = ⊥
 Blamed step = ⊥
 Blamed (deliver failure bs) = ⊥
-Blamed (stepFrom Q) = ⊥
+Blamed (step_from Q) = ⊥
 Blamed (read r) = ⊥
-Blamed (onCache c) = ⊥
+Blamed (on_cache c) = ⊥
 Blamed (nearby h p) = ⊥
 Blamed (predict h m horizon samples behind) = ⊥
 

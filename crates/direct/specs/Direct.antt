@@ -5,7 +5,7 @@
 use Rattle.std.specs.Prelude.{ℕ, Bool, ◌&&◌, cond, List, [], ◌∷◌, ◌++◌, eqb, Float, ℤ, pos, take, replicate}
 use Rattle.num.specs.Order.{min}
 use Rattle.pack.specs.Sector.{parse}
-use Rattle.pack.specs.Grid.{isPoint, inGrid, key_of}
+use Rattle.pack.specs.Grid.{is_point, in_grid, key_of}
 use Rattle.pack.specs.declared.Header.{Header}
 use Rattle.pack.specs.declared.Keyed.{Keyed}
 use Rattle.pack.specs.declared.Keyed.TheVariants as Keyed
@@ -19,7 +19,7 @@ use Rattle.matcher.specs.declared.Heading.{Heading}
 use Rattle.matcher.specs.declared.Matched.{Matched}
 use Rattle.matcher.specs.Calls as Matching
 use Rattle.matcher.specs.Gather as Gather
-use Rattle.matcher.specs.State.{headingOk}
+use Rattle.matcher.specs.State.{heading_ok}
 use Rattle.matcher.specs.declared.Matcher.{Matcher}
 use Rattle.matcher.specs.declared.Outcome as MatchOutcome
 use Rattle.matcher.specs.declared.Outcome.TheVariants as Match
@@ -29,14 +29,14 @@ use Rattle.predict.specs.Predict as Predict
 use Rattle.predict.specs.declared.Outcome as RoadOutcome
 use Rattle.predict.specs.declared.Outcome.TheVariants as Roads
 use Rattle.engine.specs.Fixes as Fixes
-use Rattle.engine.specs.Publish.{nothingAhead, withMatch, withoutMatch}
+use Rattle.engine.specs.Publish.{nothing_ahead, with_match, without_match}
 use Rattle.engine.specs.declared.Fix.{Fix}
 use Rattle.engine.specs.declared.MaybeFix.{MaybeFix}
 use Rattle.engine.specs.declared.MaybeFix.TheVariants as MaybeFix
 use Rattle.engine.specs.declared.Sight.{Sight}
-use Rattle.engine.specs.Work.{withHeights}
-use Rattle.direct.specs.Lists.{Call, fix, lost, reset, step, deliver, stepFrom, read, onCache, nearby, current, update, predict}
-use Rattle.direct.specs.Finished.{Shown, nothing, matched, unmatched, published, again, emptied, updated, predicted, unanswered, Road, roadOf, updateShown, predictShown}
+use Rattle.engine.specs.Work.{with_heights}
+use Rattle.direct.specs.Lists.{Call, fix, lost, reset, step, deliver, step_from, read, on_cache, nearby, current, update, predict}
+use Rattle.direct.specs.Finished.{Shown, nothing, matched, unmatched, published, again, emptied, updated, predicted, unanswered, Road, road_of, update_shown, predict_shown}
 
 -- ---- what it is fed and told
 
@@ -53,15 +53,15 @@ pub record Told : Type 0 where
   pub road : Bool
 
 -- the header of a pack, its first 512 bytes parsed
-abbrev pub headerOf : List ℕ → Header
-headerOf P = (parse (take 512 P)).header
+abbrev pub header_of : List ℕ → Header
+header_of P = (parse (take 512 P)).header
 
 -- how a tile of a pack is looked up
 abbrev pub Lookup : Type 0
 Lookup = List ℕ → TileKey → Look
 
 abbrev pub directly : ℕ → Lookup
-directly n P key = direct P (headerOf P) n key
+directly n P key = direct P (header_of P) n key
 
 -- ---- the held state: fix, history and heading; the matcher; the last match
 
@@ -70,18 +70,18 @@ pub record Held : Type 0 where
   pub matcher : Matcher
   pub last : Current
 
-abbrev pub newHeld : Held
-newHeld = record { sight = Fixes.nothingSeen; matcher = Matching.reset; last = Current.Nothing }
+abbrev pub new_held : Held
+new_held = record { sight = Fixes.nothing_seen; matcher = Matching.reset; last = Current.Nothing }
 
-abbrev pub withMatcher : Held → Matcher → Held
-withMatcher d m = record { sight = d.sight; matcher = m; last = d.last }
+abbrev pub with_matcher : Held → Matcher → Held
+with_matcher d m = record { sight = d.sight; matcher = m; last = d.last }
 
 -- `fix`, `lost` and `reset` do to it what their definitions say
 abbrev pub fixed : Held → Fix → Held
-fixed d f = cond (Fixes.isSamePlace d.sight.fix f) d (record { sight = Fixes.seen d.sight f; matcher = d.matcher; last = d.last })
+fixed d f = cond (Fixes.is_same_place d.sight.fix f) d (record { sight = Fixes.seen d.sight f; matcher = d.matcher; last = d.last })
 
-abbrev pub lostHeld : Held → Held
-lostHeld d = record { sight = Fixes.lost d.sight; matcher = Matching.reset; last = Current.Nothing }
+abbrev pub lost_held : Held → Held
+lost_held d = record { sight = Fixes.lost d.sight; matcher = Matching.reset; last = Current.Nothing }
 
 abbrev pub forgotten : Held → Held
 forgotten d = record { sight = d.sight; matcher = Matching.reset; last = Current.Nothing }
@@ -101,121 +101,121 @@ abbrev pub stuck : Held → Worked
 stuck d = record { held = d; shown = unanswered }
 
 -- a road that is emptied
-abbrev pub noRoad : Fix → End → Road
-noRoad f end = roadOf (withoutMatch (nothingAhead 0) f.at_ms end)
+abbrev pub no_road : Fix → End → Road
+no_road f end = road_of (without_match (nothing_ahead 0) f.at_ms end)
 
 -- a match that was finished; with a road beside it, which was emptied, where none was found
-abbrev pub matchWorked : MatchOutcome.Outcome → Bool → Held → Fix → Matcher → Worked
-matchWorked (Match.Found m) road d f next = record { held = withMatcher d next; shown = matched next }
-matchWorked Match.Nothing road d f next =
+abbrev pub match_worked : MatchOutcome.Outcome → Bool → Held → Fix → Matcher → Worked
+match_worked (Match.Found m) road d f next = record { held = with_matcher d next; shown = matched next }
+match_worked Match.Nothing road d f next =
     cond road
-    (record { held = record { sight = d.sight; matcher = next; last = Current.Nothing }; shown = unmatched next (noRoad f End.Uncertain) })
-    (record { held = withMatcher d next; shown = matched next })
-matchWorked (Match.Need key) road d f next = stuck d
-matchWorked (Match.Refused number) road d f next = stuck d
+    (record { held = record { sight = d.sight; matcher = next; last = Current.Nothing }; shown = unmatched next (no_road f End.Uncertain) })
+    (record { held = with_matcher d next; shown = matched next })
+match_worked (Match.Need key) road d f next = stuck d
+match_worked (Match.Refused number) road d f next = stuck d
 
 -- a road that was finished: published with the held fix's time; by 6 or 10 the matcher is cleared
-abbrev pub roadWorked : RoadOutcome.Outcome → Held → Fix → Matched → List ℤ → List ℤ → Worked
-roadWorked (Roads.Road p) d f found samples behind = record {
+abbrev pub road_worked : RoadOutcome.Outcome → Held → Fix → Matched → List ℤ → List ℤ → Worked
+road_worked (Roads.Road p) d f found samples behind = record {
   held = record { sight = d.sight; matcher = d.matcher; last = Current.Is found };
-  shown = published (roadOf (withMatch (withHeights (nothingAhead 0) samples behind) f.at_ms found p));
+  shown = published (road_of (with_match (with_heights (nothing_ahead 0) samples behind) f.at_ms found p));
 }
-roadWorked (Roads.Need key) d f found samples behind = stuck d
-roadWorked Roads.Rematch d f found samples behind = record { held = withMatcher d Matching.reset; shown = again 6 Matching.reset }
-roadWorked (Roads.Refused number) d f found samples behind =
-    cond (eqb number 10) (record { held = withMatcher d Matching.reset; shown = again 10 Matching.reset }) (stuck d)
+road_worked (Roads.Need key) d f found samples behind = stuck d
+road_worked Roads.Rematch d f found samples behind = record { held = with_matcher d Matching.reset; shown = again 6 Matching.reset }
+road_worked (Roads.Refused number) d f found samples behind =
+    cond (eqb number 10) (record { held = with_matcher d Matching.reset; shown = again 10 Matching.reset }) (stuck d)
 
 -- off the map a published road is emptied, and the match goes with it: because it was told so
-abbrev pub emptyWorked : Held → Fix → Worked
-emptyWorked d f = record { held = forgotten d; shown = emptied Matching.reset (noRoad f End.MapEdge) }
+abbrev pub empty_worked : Held → Fix → Worked
+empty_worked d f = record { held = forgotten d; shown = emptied Matching.reset (no_road f End.MapEdge) }
 
 -- a lookup without an answer shows nothing that was finished
-abbrev pub orUnanswered : Shown → Shown
-orUnanswered nothing = unanswered
-orUnanswered unanswered = unanswered
-orUnanswered (matched m) = matched m
-orUnanswered (unmatched m r) = unmatched m r
-orUnanswered (published r) = published r
-orUnanswered (again number m) = again number m
-orUnanswered (emptied m r) = emptied m r
-orUnanswered (updated a m) = updated a m
-orUnanswered (predicted a samples behind) = predicted a samples behind
+abbrev pub or_unanswered : Shown → Shown
+or_unanswered nothing = unanswered
+or_unanswered unanswered = unanswered
+or_unanswered (matched m) = matched m
+or_unanswered (unmatched m r) = unmatched m r
+or_unanswered (published r) = published r
+or_unanswered (again number m) = again number m
+or_unanswered (emptied m r) = emptied m r
+or_unanswered (updated a m) = updated a m
+or_unanswered (predicted a samples behind) = predicted a samples behind
 
 module _ (at : Lookup) (made : Made) (P : List ℕ) where
   -- by the definition of a match, from what is held
-  abbrev pub matchHeld : Held → Fix → Gather.Matching
-  matchHeld d f = Gather.updateOver (at P) d.matcher (headerOf P) (Fixes.place_of f) d.sight.heading
+  abbrev pub match_held : Held → Fix → Gather.Matching
+  match_held d f = Gather.update_over (at P) d.matcher (header_of P) (Fixes.place_of f) d.sight.heading
 
   -- by the definition of a road, over fresh heights of 0
-  abbrev pub roadHeld : Matched → Predict.Forecast (List TileKey)
-  roadHeld found =
-      Predict.predictOver (at P) made.pages (headerOf P) found (min made.horizon (whole 10000)) (replicate 501 (pos 0)) (replicate 11 (pos 0))
+  abbrev pub road_held : Matched → Predict.Forecast (List TileKey)
+  road_held found =
+      Predict.predict_over (at P) made.pages (header_of P) found (min made.horizon (whole 10000)) (replicate 501 (pos 0)) (replicate 11 (pos 0))
 
-  abbrev pub currentWorked : Current → Held → Fix → Worked
-  currentWorked Current.Nothing d f = stuck d
-  currentWorked (Current.Is found) d f = let r = roadHeld found in roadWorked r.answer d f found r.samples r.behind
+  abbrev pub current_worked : Current → Held → Fix → Worked
+  current_worked Current.Nothing d f = stuck d
+  current_worked (Current.Is found) d f = let r = road_held found in road_worked r.answer d f found r.samples r.behind
 
-  abbrev pub keyWorked : Keyed → Held → Fix → Worked
-  keyWorked (Keyed.In key) d f = currentWorked d.matcher.current d f
-  keyWorked Keyed.Outside d f = emptyWorked d f
-  keyWorked (Keyed.Refused number) d f = emptyWorked d f
+  abbrev pub key_worked : Keyed → Held → Fix → Worked
+  key_worked (Keyed.In key) d f = current_worked d.matcher.current d f
+  key_worked Keyed.Outside d f = empty_worked d f
+  key_worked (Keyed.Refused number) d f = empty_worked d f
 
-  abbrev pub fixWorked : Told → Held → Fix → Worked
-  fixWorked t d f =
-      cond t.match (let u = matchHeld d f in matchWorked u.answer t.road d f u.matcher)
-      (cond t.road (keyWorked (key_of (headerOf P) f.lat f.lon) d f) (idle d))
+  abbrev pub fix_worked : Told → Held → Fix → Worked
+  fix_worked t d f =
+      cond t.match (let u = match_held d f in match_worked u.answer t.road d f u.matcher)
+      (cond t.road (key_worked (key_of (header_of P) f.lat f.lon) d f) (idle d))
 
-  abbrev pub stepWorkedBy : MaybeFix → Told → Held → Worked
-  stepWorkedBy MaybeFix.Nothing t d = idle d
-  stepWorkedBy (MaybeFix.Is f) t d = fixWorked t d f
+  abbrev pub step_worked_by : MaybeFix → Told → Held → Worked
+  step_worked_by MaybeFix.Nothing t d = idle d
+  step_worked_by (MaybeFix.Is f) t d = fix_worked t d f
 
   -- what a step finished, at the held fix
-  unfoldable pub stepWorked : Told → Held → Worked
-  stepWorked t d = stepWorkedBy d.sight.fix t d
+  unfoldable pub step_worked : Told → Held → Worked
+  step_worked t d = step_worked_by d.sight.fix t d
 
   -- "for a direct call, from arguments and lookups alone": 8 and 9 first, as the call has them; number 12 is not tested
-  unfoldable pub updateWorked : Matcher → Header → Point → Heading → Shown
-  updateWorked m h p heading =
-      let u = Gather.updateOver (at P) m h p heading in
-      cond (isPoint p.lat p.lon && headingOk heading) (orUnanswered (updateShown u.answer u.matcher)) (updated (Match.Refused 8) m)
+  unfoldable pub update_worked : Matcher → Header → Point → Heading → Shown
+  update_worked m h p heading =
+      let u = Gather.update_over (at P) m h p heading in
+      cond (is_point p.lat p.lon && heading_ok heading) (or_unanswered (update_shown u.answer u.matcher)) (updated (Match.Refused 8) m)
 
-  unfoldable pub predictWorked : Header → Matched → Float → List ℤ → List ℤ → Shown
-  predictWorked h m horizon samples behind =
-      let r = Predict.predictOver (at P) made.pages h m horizon samples behind in
-      cond (inGrid h m.tile.key) (orUnanswered (predictShown r.answer r.samples r.behind)) (predicted (Roads.Refused 9) [] [])
+  unfoldable pub predict_worked : Header → Matched → Float → List ℤ → List ℤ → Shown
+  predict_worked h m horizon samples behind =
+      let r = Predict.predict_over (at P) made.pages h m horizon samples behind in
+      cond (in_grid h m.tile.key) (or_unanswered (predict_shown r.answer r.samples r.behind)) (predicted (Roads.Refused 9) [] [])
 
   -- "What a call finishes it works out by the definition"; "All else, refusals too, changes nothing"
   unfoldable pub worked : Call → Told → Held → Worked
-  worked step t d = stepWorked t d
-  worked (stepFrom Q) t d = stepWorked t d
-  worked (update m h p heading) t d = record { held = d; shown = cond t.match (updateWorked m h p heading) nothing }
+  worked step t d = step_worked t d
+  worked (step_from Q) t d = step_worked t d
+  worked (update m h p heading) t d = record { held = d; shown = cond t.match (update_worked m h p heading) nothing }
   worked (predict h m horizon samples behind) t d =
-      record { held = d; shown = cond t.road (predictWorked h m horizon samples behind) nothing }
+      record { held = d; shown = cond t.road (predict_worked h m horizon samples behind) nothing }
   worked (fix f) t d = idle d
   worked lost t d = idle d
   worked (reset Q) t d = idle d
   worked (deliver failure bs) t d = idle d
   worked (read r) t d = idle d
-  worked (onCache c) t d = idle d
+  worked (on_cache c) t d = idle d
   worked (nearby h p) t d = idle d
   worked (current m) t d = idle d
 
 -- ---- fixes and losses made while a fetch is open
 
 pub data Waiting : Type 0 where
-  aFix : Fix → Waiting
-  aLoss : Waiting
+  a_fix : Fix → Waiting
+  a_loss : Waiting
 
 pub record Direct : Type 0 where
   pub held : Held
   pub waiting : List Waiting
 
-abbrev pub newDirect : Direct
-newDirect = record { held = newHeld; waiting = [] }
+abbrev pub new_direct : Direct
+new_direct = record { held = new_held; waiting = [] }
 
 abbrev pub acted : Waiting → Held → Held
-acted (aFix f) d = fixed d f
-acted aLoss d = lostHeld d
+acted (a_fix f) d = fixed d f
+acted a_loss d = lost_held d
 
 -- in the order in which they were made
 unfoldable pub applied : List Waiting → Held → Held
@@ -253,38 +253,38 @@ abbrev pub turned : Told → Direct → Worked → Turn
 turned t d x = record { direct = settled t.fetching (record { held = x.held; waiting = d.waiting }); shown = x.shown }
 
 module _ (at : Lookup) (made : Made) where
-  unfoldable pub directExec : List ℕ → Call → Told → Direct → Turn
-  directExec P (fix f) t d = received t d (aFix f)
-  directExec P lost t d = received t d aLoss
-  directExec P (reset Q) t d = cleared t d
-  directExec P step t d = turned t d (worked at made P step t d.held)
-  directExec P (deliver failure bs) t d = turned t d (worked at made P (deliver failure bs) t d.held)
-  directExec P (stepFrom Q) t d = turned t d (worked at made P (stepFrom Q) t d.held)
-  directExec P (read r) t d = turned t d (worked at made P (read r) t d.held)
-  directExec P (onCache c) t d = turned t d (worked at made P (onCache c) t d.held)
-  directExec P (nearby h p) t d = turned t d (worked at made P (nearby h p) t d.held)
-  directExec P (current m) t d = turned t d (worked at made P (current m) t d.held)
-  directExec P (update m h p heading) t d = turned t d (worked at made P (update m h p heading) t d.held)
-  directExec P (predict h m horizon samples behind) t d = turned t d (worked at made P (predict h m horizon samples behind) t d.held)
+  unfoldable pub direct_exec : List ℕ → Call → Told → Direct → Turn
+  direct_exec P (fix f) t d = received t d (a_fix f)
+  direct_exec P lost t d = received t d a_loss
+  direct_exec P (reset Q) t d = cleared t d
+  direct_exec P step t d = turned t d (worked at made P step t d.held)
+  direct_exec P (deliver failure bs) t d = turned t d (worked at made P (deliver failure bs) t d.held)
+  direct_exec P (step_from Q) t d = turned t d (worked at made P (step_from Q) t d.held)
+  direct_exec P (read r) t d = turned t d (worked at made P (read r) t d.held)
+  direct_exec P (on_cache c) t d = turned t d (worked at made P (on_cache c) t d.held)
+  direct_exec P (nearby h p) t d = turned t d (worked at made P (nearby h p) t d.held)
+  direct_exec P (current m) t d = turned t d (worked at made P (current m) t d.held)
+  direct_exec P (update m h p heading) t d = turned t d (worked at made P (update m h p heading) t d.held)
+  direct_exec P (predict h m horizon samples behind) t d = turned t d (worked at made P (predict h m horizon samples behind) t d.held)
 
 -- "only the engine's `reset`, not refused, changes the pack"
-abbrev pub packAfter : List ℕ → Call → Told → List ℕ
-packAfter P (reset Q) t = cond t.refused P Q
-packAfter P (fix f) t = P
-packAfter P lost t = P
-packAfter P step t = P
-packAfter P (deliver failure bs) t = P
-packAfter P (stepFrom Q) t = P
-packAfter P (read r) t = P
-packAfter P (onCache c) t = P
-packAfter P (nearby h p) t = P
-packAfter P (current m) t = P
-packAfter P (update m h p heading) t = P
-packAfter P (predict h m horizon samples behind) t = P
+abbrev pub pack_after : List ℕ → Call → Told → List ℕ
+pack_after P (reset Q) t = cond t.refused P Q
+pack_after P (fix f) t = P
+pack_after P lost t = P
+pack_after P step t = P
+pack_after P (deliver failure bs) t = P
+pack_after P (step_from Q) t = P
+pack_after P (read r) t = P
+pack_after P (on_cache c) t = P
+pack_after P (nearby h p) t = P
+pack_after P (current m) t = P
+pack_after P (update m h p heading) t = P
+pack_after P (predict h m horizon samples behind) t = P
 
 -- what it shows of each call of a list, from what it is told of each
-unfoldable pub directShows : Lookup → Made → List ℕ → List Call → List Told → Direct → List Shown
-directShows at made P [] ts d = []
-directShows at made P (c ∷ cs) [] d = []
-directShows at made P (c ∷ cs) (t ∷ ts) d =
-    let x = directExec at made P c t d in x.shown ∷ directShows at made (packAfter P c t) cs ts x.direct
+unfoldable pub direct_shows : Lookup → Made → List ℕ → List Call → List Told → Direct → List Shown
+direct_shows at made P [] ts d = []
+direct_shows at made P (c ∷ cs) [] d = []
+direct_shows at made P (c ∷ cs) (t ∷ ts) d =
+    let x = direct_exec at made P c t d in x.shown ∷ direct_shows at made (pack_after P c t) cs ts x.direct

@@ -12,14 +12,14 @@ use Rattle.predict.specs.declared.End.{End}
 use Rattle.predict.specs.Predict as Predict
 use Rattle.predict.specs.declared.Outcome as RoadOutcome
 use Rattle.predict.specs.declared.Outcome.TheVariants as Roads
-use Rattle.engine.specs.Follow.{isMatched}
+use Rattle.engine.specs.Follow.{is_matched}
 use Rattle.engine.specs.declared.Ahead.{Ahead}
-use Rattle.engine.specs.State.{engineOk}
+use Rattle.engine.specs.State.{engine_ok}
 use Rattle.engine.specs.Calls as Engines
 use Rattle.engine.specs.declared.Engine.{Engine}
-pub use Rattle.engine_states.specs.Tasks.{Task, none, offMap, match, road, roadTask, gridTask, fixTask, needTask, phaseTask, openTask, match_of, roadAt}
+pub use Rattle.engine_states.specs.Tasks.{Task, none, off_map, match, road, road_task, grid_task, fix_task, need_task, phase_task, open_task, match_of, road_at}
 unfoldable pub use Rattle.engine_states.specs.Tasks.{task_of}
-use Rattle.direct.specs.Lists.{World, Call, fix, lost, reset, step, deliver, stepFrom, read, onCache, nearby, current, update, predict}
+use Rattle.direct.specs.Lists.{World, Call, fix, lost, reset, step, deliver, step_from, read, on_cache, nearby, current, update, predict}
 
 -- ---- what is compared
 
@@ -37,8 +37,8 @@ pub record Road : Type 0 where
   pub end_m : Float
   pub confidence : ℕ
 
-abbrev pub roadOf : Ahead → Road
-roadOf a = record {
+abbrev pub road_of : Ahead → Road
+road_of a = record {
   at_ms = a.at_ms;
   matched = a.matched;
   start_z_dm = a.start_z_dm;
@@ -73,86 +73,86 @@ pub data Shown : Type 0 where
 -- ---- a step: what it works at (`task_of`), the match that it then makes and the road that it works out stand in specs/Tasks of crate engine_states
 
 -- of the engine e, which the step leaves as n
-abbrev pub matchShown : MatchOutcome.Outcome → Engine → Engine → Shown
-matchShown (Match.Found m) e n = matched n.follower.matcher
-matchShown Match.Nothing e n =
-    cond (isMatched e.follower.ahead.matched) (unmatched n.follower.matcher (roadOf n.follower.ahead)) (matched n.follower.matcher)
-matchShown (Match.Need key) e n = nothing
-matchShown (Match.Refused number) e n = nothing
+abbrev pub match_shown : MatchOutcome.Outcome → Engine → Engine → Shown
+match_shown (Match.Found m) e n = matched n.follower.matcher
+match_shown Match.Nothing e n =
+    cond (is_matched e.follower.ahead.matched) (unmatched n.follower.matcher (road_of n.follower.ahead)) (matched n.follower.matcher)
+match_shown (Match.Need key) e n = nothing
+match_shown (Match.Refused number) e n = nothing
 
 -- Need is 5; past the reload limit it is the empty Memory answer
-abbrev pub roadShown : RoadOutcome.Outcome → Engine → Shown
-roadShown (Roads.Road p) n = published (roadOf n.follower.ahead)
-roadShown (Roads.Need key) n = nothing
-roadShown Roads.Rematch n = again 6 n.follower.matcher
-roadShown (Roads.Refused number) n = cond (eqb number 10) (again 10 n.follower.matcher) nothing
+abbrev pub road_shown : RoadOutcome.Outcome → Engine → Shown
+road_shown (Roads.Road p) n = published (road_of n.follower.ahead)
+road_shown (Roads.Need key) n = nothing
+road_shown Roads.Rematch n = again 6 n.follower.matcher
+road_shown (Roads.Refused number) n = cond (eqb number 10) (again 10 n.follower.matcher) nothing
 
-abbrev pub offMapShown : Engine → Engine → Shown
-offMapShown e n = cond (isMatched e.follower.ahead.matched) (emptied n.follower.matcher (roadOf n.follower.ahead)) nothing
+abbrev pub off_map_shown : Engine → Engine → Shown
+off_map_shown e n = cond (is_matched e.follower.ahead.matched) (emptied n.follower.matcher (road_of n.follower.ahead)) nothing
 
-abbrev pub taskShown : Task → Engine → List ℕ → Engine → Shown
-taskShown none e arena n = nothing
-taskShown (offMap f) e arena n = offMapShown e n
-taskShown (match f) e arena n = matchShown (match_of e arena f).answer e n
-taskShown (road f found) e arena n = roadShown (roadAt e arena found).predicted.answer n
+abbrev pub task_shown : Task → Engine → List ℕ → Engine → Shown
+task_shown none e arena n = nothing
+task_shown (off_map f) e arena n = off_map_shown e n
+task_shown (match f) e arena n = match_shown (match_of e arena f).answer e n
+task_shown (road f found) e arena n = road_shown (road_at e arena found).predicted.answer n
 
 -- a refused step finishes nothing
-unfoldable pub stepShown : Engine → List ℕ → Shown
-stepShown e arena = cond (engineOk e (length arena)) (taskShown (task_of e) e arena (Engines.step e arena).engine) nothing
+unfoldable pub step_shown : Engine → List ℕ → Shown
+step_shown e arena = cond (engine_ok e (length arena)) (task_shown (task_of e) e arena (Engines.step e arena).engine) nothing
 
 -- ---- a direct call: it ends other than by 5 or 12, so a refusal by 8, 9 or 10 is finished too
 
-abbrev pub updateShown : MatchOutcome.Outcome → Matcher → Shown
-updateShown (Match.Found m) next = updated (Match.Found m) next
-updateShown Match.Nothing next = updated Match.Nothing next
-updateShown (Match.Need key) next = nothing
-updateShown (Match.Refused number) next = cond (eqb number 12) nothing (updated (Match.Refused number) next)
+abbrev pub update_shown : MatchOutcome.Outcome → Matcher → Shown
+update_shown (Match.Found m) next = updated (Match.Found m) next
+update_shown Match.Nothing next = updated Match.Nothing next
+update_shown (Match.Need key) next = nothing
+update_shown (Match.Refused number) next = cond (eqb number 12) nothing (updated (Match.Refused number) next)
 
-abbrev pub predictShown : RoadOutcome.Outcome → List ℤ → List ℤ → Shown
-predictShown (Roads.Road p) samples behind = predicted (Roads.Road p) (take p.len samples) (take p.behind behind)
-predictShown (Roads.Need key) samples behind = nothing
-predictShown Roads.Rematch samples behind = predicted Roads.Rematch [] []
-predictShown (Roads.Refused number) samples behind = cond (eqb number 12) nothing (predicted (Roads.Refused number) [] [])
+abbrev pub predict_shown : RoadOutcome.Outcome → List ℤ → List ℤ → Shown
+predict_shown (Roads.Road p) samples behind = predicted (Roads.Road p) (take p.len samples) (take p.behind behind)
+predict_shown (Roads.Need key) samples behind = nothing
+predict_shown Roads.Rematch samples behind = predicted Roads.Rematch [] []
+predict_shown (Roads.Refused number) samples behind = cond (eqb number 12) nothing (predicted (Roads.Refused number) [] [])
 
 -- ---- a call
 
 -- the delivery finishes nothing: the lent-pack form finishes what its step does
 unfoldable pub shown : World → Call → Shown
-shown w step = stepShown w.engine w.arena
-shown w (stepFrom Q) = stepShown w.engine w.arena
+shown w step = step_shown w.engine w.arena
+shown w (step_from Q) = step_shown w.engine w.arena
 shown w (update m h p heading) =
-    let u = Matching.update m w.engine.shared.cache w.arena h p heading in updateShown u.answer u.matcher
+    let u = Matching.update m w.engine.shared.cache w.arena h p heading in update_shown u.answer u.matcher
 shown w (predict h m horizon samples behind) =
     let x = Predict.predict w.engine.shared.cache w.arena h m horizon samples behind in
-    predictShown x.predicted.answer x.samples x.behind
+    predict_shown x.predicted.answer x.samples x.behind
 shown w (fix f) = nothing
 shown w lost = nothing
 shown w (reset P) = nothing
 shown w (deliver failure bs) = nothing
 shown w (read r) = nothing
-shown w (onCache c) = nothing
+shown w (on_cache c) = nothing
 shown w (nearby h p) = nothing
 shown w (current m) = nothing
 
 -- whether it is a match, and whether it is a road, that was finished
-abbrev pub isMatch : Shown → Bool
-isMatch nothing = false
-isMatch (matched m) = true
-isMatch (unmatched m r) = true
-isMatch (published r) = false
-isMatch (again number m) = false
-isMatch (emptied m r) = false
-isMatch (updated a m) = true
-isMatch (predicted a samples behind) = false
-isMatch unanswered = false
+abbrev pub is_match : Shown → Bool
+is_match nothing = false
+is_match (matched m) = true
+is_match (unmatched m r) = true
+is_match (published r) = false
+is_match (again number m) = false
+is_match (emptied m r) = false
+is_match (updated a m) = true
+is_match (predicted a samples behind) = false
+is_match unanswered = false
 
-abbrev pub isRoad : Shown → Bool
-isRoad nothing = false
-isRoad (matched m) = false
-isRoad (unmatched m r) = true
-isRoad (published r) = true
-isRoad (again number m) = true
-isRoad (emptied m r) = true
-isRoad (updated a m) = false
-isRoad (predicted a samples behind) = true
-isRoad unanswered = false
+abbrev pub is_road : Shown → Bool
+is_road nothing = false
+is_road (matched m) = false
+is_road (unmatched m r) = true
+is_road (published r) = true
+is_road (again number m) = true
+is_road (emptied m r) = true
+is_road (updated a m) = false
+is_road (predicted a samples behind) = true
+is_road unanswered = false

@@ -7,58 +7,58 @@ use Rattle.matcher.specs.declared.Current.{Current}
 use Rattle.matcher.specs.declared.Outcome.TheVariants as Match
 use Rattle.predict.specs.declared.Outcome as RoadOutcome
 use Rattle.predict.specs.declared.Outcome.TheVariants as Roads
-use Rattle.engine.specs.Follow.{isMatched}
-use Rattle.engine.specs.State.{engineOk}
-use Rattle.engine.specs.Work.{mayAsk}
+use Rattle.engine.specs.Follow.{is_matched}
+use Rattle.engine.specs.State.{engine_ok}
+use Rattle.engine.specs.Work.{may_ask}
 use Rattle.engine.specs.declared.Engine.{Engine}
 use Rattle.engine.specs.declared.Fix.{Fix}
 use Rattle.direct.specs.Lists as Calls
 use Rattle.direct.specs.Lists.{World, Call, start, Along}
 use Rattle.direct.specs.Finished as Tasks
-use Rattle.direct.specs.Finished.{Task, isRoad, match_of, roadAt, task_of, stepShown}
-use Rattle.direct.specs.Direct.{Made, Told, Lookup, directly, Direct, newDirect, applied, packAfter, directExec}
+use Rattle.direct.specs.Finished.{Task, is_road, match_of, road_at, task_of, step_shown}
+use Rattle.direct.specs.Direct.{Made, Told, Lookup, directly, Direct, new_direct, applied, pack_after, direct_exec}
 use Rattle.direct.specs.Claims.{tolds, AllFair, made_of}
 use Rattle.direct.specs.Story.{after}
 
 -- what the direct engine holds after a list
-unfoldable pub directAfter : Lookup → Made → List ℕ → List Call → List Told → Direct → Direct
-directAfter at made P [] ts d = d
-directAfter at made P (c ∷ cs) [] d = d
-directAfter at made P (c ∷ cs) (t ∷ ts) d = directAfter at made (packAfter P c t) cs ts (directExec at made P c t d).direct
+unfoldable pub direct_after : Lookup → Made → List ℕ → List Call → List Told → Direct → Direct
+direct_after at made P [] ts d = d
+direct_after at made P (c ∷ cs) [] d = d
+direct_after at made P (c ∷ cs) (t ∷ ts) d = direct_after at made (pack_after P c t) cs ts (direct_exec at made P c t d).direct
 
 -- its last match, once what waits is done
 abbrev pub last_of : Direct → Current
 last_of d = (applied d.waiting d.held).last
 
 -- a road that asks for a tile, and may ask no more
-abbrev pub isNeed : RoadOutcome.Outcome → Bool
-isNeed (Roads.Need key) = true
-isNeed (Roads.Road p) = false
-isNeed Roads.Rematch = false
-isNeed (Roads.Refused number) = false
+abbrev pub is_need : RoadOutcome.Outcome → Bool
+is_need (Roads.Need key) = true
+is_need (Roads.Road p) = false
+is_need Roads.Rematch = false
+is_need (Roads.Refused number) = false
 
-abbrev pub taskRemembers : Task → Engine → List ℕ → Bool
-taskRemembers (Tasks.road f found) e arena =
-    let r = roadAt e arena found in isNeed r.predicted.answer && not (mayAsk e.follower.due r.predicted.cache.pages.count)
-taskRemembers (Tasks.offMap f) e arena = false
-taskRemembers (Tasks.match f) e arena = false
-taskRemembers Tasks.none e arena = false
+abbrev pub task_remembers : Task → Engine → List ℕ → Bool
+task_remembers (Tasks.road f found) e arena =
+    let r = road_at e arena found in is_need r.predicted.answer && not (may_ask e.follower.due r.predicted.cache.pages.count)
+task_remembers (Tasks.off_map f) e arena = false
+task_remembers (Tasks.match f) e arena = false
+task_remembers Tasks.none e arena = false
 
 -- a step publishes no empty Memory answer, nor does one over a lent pack
 pub record NoMemory (w : World) (c : Call) : Type 0 where
-  pub step : c ≡ Calls.step → taskRemembers (task_of w.engine) w.engine w.arena ≡ false
-  pub lent : (Q : List ℕ) → c ≡ Calls.stepFrom Q → taskRemembers (task_of w.engine) w.engine w.arena ≡ false
+  pub step : c ≡ Calls.step → task_remembers (task_of w.engine) w.engine w.arena ≡ false
+  pub lent : (Q : List ℕ) → c ≡ Calls.step_from Q → task_remembers (task_of w.engine) w.engine w.arena ≡ false
 
 -- the last match beside the engine, before its next step
 pub record Tells (last : Current) (w : World) : Type 0 where
   pub published : last ≡ w.engine.follower.ahead.matched
-  pub offMap : (f : Fix) → engineOk w.engine (length w.arena) ≡ true → task_of w.engine ≡ Tasks.offMap f
-      → isRoad (stepShown w.engine w.arena) ≡ isMatched last
-  pub noneFound : (f : Fix) → engineOk w.engine (length w.arena) ≡ true → task_of w.engine ≡ Tasks.match f
-      → (match_of w.engine w.arena f).answer ≡ Match.Nothing → isRoad (stepShown w.engine w.arena) ≡ isMatched last
+  pub off_map : (f : Fix) → engine_ok w.engine (length w.arena) ≡ true → task_of w.engine ≡ Tasks.off_map f
+      → is_road (step_shown w.engine w.arena) ≡ is_matched last
+  pub none_found : (f : Fix) → engine_ok w.engine (length w.arena) ≡ true → task_of w.engine ≡ Tasks.match f
+      → (match_of w.engine w.arena f).answer ≡ Match.Nothing → is_road (step_shown w.engine w.arena) ≡ is_matched last
 
 abbrev pub AllLast : Type 0
 AllLast =
     (n : ℕ) → n ≤ 96 → (horizon : Float) (arena P : List ℕ) (cs : List Call) → AllFair P cs (start n horizon arena) →
     Along NoMemory cs (start n horizon arena) →
-    Tells (last_of (directAfter (directly n) (made_of n horizon) P cs (tolds cs (start n horizon arena)) newDirect)) (after cs (start n horizon arena))
+    Tells (last_of (direct_after (directly n) (made_of n horizon) P cs (tolds cs (start n horizon arena)) new_direct)) (after cs (start n horizon arena))

@@ -16,7 +16,7 @@ use Rattle.matcher.specs.declared.CurrentRead.{CurrentRead}
 use Rattle.matcher.specs.declared.Matcher.{Matcher}
 use Rattle.matcher.specs.declared.Outcome as MatchOutcome
 use Rattle.matcher.specs.Numbers as Matchers
-use Rattle.matcher.specs.Numbers.{numberOfAnswer, numberOfCurrentRead}
+use Rattle.matcher.specs.Numbers.{number_of_answer, number_of_current_read}
 use Rattle.predict.specs.Predict as Predict
 use Rattle.predict.specs.Numbers as Roads
 use Rattle.predict.specs.declared.Outcome as RoadOutcome
@@ -24,7 +24,7 @@ use Rattle.engine.specs.Follow as Followers
 use Rattle.engine.specs.declared.Fix.{Fix}
 use Rattle.engine.specs.State.{unread}
 use Rattle.engine.specs.Calls as Engines
-pub use Rattle.engine.specs.Numbers.{numberOfTaken, numberOfStatus, numberOfKnown, numberOfHeadingRead, numberOfCount}
+pub use Rattle.engine.specs.Numbers.{number_of_taken, number_of_status, number_of_known, number_of_heading_read, number_of_count}
 use Rattle.engine.specs.Deliver.{After}
 use Rattle.engine.specs.declared.Changed.{Changed}
 use Rattle.engine.specs.declared.Count.{Count}
@@ -42,23 +42,23 @@ pub record World : Type 0 where
 
 -- what the engine is asked for and changes nothing
 pub data Reading : Type 0 where
-  itsAhead : Reading
-  itsHeader : Reading
-  itsHeading : Reading
-  itsLoads : Reading
-  itsSteps : Reading
+  its_ahead : Reading
+  its_header : Reading
+  its_heading : Reading
+  its_loads : Reading
+  its_steps : Reading
 
--- a reset names the pack that is read from then on; a delivery has a failure (0: none) and bytes; `stepFrom` is lent a whole pack
+-- a reset names the pack that is read from then on; a delivery has a failure (0: none) and bytes; `step_from` is lent a whole pack
 pub data Call : Type 0 where
   fix : Fix → Call
   lost : Call
   reset : List ℕ → Call
   step : Call
   deliver : ℕ → List ℕ → Call
-  stepFrom : List ℕ → Call
+  step_from : List ℕ → Call
   read : Reading → Call
   -- direct calls: of the cache; of the matcher; of the road ahead
-  onCache : Cached.Call → Call
+  on_cache : Cached.Call → Call
   nearby : Header → Point → Call
   current : Matcher → Call
   update : Matcher → Header → Point → Heading → Call
@@ -96,24 +96,24 @@ abbrev pub delivered : After → Done
 delivered a = record { world = record { engine = a.engine; arena = a.arena }; answer = status a.answer }
 
 abbrev pub reading : Reading → Engine → List ℕ → Answer
-reading itsAhead e arena = known (Engines.ahead e arena).answer
-reading itsHeader e arena = known (Engines.header e arena).answer
-reading itsHeading e arena = headed (Engines.heading e arena)
-reading itsLoads e arena = counted (Engines.loads e arena)
-reading itsSteps e arena = counted (Engines.steps e arena)
+reading its_ahead e arena = known (Engines.ahead e arena).answer
+reading its_header e arena = known (Engines.header e arena).answer
+reading its_heading e arena = headed (Engines.heading e arena)
+reading its_loads e arena = counted (Engines.loads e arena)
+reading its_steps e arena = counted (Engines.steps e arena)
 
 -- the engine with another state of its cache
-abbrev pub withCache : Engine → Cache → Engine
-withCache e c = record { shared = record { phase = e.shared.phase; header = e.shared.header; cache = c }; follower = e.follower }
+abbrev pub with_cache : Engine → Cache → Engine
+with_cache e c = record { shared = record { phase = e.shared.phase; header = e.shared.header; cache = c }; follower = e.follower }
 
-abbrev pub cacheOf : World → Cached.World
-cacheOf w = record { cache = w.engine.shared.cache; arena = w.arena }
+abbrev pub cache_of : World → Cached.World
+cache_of w = record { cache = w.engine.shared.cache; arena = w.arena }
 
-abbrev pub inCache : World → Cached.Done → Done
-inCache w d = record { world = record { engine = withCache w.engine d.world.cache; arena = d.world.arena }; answer = cached d.answer }
+abbrev pub in_cache : World → Cached.Done → Done
+in_cache w d = record { world = record { engine = with_cache w.engine d.world.cache; arena = d.world.arena }; answer = cached d.answer }
 
 abbrev pub aged : World → Cache → Answer → Done
-aged w c a = record { world = record { engine = withCache w.engine c; arena = w.arena }; answer = a }
+aged w c a = record { world = record { engine = with_cache w.engine c; arena = w.arena }; answer = a }
 
 unfoldable pub exec : Call → World → Done
 exec (fix f) w = changed w (Engines.fix w.engine w.arena f)
@@ -121,9 +121,9 @@ exec lost w = changed w (Engines.lost w.engine w.arena)
 exec (reset P) w = changed w (Engines.reset w.engine w.arena)
 exec step w = stepped w (Engines.step w.engine w.arena)
 exec (deliver failure bs) w = delivered (Engines.deliver w.engine w.arena failure bs)
-exec (stepFrom Q) w = delivered (Engines.stepFrom w.engine w.arena Q)
+exec (step_from Q) w = delivered (Engines.step_from w.engine w.arena Q)
 exec (read r) w = same w (reading r w.engine w.arena)
-exec (onCache c) w = inCache w (Cached.exec c (cacheOf w))
+exec (on_cache c) w = in_cache w (Cached.exec c (cache_of w))
 exec (nearby h p) w = same w (around (Matching.nearby h p).answer)
 exec (current m) w = same w (holding (Matching.current m))
 exec (update m h p heading) w =
@@ -135,16 +135,16 @@ exec (predict h m horizon samples behind) w =
 -- ---- document 01's number of a refusal, 0 for any other answer: a step of a load that failed is none
 
 abbrev pub number : Answer → ℕ
-number (taken a) = numberOfTaken a
-number (status a) = numberOfStatus a
-number (known a) = numberOfKnown a
-number (headed a) = numberOfHeadingRead a
-number (counted a) = numberOfCount a
+number (taken a) = number_of_taken a
+number (status a) = number_of_status a
+number (known a) = number_of_known a
+number (headed a) = number_of_heading_read a
+number (counted a) = number_of_count a
 number (cached a) = CacheClaims.number a
-number (around a) = numberOfAnswer a
-number (holding a) = numberOfCurrentRead a
-number (matched a m) = Matchers.numberOfOutcome a
-number (predicted a samples behind) = Roads.numberOfOutcome a
+number (around a) = number_of_answer a
+number (holding a) = number_of_current_read a
+number (matched a m) = Matchers.number_of_outcome a
+number (predicted a samples behind) = Roads.number_of_outcome a
 
 -- ---- lists
 

@@ -7,18 +7,18 @@ use Rattle.std.specs.Prelude.{ℕ, ◌≤◌, ◌≡◌, false, List, [], ◌∷
 use Rattle.matcher.specs.declared.Current.{Current}
 use Rattle.matcher.specs.declared.Current.TheVariants as Current
 use Rattle.matcher.specs.declared.Matched.{Matched}
-use Rattle.engine.specs.Publish.{nothingAhead, forgotten, withMatch}
+use Rattle.engine.specs.Publish.{nothing_ahead, forgotten, with_match}
 use Rattle.engine.specs.declared.Ahead.{Ahead}
 use Rattle.engine.specs.declared.Fix.{Fix}
 use Rattle.engine.specs.declared.MaybeFix.TheVariants as MaybeFix
-use Rattle.engine.specs.Work.{mayAsk, noRoad}
+use Rattle.engine.specs.Work.{may_ask, no_road}
 use Rattle.engine.specs.Calls as Engines
 use Rattle.engine.specs.declared.Engine.{Engine}
 use Rattle.direct.specs.Lists as Calls
 use Rattle.direct.specs.Lists.{World, Call, exec, start, Along}
 use Rattle.direct.specs.Finished as Shows
-use Rattle.direct.specs.Finished.{Road, roadOf, Shown, shown}
-use Rattle.direct.specs.Direct.{directly, newDirect, directShows}
+use Rattle.direct.specs.Finished.{Road, road_of, Shown, shown}
+use Rattle.direct.specs.Direct.{directly, new_direct, direct_shows}
 use Rattle.direct.specs.Claims.{tolds, shows, AllFair, made_of}
 use Rattle.direct.specs.Story.{after}
 
@@ -50,23 +50,23 @@ FinishedMatch c Shows.unanswered = ⊥
 
 -- the empty Memory answer, at the newest fix, for the current match, where the road asked for as many tiles as it may
 pub record AtLimit (e : Engine) (pages : ℕ) (a : Ahead) : Type 0 where
-  pub asked : mayAsk e.follower.due pages ≡ false
+  pub asked : may_ask e.follower.due pages ≡ false
   pub fix : Fix
   pub found : Matched
   pub newest : e.follower.sight.fix ≡ MaybeFix.Is fix
   pub current : e.follower.matcher.current ≡ Current.Is found
-  pub memory : a ≡ withMatch e.follower.ahead fix.at_ms found noRoad
+  pub memory : a ≡ with_match e.follower.ahead fix.at_ms found no_road
 
 -- the road that stands published after a call: as it was, every field; the one that the call finished; the empty one with the next generation; the
 -- empty Memory answer of a step, or of one over a lent pack
 pub data Publishes (w : World) : Call → Ahead → Type 0 where
   kept : {c : Call} → Publishes w c w.engine.follower.ahead
-  finished : {c : Call} {a : Ahead} → FinishedRoad (roadOf a) (shown w c) → Publishes w c a
-  byLost : Publishes w Calls.lost (forgotten w.engine.follower.ahead)
-  byReset : {P : List ℕ} → Publishes w (Calls.reset P) (forgotten w.engine.follower.ahead)
-  atLimit : {a : Ahead} → AtLimit w.engine (exec Calls.step w).world.engine.shared.cache.pages.count a → Publishes w Calls.step a
-  lentAtLimit : {Q : List ℕ} {a : Ahead} → AtLimit w.engine (exec (Calls.stepFrom Q) w).world.engine.shared.cache.pages.count a
-      → Publishes w (Calls.stepFrom Q) a
+  finished : {c : Call} {a : Ahead} → FinishedRoad (road_of a) (shown w c) → Publishes w c a
+  by_lost : Publishes w Calls.lost (forgotten w.engine.follower.ahead)
+  by_reset : {P : List ℕ} → Publishes w (Calls.reset P) (forgotten w.engine.follower.ahead)
+  at_limit : {a : Ahead} → AtLimit w.engine (exec Calls.step w).world.engine.shared.cache.pages.count a → Publishes w Calls.step a
+  lent_at_limit : {Q : List ℕ} {a : Ahead} → AtLimit w.engine (exec (Calls.step_from Q) w).world.engine.shared.cache.pages.count a
+      → Publishes w (Calls.step_from Q) a
 
 abbrev pub AllPublished : Type 0
 AllPublished =
@@ -82,21 +82,21 @@ Among Q (s ∷ ss) = Q s ⊎ Among Q ss
 
 -- no match and no height: `Ahead::default()`
 abbrev pub blank : Road
-blank = roadOf (nothingAhead 0)
+blank = road_of (nothing_ahead 0)
 
 -- the empty Memory answer for a match
-abbrev pub memoryOf : ℕ → Matched → Road
-memoryOf at found = roadOf (withMatch (nothingAhead 0) at found noRoad)
+abbrev pub memory_of : ℕ → Matched → Road
+memory_of at found = road_of (with_match (nothing_ahead 0) at found no_road)
 
 -- a road that is read: none; one that was finished; the empty Memory answer for a match that was finished
 pub data Read (ss : List Shown) (r : Road) : Type 0 where
-  isBlank : r ≡ blank → Read ss r
-  wasFinished : Among (FinishedRoad r) ss → Read ss r
-  isMemory : (at : ℕ) (found : Matched) → r ≡ memoryOf at found → Among (FinishedMatch (Current.Is found)) ss → Read ss r
+  is_blank : r ≡ blank → Read ss r
+  was_finished : Among (FinishedRoad r) ss → Read ss r
+  is_memory : (at : ℕ) (found : Matched) → r ≡ memory_of at found → Among (FinishedMatch (Current.Is found)) ss → Read ss r
 
 -- the road that `ahead` answers
 abbrev pub read_of : World → Road
-read_of w = roadOf (Engines.ahead w.engine w.arena).ahead
+read_of w = road_of (Engines.ahead w.engine w.arena).ahead
 
 -- after any list of calls a host reads what the list finished
 abbrev pub AllRead : Type 0
@@ -107,4 +107,4 @@ AllRead =
 abbrev pub AllReadDirect : Type 0
 AllReadDirect =
     (n : ℕ) → n ≤ 96 → (horizon : Float) (arena P : List ℕ) (cs : List Call) → AllFair P cs (start n horizon arena) →
-    Read (directShows (directly n) (made_of n horizon) P cs (tolds cs (start n horizon arena)) newDirect) (read_of (after cs (start n horizon arena)))
+    Read (direct_shows (directly n) (made_of n horizon) P cs (tolds cs (start n horizon arena)) new_direct) (read_of (after cs (start n horizon arena)))

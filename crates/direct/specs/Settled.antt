@@ -4,9 +4,9 @@
 -- clears the matcher where it has a match.
 use Rattle.std.specs.Prelude.{ℕ, ◌≤◌, ◌≡◌, Bool, true, false, ◌||◌, not, cond, List, [], ◌∷◌, ◌++◌, Float}
 use Rattle.matcher.specs.Calls as Matching
-use Rattle.engine.specs.Follow.{isMatched}
-use Rattle.engine.specs.State.{isFailed}
-use Rattle.engine.specs.Work.{offMap}
+use Rattle.engine.specs.Follow.{is_matched}
+use Rattle.engine.specs.State.{is_failed}
+use Rattle.engine.specs.Work.{off_map}
 use Rattle.engine.specs.Calls as Engines
 use Rattle.engine.specs.declared.Engine.{Engine}
 use Rattle.engine.specs.declared.Fix.{Fix}
@@ -27,38 +27,38 @@ abbrev pub AllCleared : Type 0
 AllCleared =
     (n : ℕ) (horizon : Float) (arena : List ℕ) (cs : List Call) (fix : Fix) →
     let f = (after cs (start n horizon arena)).engine.follower in
-    f.due.road ≡ false → (offMap f fix).matcher ≡ cond (isMatched f.matcher.current) Matching.reset f.matcher
+    f.due.road ≡ false → (off_map f fix).matcher ≡ cond (is_matched f.matcher.current) Matching.reset f.matcher
 
 -- ---- two lists
 
 -- neither a match nor a road is due; or the pack has failed, and nothing is worked at before the next reset
-abbrev pub isSettled : Engine → Bool
-isSettled e = isFailed e.shared.phase || not (e.follower.due.matching || e.follower.due.road)
+abbrev pub is_settled : Engine → Bool
+is_settled e = is_failed e.shared.phase || not (e.follower.due.matching || e.follower.due.road)
 
 -- a fix is given only then
 abbrev pub Settles : World → Call → Type 0
-Settles w c = (f : Fix) → c ≡ Calls.fix f → isSettled w.engine ≡ true
+Settles w c = (f : Fix) → c ≡ Calls.fix f → is_settled w.engine ≡ true
 
-abbrev pub isCleared : Event → Bool
-isCleared Story.cleared = true
-isCleared (Story.fixed f) = false
-isCleared Story.lost = false
-isCleared (Story.reset P) = false
-isCleared Story.matched = false
+abbrev pub is_cleared : Event → Bool
+is_cleared Story.cleared = true
+is_cleared (Story.fixed f) = false
+is_cleared Story.lost = false
+is_cleared (Story.reset P) = false
+is_cleared Story.matched = false
 
 -- the fixes and losses taken, the resets, and which fixes were matched
-unfoldable pub withoutCleared : List Event → List Event
-withoutCleared [] = []
-withoutCleared (x ∷ xs) = cond (isCleared x) (withoutCleared xs) (x ∷ withoutCleared xs)
+unfoldable pub without_cleared : List Event → List Event
+without_cleared [] = []
+without_cleared (x ∷ xs) = cond (is_cleared x) (without_cleared xs) (x ∷ without_cleared xs)
 
 -- there is nothing to do before the next fix
-abbrev pub isResting : Status → Bool
-isResting Status.Idle = true
-isResting Status.OffMap = true
-isResting Status.NoPack = true
-isResting Status.Working = false
-isResting (Status.Fetch offset len) = false
-isResting (Status.Refused number) = false
+abbrev pub is_resting : Status → Bool
+is_resting Status.Idle = true
+is_resting Status.OffMap = true
+is_resting Status.NoPack = true
+is_resting Status.Working = false
+is_resting (Status.Fetch offset len) = false
+is_resting (Status.Refused number) = false
 
 -- so a host that calls `step` until it rests before it gives a fix keeps to this: after a fair list that kept to it, a step that rests leaves the engine
 -- settled
@@ -67,12 +67,12 @@ AllRested =
     (n : ℕ) → n ≤ 96 → (horizon : Float) (arena P : List ℕ) (cs : List Call) → AllFair P cs (start n horizon arena) →
     Along Settles cs (start n horizon arena) →
     let w = after cs (start n horizon arena) in
-    isResting (Engines.step w.engine w.arena).answer ≡ true → isSettled (Engines.step w.engine w.arena).engine ≡ true
+    is_resting (Engines.step w.engine w.arena).answer ≡ true → is_settled (Engines.step w.engine w.arena).engine ≡ true
 
 -- as `AllStories`, of lists that settle before each fix
 abbrev pub AllSettled : Type 0
 AllSettled =
     (n : ℕ) → n ≤ 96 → (horizon : Float) (P one two : List ℕ) (cs ds : List Call) (c : Call) → AllFair P (cs ++ (c ∷ [])) (start n horizon one) →
     AllFair P (ds ++ (c ∷ [])) (start n horizon two) → Along Settles cs (start n horizon one) → Along Settles ds (start n horizon two) →
-    withoutCleared (story cs (start n horizon one)) ≡ withoutCleared (story ds (start n horizon two)) →
+    without_cleared (story cs (start n horizon one)) ≡ without_cleared (story ds (start n horizon two)) →
     SameFinish (shown (after cs (start n horizon one)) c) (shown (after ds (start n horizon two)) c)

@@ -11,7 +11,7 @@ use Rattle.engine.specs.declared.Fix.{Fix}
 use Rattle.direct.specs.Lists as Calls
 use Rattle.direct.specs.Lists.{World, Call, number, exec, start}
 use Rattle.direct.specs.Finished as Shows
-use Rattle.direct.specs.Finished.{Shown, isMatch, isRoad, shown}
+use Rattle.direct.specs.Finished.{Shown, is_match, is_road, shown}
 use Rattle.direct.specs.Claims.{AllFair}
 
 pub data Event : Type 0 where
@@ -28,26 +28,26 @@ pub data Event : Type 0 where
 abbrev pub taken : ℕ → Event → List Event
 taken k x = cond (eqb k 0) (x ∷ []) []
 
-abbrev pub eventsOf : Shown → List Event
-eventsOf Shows.nothing = []
-eventsOf (Shows.matched m) = matched ∷ []
-eventsOf (Shows.unmatched m r) = matched ∷ []
-eventsOf (Shows.published r) = []
-eventsOf (Shows.again k m) = cleared ∷ []
-eventsOf (Shows.emptied m r) = cleared ∷ []
-eventsOf (Shows.updated a m) = []
-eventsOf (Shows.predicted a samples behind) = []
-eventsOf Shows.unanswered = []
+abbrev pub events_of : Shown → List Event
+events_of Shows.nothing = []
+events_of (Shows.matched m) = matched ∷ []
+events_of (Shows.unmatched m r) = matched ∷ []
+events_of (Shows.published r) = []
+events_of (Shows.again k m) = cleared ∷ []
+events_of (Shows.emptied m r) = cleared ∷ []
+events_of (Shows.updated a m) = []
+events_of (Shows.predicted a samples behind) = []
+events_of Shows.unanswered = []
 
 unfoldable pub events : World → Call → List Event
 events w (Calls.fix f) = taken (number (exec (Calls.fix f) w).answer) (fixed f)
 events w Calls.lost = taken (number (exec Calls.lost w).answer) lost
 events w (Calls.reset P) = taken (number (exec (Calls.reset P) w).answer) (reset P)
-events w Calls.step = eventsOf (shown w Calls.step)
-events w (Calls.stepFrom Q) = eventsOf (shown w (Calls.stepFrom Q))
+events w Calls.step = events_of (shown w Calls.step)
+events w (Calls.step_from Q) = events_of (shown w (Calls.step_from Q))
 events w (Calls.deliver failure bs) = []
 events w (Calls.read r) = []
-events w (Calls.onCache c) = []
+events w (Calls.on_cache c) = []
 events w (Calls.nearby h p) = []
 events w (Calls.current m) = []
 events w (Calls.update m h p heading) = []
@@ -63,21 +63,21 @@ after [] w = w
 after (c ∷ cs) w = after cs (exec c w).world
 
 -- the matcher of a finished match: its current match, or none, is how it ended
-abbrev pub matcherOf : Shown → Matcher
-matcherOf Shows.nothing = Matching.reset
-matcherOf (Shows.matched m) = m
-matcherOf (Shows.unmatched m r) = m
-matcherOf (Shows.published r) = Matching.reset
-matcherOf (Shows.again k m) = m
-matcherOf (Shows.emptied m r) = m
-matcherOf (Shows.updated a m) = m
-matcherOf (Shows.predicted a samples behind) = Matching.reset
-matcherOf Shows.unanswered = Matching.reset
+abbrev pub matcher_of : Shown → Matcher
+matcher_of Shows.nothing = Matching.reset
+matcher_of (Shows.matched m) = m
+matcher_of (Shows.unmatched m r) = m
+matcher_of (Shows.published r) = Matching.reset
+matcher_of (Shows.again k m) = m
+matcher_of (Shows.emptied m r) = m
+matcher_of (Shows.updated a m) = m
+matcher_of (Shows.predicted a samples behind) = Matching.reset
+matcher_of Shows.unanswered = Matching.reset
 
 -- two finished by one call: matches are equal, whether or not a road was emptied with them; so is all of it where the same was finished
 pub record SameFinish (s t : Shown) : Type 0 where
-  pub matches : isMatch s ≡ true → isMatch t ≡ true → matcherOf t ≡ matcherOf s
-  pub all : isMatch t ≡ isMatch s → isRoad t ≡ isRoad s → t ≡ s
+  pub matches : is_match s ≡ true → is_match t ≡ true → matcher_of t ≡ matcher_of s
+  pub all : is_match t ≡ is_match s → is_road t ≡ is_road s → t ≡ s
 
 -- two lists over their own arenas, of the same page count and horizon and the same pack at first, with the same story: whatever a call finishes after
 -- the one, it finishes equally after the other, a direct call too. Which reads failed, what was evicted or dropped, and the direct calls before it may

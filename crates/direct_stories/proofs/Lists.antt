@@ -1,7 +1,7 @@
 -- The corollary is not empty: two lists of calls, computed from the definitions, with one story (`story-one`, `story-two`), in which the premises hold
--- (`fair-one`, `fair-two`). Both have a reset, a match and a road, a fix off the map that clears the match, and a fix for which no match is found. In
+-- (`fair_one`, `fair_two`). Both have a reset, a match and a road, a fix off the map that clears the match, and a fix for which no match is found. In
 -- the second reads of header and chunk are missed, a fetch is withdrawn, a direct `update` is made, and the tile is cleared away and loaded again. The
--- next step of each finishes a match, which is none (`ends-one`, `ends-two`, `none_found`), and by `all-stories` these are equal (`same-match`). A direct `predict` and the empty
+-- next step of each finishes a match, which is none (`ends_one`, `ends_two`, `none_found`), and by `all_stories` these are equal (`same_match`). A direct `predict` and the empty
 -- Memory answer, which takes nineteen loads, are left out as too long to compute.
 use mathlib.Core.Path.{◌≡◌, refl, sym, ◌∙◌}
 use mathlib.Core.Bool.{true}
@@ -23,17 +23,17 @@ use Rattle.engine.specs.State as Engines
 use Rattle.engine.specs.Work as Work
 use Rattle.engine.specs.Calls as Calls
 use Rattle.engine.specs.declared.Fix.{Fix}
-use Rattle.direct.specs.Lists.{Call, fix, reset, step, deliver, stepFrom, onCache, update}
-use Rattle.direct.specs.Finished.{isMatch, shown}
+use Rattle.direct.specs.Lists.{Call, fix, reset, step, deliver, step_from, on_cache, update}
+use Rattle.direct.specs.Finished.{is_match, shown}
 use Rattle.direct.specs.Claims.{AllFair}
 use Rattle.direct.specs.Story as Story
-use Rattle.direct.specs.Story.{Event, story, after, matcherOf}
-use Rattle.direct.proofs.Stories.{all-stories}
-use Rattle.direct_witness.proofs.Witness.{lists, pack, header, horizon, begin, fixAt, parsed, no-failure}
+use Rattle.direct.specs.Story.{Event, story, after, matcher_of}
+use Rattle.direct.proofs.Stories.{all_stories}
+use Rattle.direct_witness.proofs.Witness.{lists, pack, header, horizon, begin, fix_at, parsed, no_failure}
 
 -- on the road; south of the grid; far from the road
 abbrev on : Fix
-on = fixAt 5000 1000
+on = fix_at 5000 1000
 
 abbrev off : Fix
 off = record { lat = negsuc 9; lon = pos 5000; at_ms = 2000 }
@@ -44,22 +44,22 @@ far = record { lat = pos 9000; lon = pos 5000; at_ms = 3000 }
 -- every read answered: the header, the entry and the tile; then the match and the road; off the map; and the far fix
 abbrev pub one : List Call
 one =
-    reset pack ∷ fix on ∷ stepFrom pack ∷ step ∷ stepFrom pack ∷ stepFrom pack ∷ step ∷ step
+    reset pack ∷ fix on ∷ step_from pack ∷ step ∷ step_from pack ∷ step_from pack ∷ step ∷ step
     ∷ fix off ∷ step ∷ fix far ∷ []
 
 -- the header's fetch withdrawn by the reset, then missed; the chunk missed, so that the entry is read again; a match by a direct call; and once the fix is
 -- far the tile is cleared away and read again
 abbrev pub two : List Call
 two =
-    step ∷ reset pack ∷ fix on ∷ step ∷ deliver 1 [] ∷ stepFrom pack ∷ step ∷ stepFrom pack ∷ step ∷ deliver 1 [] ∷ stepFrom pack ∷ stepFrom pack
+    step ∷ reset pack ∷ fix on ∷ step ∷ deliver 1 [] ∷ step_from pack ∷ step ∷ step_from pack ∷ step ∷ deliver 1 [] ∷ step_from pack ∷ step_from pack
     ∷ update Matching.reset header (record { lat = pos 5000; lon = pos 5000 }) Heading.Nothing ∷ step ∷ step
-    ∷ fix off ∷ step ∷ fix far ∷ onCache Cached.clear ∷ step ∷ stepFrom pack ∷ stepFrom pack ∷ []
+    ∷ fix off ∷ step ∷ fix far ∷ on_cache Cached.clear ∷ step ∷ step_from pack ∷ step_from pack ∷ []
 
 abbrev pub told : List Event
 told = Story.reset pack ∷ Story.fixed on ∷ Story.matched ∷ Story.fixed off ∷ Story.cleared ∷ Story.fixed far ∷ []
 
 unfoldable all : Unit {0}
-unfolding lists Caches.cleared Caches.lentOk CacheCalls.clear Matching.update Matchers.callOk Settle.missed Publish.withoutMatch Followers.reset Engines.forgotten Work.offMap Calls.reset
+unfolding lists Caches.cleared Caches.lent_ok CacheCalls.clear Matching.update Matchers.call_ok Settle.missed Publish.without_match Followers.reset Engines.forgotten Work.off_map Calls.reset
 all = tt
 
 pub story-one : story one begin ≡ told
@@ -70,31 +70,31 @@ pub story-two : story two begin ≡ told
 unfolding all Story.events Story.story
 story-two = refl
 
-pub ends-one : isMatch (shown (after one begin) step) ≡ true
+pub ends_one : is_match (shown (after one begin) step) ≡ true
 unfolding all Story.after
-ends-one = refl
+ends_one = refl
 
-pub ends-two : isMatch (shown (after two begin) step) ≡ true
+pub ends_two : is_match (shown (after two begin) step) ≡ true
 unfolding all Story.after
-ends-two = refl
+ends_two = refl
 
 -- the far fix has no match
-pub none_found : (matcherOf (shown (after one begin) step)).current ≡ Current.Nothing
+pub none_found : (matcher_of (shown (after one begin) step)).current ≡ Current.Nothing
 unfolding all Story.after
 none_found = refl
 
-pub fair-one : AllFair pack (one ++ (step ∷ [])) begin
+pub fair_one : AllFair pack (one ++ (step ∷ [])) begin
 unfolding all AllFair
-fair-one = (tt, (tt, (λ i. (i, refl), (tt, (λ i. (i, refl), (λ i. (i, refl), (tt, (tt, (tt, (tt, (tt, (tt, tt))))))))))))
+fair_one = (tt, (tt, (λ i. (i, refl), (tt, (λ i. (i, refl), (λ i. (i, refl), (tt, (tt, (tt, (tt, (tt, (tt, tt))))))))))))
 
-pub fair-two : AllFair pack (two ++ (step ∷ [])) begin
+pub fair_two : AllFair pack (two ++ (step ∷ [])) begin
 unfolding all AllFair
-fair-two = (
+fair_two = (
   tt,
-  (tt, (tt, (tt, (λ a. no-failure, (λ i. (i, refl), (tt, (λ i. (i, refl), (tt, (λ a. no-failure, (λ i. (i, refl), (λ i. (i, refl), (parsed, (tt, (tt, (tt, (tt, (tt, (tt, (tt, (λ i. (i, refl), (λ i. (i, refl), (tt, tt)))))))))))))))))))))),
+  (tt, (tt, (tt, (λ a. no_failure, (λ i. (i, refl), (tt, (λ i. (i, refl), (tt, (λ a. no_failure, (λ i. (i, refl), (λ i. (i, refl), (parsed, (tt, (tt, (tt, (tt, (tt, (tt, (tt, (λ i. (i, refl), (λ i. (i, refl), (tt, tt)))))))))))))))))))))),
 )
 
-pub same-match : matcherOf (shown (after two begin) step) ≡ matcherOf (shown (after one begin) step)
-same-match =
-    (all-stories 1 (omega arith) horizon pack (replicate 8192 0) (replicate 8192 0) one two step fair-one fair-two (story-one ∙ sym story-two)
-    ).matches ends-one ends-two
+pub same_match : matcher_of (shown (after two begin) step) ≡ matcher_of (shown (after one begin) step)
+same_match =
+    (all_stories 1 (omega arith) horizon pack (replicate 8192 0) (replicate 8192 0) one two step fair_one fair_two (story-one ∙ sym story-two)
+    ).matches ends_one ends_two

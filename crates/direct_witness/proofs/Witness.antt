@@ -1,6 +1,6 @@
--- Demand 3's theorem is not empty: a list of calls, computed from the definitions, in which its premises hold (`fair`), reads fail (`header-missed`,
--- `entry-missed`), a tile is evicted and loaded again (`answered`, `ready`, `evicted`), fixes come while a fetch is open, and a match and a road are
--- finished (`finished`) and read (`read`): so they are the direct engine's (`direct-finished`).
+-- Demand 3's theorem is not empty: a list of calls, computed from the definitions, in which its premises hold (`fair`), reads fail (`header_missed`,
+-- `entry_missed`), a tile is evicted and loaded again (`answered`, `ready`, `evicted`), fixes come while a fetch is open, and a match and a road are
+-- finished (`finished`) and read (`read`): so they are the direct engine's (`direct_finished`).
 use Prim.Native.Nat.{ℕ, ◌+◌, ◌≤◌}
 use mathlib.Core.Path.{◌≡◌, refl, ◌∙◌}
 use mathlib.Core.Bool.{true, false}
@@ -75,9 +75,9 @@ use Rattle.engine.specs.Work as Work
 use Rattle.engine.specs.Deliver as Deliver
 use Rattle.engine.specs.Steps as Steps
 use Rattle.engine.specs.Calls as Calls
-use Rattle.direct.specs.Lists.{World, Call, fix, step, deliver, stepFrom, onCache, Answer, taken, status, cached, exec, start}
-use Rattle.direct.specs.Finished.{Shown, nothing, matched, published, Road, shown, stepShown, task_of}
-use Rattle.direct.specs.Direct.{directly, newDirect, directShows}
+use Rattle.direct.specs.Lists.{World, Call, fix, step, deliver, step_from, on_cache, Answer, taken, status, cached, exec, start}
+use Rattle.direct.specs.Finished.{Shown, nothing, matched, published, Road, shown, step_shown, task_of}
+use Rattle.direct.specs.Direct.{directly, new_direct, direct_shows}
 use Rattle.direct.specs.Claims.{tolds, shows, AllFair, made_of}
 use Rattle.direct.specs.Story as Story
 use Rattle.direct.specs.Published.{read_of}
@@ -98,8 +98,8 @@ abbrev pub directory : List ℕ
 directory = 16 ∷ 2 ∷ 0 ∷ 0 ∷ 68 ∷ 0 ∷ 0 ∷ 0 ∷ 84 ∷ 2 ∷ 0 ∷ 0 ∷ 32 ∷ 0 ∷ 0 ∷ 0 ∷ []
 
 -- one road, due east from (1000, 5000) to (9000, 5000), some 890 m that climb from 100 m to 110 m
-abbrev pub roadTile : List ℕ
-roadTile =
+abbrev pub road_tile : List ℕ
+road_tile =
     86 ∷ 84 ∷ 1 ∷ 0 ∷ 0 ∷ 0 ∷ 0 ∷ 0 ∷ 2 ∷ 0 ∷ 1 ∷ 0 ∷ 0 ∷ 0 ∷ 0 ∷ 0  -- "VT", version, key (0, 0); nodes, edges, vertices
     ∷ 91 ∷ 178 ∷ 1 ∷ 0 ∷ 0 ∷ 0 ∷ 0 ∷ 0 ∷ 60 ∷ 71 ∷ 48 ∷ 207 ∷ 0 ∷ 0 ∷ 0 ∷ 0  -- lon_um; the CRC
     ∷ 232 ∷ 3 ∷ 136 ∷ 19 ∷ 184 ∷ 11 ∷ 0 ∷ 0 ∷ 40 ∷ 35 ∷ 136 ∷ 19 ∷ 234 ∷ 11 ∷ 1 ∷ 0  -- its nodes
@@ -107,14 +107,14 @@ roadTile =
     ∷ []
 
 -- no road
-abbrev pub emptyTile : List ℕ
-emptyTile =
+abbrev pub empty_tile : List ℕ
+empty_tile =
     86 ∷ 84 ∷ 1 ∷ 0 ∷ 0 ∷ 0 ∷ 1 ∷ 0 ∷ 0 ∷ 0 ∷ 0 ∷ 0 ∷ 0 ∷ 0 ∷ 0 ∷ 0  -- "VT", version, key (0, 1)
     ∷ 91 ∷ 178 ∷ 1 ∷ 0 ∷ 0 ∷ 0 ∷ 0 ∷ 0 ∷ 130 ∷ 38 ∷ 214 ∷ 28 ∷ 0 ∷ 0 ∷ 0 ∷ 0  -- lon_um; the CRC
     ∷ []
 
 abbrev pub pack : List ℕ
-pack = sector ++ (directory ++ (roadTile ++ emptyTile))
+pack = sector ++ (directory ++ (road_tile ++ empty_tile))
 
 abbrev pub header : Header
 header = record {
@@ -132,11 +132,11 @@ header = record {
   attribution_len = 0;
 }
 
-abbrev pub roadKey : TileKey
-roadKey = record { row = 0; col = 0 }
+abbrev pub road_key : TileKey
+road_key = record { row = 0; col = 0 }
 
-abbrev pub emptyKey : TileKey
-emptyKey = record { row = 0; col = 1 }
+abbrev pub empty_key : TileKey
+empty_key = record { row = 0; col = 1 }
 
 -- ---- what is to be found
 
@@ -153,7 +153,7 @@ zero = fin false 0 (pos 0)
 -- half way along the road, riding east
 abbrev pub found : Matched
 found = record {
-  tile = record { key = roadKey; crc = 3476047676; edges = 1 };
+  tile = record { key = road_key; crc = 3476047676; edges = 1 };
   edge = 0;
   segment = 0;
   fraction = fin false 1 (negsuc 0);
@@ -192,18 +192,18 @@ road = record {
 -- ---- the calls
 
 -- on the road
-abbrev pub fixAt : ℕ → ℕ → Fix
-fixAt lon at = record { lat = pos 5000; lon = pos lon; at_ms = at }
+abbrev pub fix_at : ℕ → ℕ → Fix
+fix_at lon at = record { lat = pos 5000; lon = pos lon; at_ms = at }
 
 -- Failure 1 is a read that failed: the header's is made again, and so is the directory entry's. A fix comes while the header is fetched, and one
 -- 22 m on while the tile is. Two direct calls load the other tile, which takes the one page; so the match has its tile loaded again
 abbrev pub calls : List Call
 calls =
-    step ∷ deliver 1 [] ∷ step ∷ fix (fixAt 4800 1000) ∷ deliver 0 sector
-    ∷ step ∷ step ∷ deliver 1 [] ∷ stepFrom pack ∷ step ∷ fix (fixAt 5000 2000) ∷ deliver 0 roadTile
-    ∷ onCache (Cached.get header roadKey) ∷ onCache (Cached.loadFrom header emptyKey pack) ∷ onCache (Cached.loadFrom header emptyKey pack)
-    ∷ onCache (Cached.get header roadKey)
-    ∷ step ∷ stepFrom pack ∷ stepFrom pack ∷ step ∷ step ∷ step
+    step ∷ deliver 1 [] ∷ step ∷ fix (fix_at 4800 1000) ∷ deliver 0 sector
+    ∷ step ∷ step ∷ deliver 1 [] ∷ step_from pack ∷ step ∷ fix (fix_at 5000 2000) ∷ deliver 0 road_tile
+    ∷ on_cache (Cached.get header road_key) ∷ on_cache (Cached.load_from header empty_key pack) ∷ on_cache (Cached.load_from header empty_key pack)
+    ∷ on_cache (Cached.get header road_key)
+    ∷ step ∷ step_from pack ∷ step_from pack ∷ step ∷ step ∷ step
     ∷ []
 
 unfoldable pub answers : List Call → World → List Answer
@@ -218,52 +218,52 @@ after n = Story.after (take n calls) begin
 
 -- the check sequence
 unfoldable pub sums : Unit {0}
-unfolding Fcs.add Fcs.lower Fcs.divide Fcs.remainder Fcs.zeros Fcs.bits Fcs.number Fcs.message Fcs.fcs Fcs.crc32 Fcs.zeroed Fcs.crc32Skipping
+unfolding Fcs.add Fcs.lower Fcs.divide Fcs.remainder Fcs.zeros Fcs.bits Fcs.number Fcs.message Fcs.fcs Fcs.crc32 Fcs.zeroed Fcs.crc32_skipping
 sums = tt
 
 -- floats and angles
 unfoldable pub floats : Unit {0}
-unfolding Ieee.span Ieee.climb Ieee.size Ieee.odd Ieee.units Ieee.round Ieee.neg Ieee.sum Ieee.add Ieee.sub Ieee.mul Ieee.div Ieee.lt Ieee.eq Ieee.le Ieee.is_nan Ieee.of_int Ieee.to_unsigned Ieee.to_signed Ieee.of_fields Ieee.of_bits Convert.narrow Fold.up_to Root.rootIn Root.wholeRoot Root.nearRoot Root.squareRoot Bearing.series Bearing.arc Bearing.quarter Bearing.degrees Bearing.bearing Cosine.cosNear Cosine.cosine Cosine.lonScaleUm
+unfolding Ieee.span Ieee.climb Ieee.size Ieee.odd Ieee.units Ieee.round Ieee.neg Ieee.sum Ieee.add Ieee.sub Ieee.mul Ieee.div Ieee.lt Ieee.eq Ieee.le Ieee.is_nan Ieee.of_int Ieee.to_unsigned Ieee.to_signed Ieee.of_fields Ieee.of_bits Convert.narrow Fold.up_to Root.root_in Root.whole_root Root.near_root Root.square_root Bearing.series Bearing.arc Bearing.quarter Bearing.degrees Bearing.bearing Cosine.cos_near Cosine.cosine Cosine.lon_scale_um
 floats = tt
 
 -- header, directory and tiles
 unfoldable pub bytes : Unit {0}
-unfolding Bytes.u16At Bytes.u32_at Bytes.i32At Bytes.u64At Sector.rules Sector.parse Grid.checkedOf Grid.key_of Grid.cornerOf Grid.entry_of Grid.locateOf Grid.read Layout.placeAt Layout.edge_of Layout.point_of Parse.all_below Order.follows Parse.nodeOk Parse.edgeFits Parse.entryOk Parse.accepts
+unfolding Bytes.u16_at Bytes.u32_at Bytes.i32_at Bytes.u64_at Sector.rules Sector.parse Grid.checked_of Grid.key_of Grid.corner_of Grid.entry_of Grid.locate_of Grid.read Layout.place_at Layout.edge_of Layout.point_of Parse.all_below Order.follows Parse.node_ok Parse.edge_fits Parse.entry_ok Parse.accepts
 bytes = tt
 
 -- points
 unfoldable pub points : Unit {0}
-unfolding Flat.metresOf Flat.length_of Flat.turn_of Flat.projectOf Flat.bearingOf Points.point_of
+unfolding Flat.metres_of Flat.length_of Flat.turn_of Flat.project_of Flat.bearing_of Points.point_of
 points = tt
 
 -- pages and cache
 unfoldable pub pages : Unit {0}
-unfolding Runs.span Runs.all_below Runs.runOk Evict.fill Evict.evictedPage Evict.evicted Victim.since Victim.age Victim.leastOf Victim.bestOf Search.lowest Keys.inRing Keys.isReady Keys.readyAt Lookups.landsOn Lookups.passes Lookups.touched Lookups.got Lookups.nextStep Caches.fresh Caches.tileLoads Caches.stateOk Caches.cacheOk CacheCalls.get Looks.look Looks.looked
+unfolding Runs.span Runs.all_below Runs.run_ok Evict.fill Evict.evicted_page Evict.evicted Victim.since Victim.age Victim.least_of Victim.best_of Search.lowest Keys.in_ring Keys.is_ready Keys.ready_at Lookups.lands_on Lookups.passes Lookups.touched Lookups.got Lookups.next_step Caches.fresh Caches.tile_loads Caches.state_ok Caches.cache_ok CacheCalls.get Looks.look Looks.looked
 pages = tt
 
 -- loads
 unfoldable pub loads : Unit {0}
-unfolding Loads.chunkLen Loads.moved Loads.dropped Loads.began Loads.entryStep Loads.put Loads.readied Loads.ended Loads.chunkStep CacheCalls.fetch CacheCalls.load CacheCalls.loadFrom Cached.exec
+unfolding Loads.chunk_len Loads.moved Loads.dropped Loads.began Loads.entry_step Loads.put Loads.readied Loads.ended Loads.chunk_step CacheCalls.fetch CacheCalls.load CacheCalls.load_from Cached.exec
 loads = tt
 
 -- a match
 unfoldable pub matching : Unit {0}
-unfolding Scan.point_of Scan.segmentStep Scan.scanned Scan.alongTo Score.aimed Score.height Score.aimAt Score.candidateAt Keeping.insert Tile.edgeStep Tile.search Near.has Near.push Near.add Near.around Near.nearOf Choose.leastTo Choose.pastNode Settle.runnerTo Settle.confidence Settle.settled Settle.matched Gather.runTo Gather.updateOver Gather.updated
+unfolding Scan.point_of Scan.segment_step Scan.scanned Scan.along_to Score.aimed Score.height Score.aim_at Score.candidate_at Keeping.insert Tile.edge_step Tile.search Near.has Near.push Near.add Near.around Near.near_of Choose.least_to Choose.past_node Settle.runner_to Settle.confidence Settle.settled Settle.matched Gather.run_to Gather.update_over Gather.updated
 matching = tt
 
 -- a road
 unfoldable pub roads : Unit {0}
-unfolding Samples.heightAt Samples.pushFrom Incoming.highest Start.partWay Start.startOk Start.place Ridden.backStep Ridden.backsTo Ridden.backs Ridden.lastSample Ridden.ridden Vertex.nodeAt Vertex.reached Vertex.advanced Vertex.vertices Meets.hasMet Meets.meet Visits.visit Walk.withEnding Walk.reached Walk.along Walk.walkTo Predict.trackFrom Predict.walkFrom Predict.prediction Predict.roadOver Predict.forecastOver Predict.predictedIn
+unfolding Samples.height_at Samples.push_from Incoming.highest Start.part_way Start.start_ok Start.place Ridden.back_step Ridden.backs_to Ridden.backs Ridden.last_sample Ridden.ridden Vertex.node_at Vertex.reached Vertex.advanced Vertex.vertices Meets.has_met Meets.meet Visits.visit Walk.with_ending Walk.reached Walk.along Walk.walk_to Predict.track_from Predict.walk_from Predict.prediction Predict.road_over Predict.forecast_over Predict.predicted_in
 roads = tt
 
 -- the engine
 unfoldable pub engine : Unit {0}
-unfolding Fixes.push Fixes.movedFrom Fixes.courseOf Fixes.seen Publish.nothingAhead Publish.withMatch Followers.fresh Followers.fixed Engines.sharedOk Engines.placesOk Engines.engineOk Work.matched Work.matchStep Work.published Work.roadStep Work.atFix Work.worked Deliver.sectorOf Deliver.headerFailed Deliver.headerCame Deliver.arrived Deliver.loadFailed Deliver.partCame Deliver.delivered Steps.needStep Steps.started Steps.stepped Calls.fix Calls.step Calls.deliver Calls.answeredFrom Calls.stepFrom
+unfolding Fixes.push Fixes.moved_from Fixes.course_of Fixes.seen Publish.nothing_ahead Publish.with_match Followers.fresh Followers.fixed Engines.shared_ok Engines.places_ok Engines.engine_ok Work.matched Work.match_step Work.published Work.road_step Work.at_fix Work.worked Deliver.sector_of Deliver.header_failed Deliver.header_came Deliver.arrived Deliver.load_failed Deliver.part_came Deliver.delivered Steps.need_step Steps.started Steps.stepped Calls.fix Calls.step Calls.deliver Calls.answered_from Calls.step_from
 engine = tt
 
 -- and the calls of a list
 unfoldable pub lists : Unit {0}
-unfolding sums floats bytes points pages loads matching roads engine shown stepShown task_of exec
+unfolding sums floats bytes points pages loads matching roads engine shown step_shown task_of exec
 lists = tt
 
 -- ---- what is answered
@@ -292,19 +292,19 @@ finished = refl
 -- ---- what is missed and evicted
 
 -- a missed read of the header is counted, and one of the entry
-pub header-missed : (after 2).engine.follower.failures ≡ 1
+pub header_missed : (after 2).engine.follower.failures ≡ 1
 unfolding lists Story.after
-header-missed = refl
+header_missed = refl
 
-pub entry-missed : (after 8).engine.follower.failures ≡ 1
+pub entry_missed : (after 8).engine.follower.failures ≡ 1
 unfolding lists Story.after
-entry-missed = refl
+entry_missed = refl
 
-pub ready : Lookups.landsOn (after 13).engine.shared.cache roadKey ≡ Landing.At 0
+pub ready : Lookups.lands_on (after 13).engine.shared.cache road_key ≡ Landing.At 0
 unfolding lists Story.after
 ready = refl
 
-pub evicted : Lookups.landsOn (after 15).engine.shared.cache roadKey ≡ Landing.Nothing
+pub evicted : Lookups.lands_on (after 15).engine.shared.cache road_key ≡ Landing.Nothing
 unfolding lists Story.after
 evicted = refl
 
@@ -321,14 +321,14 @@ pub parsed : Parsed pack header
 unfolding lists
 parsed = record { whole = omega arith; accepted = refl; header = refl }
 
-pub sector-inside : 0 + 512 ≤ length pack
-sector-inside = omega arith
+pub sector_inside : 0 + 512 ≤ length pack
+sector_inside = omega arith
 
-pub tile-inside : 528 + 68 ≤ length pack
-tile-inside = omega arith
+pub tile_inside : 528 + 68 ≤ length pack
+tile_inside = omega arith
 
-pub no-failure : {A : Type 0} → ◌≡◌ {A = ℕ} 1 0 → A
-no-failure e = absurd (omega (arith, e))
+pub no_failure : {A : Type 0} → ◌≡◌ {A = ℕ} 1 0 → A
+no_failure e = absurd (omega (arith, e))
 
 -- of each call in its order: a read that failed brings nothing, what is delivered is what the pack has there, the pack that is lent is the pack, and
 -- a header that is given is the pack's
@@ -337,19 +337,19 @@ unfolding lists AllFair
 fair = (
   tt,
   (
-    λ a. no-failure,
+    λ a. no_failure,
     (
       tt,
       (
         tt,
         (
-          λ a f e. (sector-inside, refl),
+          λ a f e. (sector_inside, refl),
           (
             tt,
             (
               tt,
               (
-                λ a. no-failure,
+                λ a. no_failure,
                 (
                   λ i. (i, refl),
                   (
@@ -357,7 +357,7 @@ fair = (
                     (
                       tt,
                       (
-                        λ a f e. (tile-inside, refl),
+                        λ a f e. (tile_inside, refl),
                         (
                           parsed,
                           (
@@ -386,5 +386,5 @@ fair = (
 
 -- ---- so the direct engine finishes them
 
-pub direct-finished : directShows (directly 1) (made_of 1 horizon) pack calls (tolds calls begin) newDirect ≡ finishes
-direct-finished = all_direct 1 (omega arith) horizon (replicate 8192 0) pack calls fair ∙ finished
+pub direct_finished : direct_shows (directly 1) (made_of 1 horizon) pack calls (tolds calls begin) new_direct ≡ finishes
+direct_finished = all_direct 1 (omega arith) horizon (replicate 8192 0) pack calls fair ∙ finished

@@ -1,6 +1,6 @@
--- The open fetch: a step repeats it and changes nothing (`open-repeats`, `fetch-repeats`), opening it changes nothing else
--- (`opening-is-pending`), so that reset withdraws it (`reset-withdraws`), and a fix or a loss of fixes acts the same before its delivery as
--- after it (`fix-commutes`, `lost-commutes`). The idea: of all that a step does only two branches answer Fetch, and both say what they open;
+-- The open fetch: a step repeats it and changes nothing (`open_repeats`, `fetch_repeats`), opening it changes nothing else
+-- (`opening_is_pending`), so that reset withdraws it (`reset_withdraws`), and a fix or a loss of fixes acts the same before its delivery as
+-- after it (`fix_commutes`, `lost_commutes`). The idea: of all that a step does only two branches answer Fetch, and both say what they open;
 -- what a fix changes in a follower and what a delivery changes lie side by side (`Aside`).
 use Rattle.std.proofs.Common.{◌≡◌, ℕ, Bool, true, false, cond, ◌&&◌, eqb, ltb, List, [], length, replicate, pos, sym, refl, ap, ◌∙◌, true≢false}
 use Rattle.pack.specs.Grid.{key_of}
@@ -13,7 +13,7 @@ use Rattle.pack.specs.declared.Keyed.TheVariants as Keyed
 use Rattle.pack.specs.declared.TileKey.{TileKey}
 use Rattle.cache.specs.declared.MaybeKey.{MaybeKey}
 use Rattle.cache.specs.declared.MaybeKey.TheVariants as MaybeKey
-use Rattle.cache.specs.Keys.{sameKey}
+use Rattle.cache.specs.Keys.{same_key}
 use Rattle.cache.specs.State.{cleared}
 use Rattle.cache.specs.declared.Cache.{Cache}
 use Rattle.cache.specs.declared.MaybeLoading.{MaybeLoading}
@@ -22,7 +22,7 @@ use Rattle.cache.specs.declared.Pending.{Pending}
 use Rattle.cache.specs.declared.Pending.TheVariants as Pending
 use Rattle.cache.specs.declared.Loaded.{Loaded}
 use Rattle.cache.specs.Loads as Loads
-use Rattle.cache.specs.Calls.{loadTested}
+use Rattle.cache.specs.Calls.{load_tested}
 use Rattle.cache.specs.declared.Progress.{Progress}
 use Rattle.cache.specs.declared.Progress.TheVariants as Progress
 use Rattle.matcher.specs.declared.Current.{Current}
@@ -32,10 +32,10 @@ use Rattle.matcher.specs.Gather.{updated}
 use Rattle.matcher.specs.declared.Outcome as MatchOutcome
 use Rattle.matcher.specs.declared.Outcome.TheVariants as Found
 use Rattle.matcher.specs.declared.Updated.{Updated}
-use Rattle.predict.specs.Predict.{After, predictedIn}
+use Rattle.predict.specs.Predict.{After, predicted_in}
 use Rattle.predict.specs.declared.Outcome as RoadOutcome
 use Rattle.predict.specs.declared.Outcome.TheVariants as Road
-use Rattle.engine.specs.Fixes.{place_of, isSamePlace}
+use Rattle.engine.specs.Fixes.{place_of, is_same_place}
 use Rattle.engine.specs.Follow.{fixed, lost}
 use Rattle.engine.specs.declared.Fix.{Fix}
 use Rattle.engine.specs.declared.Follower.{Follower}
@@ -49,163 +49,163 @@ use Rattle.engine.specs.declared.Status.{Status}
 use Rattle.engine.specs.declared.Status.TheVariants as Status
 use Rattle.engine.specs.declared.Stepped.{Stepped}
 use Rattle.engine.specs.State.{forgotten}
-use Rattle.engine.specs.Work.{mayAsk, matchEndedBy, matchStep, roadEndedBy, roadStep, roadDueBy, inGridStep, atFixBy, atFix, workedBy, worked, counted}
+use Rattle.engine.specs.Work.{may_ask, match_ended_by, match_step, road_ended_by, road_step, road_due_by, in_grid_step, at_fix_by, at_fix, worked_by, worked, counted}
 use Rattle.engine.specs.Deliver as Deliver
-use Rattle.engine.specs.Deliver.{arrived, headerFailed, headerParsed, headerCame, sectorOf, fitsHeader, over, loadFailed, loaded, loadedBy, partCame, needCameBy, needCame, deliveredBy, delivered}
-use Rattle.engine.specs.Steps.{withPending, requestOf, opened, awaitsRead, pendingFor, needStep, readyBy, startedBy, started, repeated, steppedBy, stepped}
+use Rattle.engine.specs.Deliver.{arrived, header_failed, header_parsed, header_came, sector_of, fits_header, over, load_failed, loaded, loaded_by, part_came, need_came_by, need_came, delivered_by, delivered}
+use Rattle.engine.specs.Steps.{with_pending, request_of, opened, awaits_read, pending_for, need_step, ready_by, started_by, started, repeated, stepped_by, stepped}
 
 -- ---- while it is open
 
-abbrev pub isOpen : Pending → Bool
-isOpen Pending.Nothing = false
-isOpen Pending.Header = true
-isOpen (Pending.Entry key) = true
-isOpen Pending.Chunk = true
+abbrev pub is_open : Pending → Bool
+is_open Pending.Nothing = false
+is_open Pending.Header = true
+is_open (Pending.Entry key) = true
+is_open Pending.Chunk = true
 
-repeats-by : (p : Pending) (e : Engine) (arena : List ℕ) → isOpen p ≡ true → steppedBy p e arena ≡ repeated e p
-repeats-by Pending.Nothing e arena o = absurd (true≢false (sym o))
-repeats-by Pending.Header e arena o = refl
-repeats-by (Pending.Entry key) e arena o = refl
-repeats-by Pending.Chunk e arena o = refl
+repeats_by : (p : Pending) (e : Engine) (arena : List ℕ) → is_open p ≡ true → stepped_by p e arena ≡ repeated e p
+repeats_by Pending.Nothing e arena o = absurd (true≢false (sym o))
+repeats_by Pending.Header e arena o = refl
+repeats_by (Pending.Entry key) e arena o = refl
+repeats_by Pending.Chunk e arena o = refl
 
 -- whatever the arena is, the answer is the read worked out from the state, and the engine is as it was
-pub open-repeats : (e : Engine) (arena : List ℕ) → isOpen e.shared.cache.pending ≡ true
-    → stepped e arena ≡ record { answer = requestOf e.shared e.shared.cache.pending; engine = e }
+pub open_repeats : (e : Engine) (arena : List ℕ) → is_open e.shared.cache.pending ≡ true
+    → stepped e arena ≡ record { answer = request_of e.shared e.shared.cache.pending; engine = e }
 unfolding stepped
-open-repeats e arena o = repeats-by e.shared.cache.pending e arena o
+open_repeats e arena o = repeats_by e.shared.cache.pending e arena o
 
 -- ---- a step that opens one
 
-abbrev isFetch : Status → Bool
-isFetch (Status.Fetch offset len) = true
-isFetch Status.Idle = false
-isFetch Status.Working = false
-isFetch Status.NoPack = false
-isFetch Status.OffMap = false
-isFetch (Status.Refused number) = false
+abbrev is_fetch : Status → Bool
+is_fetch (Status.Fetch offset len) = true
+is_fetch Status.Idle = false
+is_fetch Status.Working = false
+is_fetch Status.NoPack = false
+is_fetch Status.OffMap = false
+is_fetch (Status.Refused number) = false
 
 -- the engine with a fetch open, all else as it was
-abbrev pub withOpen : Engine → Pending → Engine
-withOpen e p = record {
-  shared = record { phase = e.shared.phase; header = e.shared.header; cache = withPending e.shared.cache p };
+abbrev pub with_open : Engine → Pending → Engine
+with_open e p = record {
+  shared = record { phase = e.shared.phase; header = e.shared.header; cache = with_pending e.shared.cache p };
   follower = e.follower;
 }
 
 -- which one it opened: the engine has that open and nothing else changed, and the answer is its read
 pub record Opening (e : Engine) (s : Stepped) : Type 0 where
   pub pending : Pending
-  pub opens : isOpen pending ≡ true
-  pub engine : s.engine ≡ withOpen e pending
-  pub asks : s.answer ≡ requestOf (withOpen e pending).shared pending
+  pub opens : is_open pending ≡ true
+  pub engine : s.engine ≡ with_open e pending
+  pub asks : s.answer ≡ request_of (with_open e pending).shared pending
 
 abbrev Opens : Engine → Stepped → Type 0
-Opens e s = isFetch s.answer ≡ true → Opening e s
+Opens e s = is_fetch s.answer ≡ true → Opening e s
 
 -- ---- the work of a step opens none
 
-asks_none : (t : Bool) → isFetch (cond t Status.Working Status.Idle) ≡ false
+asks_none : (t : Bool) → is_fetch (cond t Status.Working Status.Idle) ≡ false
 asks_none true = refl
 asks_none false = refl
 
-either-none : (t : Bool) (x y : Stepped) → isFetch x.answer ≡ false → isFetch y.answer ≡ false → isFetch (cond t x y).answer ≡ false
-either-none true x y p q = p
-either-none false x y p q = q
+either_none : (t : Bool) (x y : Stepped) → is_fetch x.answer ≡ false → is_fetch y.answer ≡ false → is_fetch (cond t x y).answer ≡ false
+either_none true x y p q = p
+either_none false x y p q = q
 
 module _ (e : Engine) (arena : List ℕ) (f : Follower) (fix : Fix) where
-  match_none : (x : MatchOutcome.Outcome) (u : Updated) → isFetch (matchEndedBy x e f fix u).answer ≡ false
+  match_none : (x : MatchOutcome.Outcome) (u : Updated) → is_fetch (match_ended_by x e f fix u).answer ≡ false
   match_none (Found.Found m) u = refl
   match_none Found.Nothing u = refl
-  match_none (Found.Need key) u = asks_none (mayAsk f.due u.cache.pages.count)
+  match_none (Found.Need key) u = asks_none (may_ask f.due u.cache.pages.count)
   match_none (Found.Refused number) u = refl
 
-  road-none : (r : RoadOutcome.Outcome) (found : Matched) (x : After) → isFetch (roadEndedBy r e f fix found x).answer ≡ false
-  road-none (Road.Road r) found x = refl
-  road-none (Road.Need key) found x = refl
-  road-none Road.Rematch found x = refl
-  road-none (Road.Refused number) found x = either-none (eqb number 10) _ _ refl refl
+  road_none : (r : RoadOutcome.Outcome) (found : Matched) (x : After) → is_fetch (road_ended_by r e f fix found x).answer ≡ false
+  road_none (Road.Road r) found x = refl
+  road_none (Road.Need key) found x = refl
+  road_none Road.Rematch found x = refl
+  road_none (Road.Refused number) found x = either_none (eqb number 10) _ _ refl refl
 
-  due-none : (m : Current) → isFetch (roadDueBy m e arena f fix).answer ≡ false
-  unfolding roadStep
-  due-none (Current.Is found) =
-      let x = predictedIn e.shared.cache arena e.shared.header found f.horizon_m (replicate 501 (pos 0)) (replicate 11 (pos 0)) in
-      road-none x.predicted.answer found x
-  due-none Current.Nothing = refl
+  due_none : (m : Current) → is_fetch (road_due_by m e arena f fix).answer ≡ false
+  unfolding road_step
+  due_none (Current.Is found) =
+      let x = predicted_in e.shared.cache arena e.shared.header found f.horizon_m (replicate 501 (pos 0)) (replicate 11 (pos 0)) in
+      road_none x.predicted.answer found x
+  due_none Current.Nothing = refl
 
-  grid-none : isFetch (inGridStep e arena f fix).answer ≡ false
-  unfolding matchStep
-  grid-none =
+  grid_none : is_fetch (in_grid_step e arena f fix).answer ≡ false
+  unfolding match_step
+  grid_none =
       let u = updated f.matcher e.shared.cache arena e.shared.header (place_of fix) f.sight.heading in
-      either-none f.due.matching _ _ (match_none u.answer u)
-      (either-none f.due.road _ _ (due-none f.matcher.current) refl)
+      either_none f.due.matching _ _ (match_none u.answer u)
+      (either_none f.due.road _ _ (due_none f.matcher.current) refl)
 
-  fix_none : (k : Keyed) → isFetch (atFixBy k e arena f fix).answer ≡ false
-  fix_none (Keyed.In key) = grid-none
+  fix_none : (k : Keyed) → is_fetch (at_fix_by k e arena f fix).answer ≡ false
+  fix_none (Keyed.In key) = grid_none
   fix_none Keyed.Outside = refl
   fix_none (Keyed.Refused number) = refl
 
-work_none : (m : MaybeFix) (e : Engine) (arena : List ℕ) (f : Follower) → isFetch (workedBy m e arena f).answer ≡ false
-unfolding atFix
+work_none : (m : MaybeFix) (e : Engine) (arena : List ℕ) (f : Follower) → is_fetch (worked_by m e arena f).answer ≡ false
+unfolding at_fix
 work_none MaybeFix.Nothing e arena f = refl
 work_none (MaybeFix.Is fix) e arena f = fix_none e arena f fix (key_of e.shared.header fix.lat fix.lon)
 
-worked-opens : (e : Engine) (arena : List ℕ) → Opens e (worked e arena)
+worked_opens : (e : Engine) (arena : List ℕ) → Opens e (worked e arena)
 unfolding worked
-worked-opens e arena o = absurd (true≢false (sym o ∙ work_none e.follower.sight.fix e arena (counted e.follower)))
+worked_opens e arena o = absurd (true≢false (sym o ∙ work_none e.follower.sight.fix e arena (counted e.follower)))
 
 -- ---- a step towards a tile says which it opens
 
 -- the read doesn't go by which fetch is open
-request-same : (e : Engine) (p q : Pending) → requestOf e.shared p ≡ requestOf (withOpen e q).shared p
-request-same e Pending.Nothing q = refl
-request-same e Pending.Header q = refl
-request-same e (Pending.Entry key) q = refl
-request-same e Pending.Chunk q = refl
+request_same : (e : Engine) (p q : Pending) → request_of e.shared p ≡ request_of (with_open e q).shared p
+request_same e Pending.Nothing q = refl
+request_same e Pending.Header q = refl
+request_same e (Pending.Entry key) q = refl
+request_same e Pending.Chunk q = refl
 
-pending-open : (x : MaybeLoading) (key : TileKey) → isOpen (pendingFor x key) ≡ true
-pending-open MaybeLoading.Nothing key = refl
-pending-open (MaybeLoading.Tile l) key = by (sameKey l.key key)
+pending_open : (x : MaybeLoading) (key : TileKey) → is_open (pending_for x key) ≡ true
+pending_open MaybeLoading.Nothing key = refl
+pending_open (MaybeLoading.Tile l) key = by (same_key l.key key)
   where
-    by : (t : Bool) → isOpen (cond t Pending.Chunk (Pending.Entry key)) ≡ true
+    by : (t : Bool) → is_open (cond t Pending.Chunk (Pending.Entry key)) ≡ true
     by true = refl
     by false = refl
 
 -- a tile that is settled opens none
-loaded-none : (p : Progress) (e : Engine) (c : Cache) → isFetch (loadedBy p e c).answer ≡ false
-unfolding arrived loadFailed
-loaded-none Progress.Done e c = refl
-loaded-none Progress.More e c = refl
-loaded-none (Progress.Failed number) e c = either-none (ltb e.follower.failures 7) _ _ refl refl
-loaded-none (Progress.Refused number) e c = refl
+loaded_none : (p : Progress) (e : Engine) (c : Cache) → is_fetch (loaded_by p e c).answer ≡ false
+unfolding arrived load_failed
+loaded_none Progress.Done e c = refl
+loaded_none Progress.More e c = refl
+loaded_none (Progress.Failed number) e c = either_none (ltb e.follower.failures 7) _ _ refl refl
+loaded_none (Progress.Refused number) e c = refl
 
-need-opens : (e : Engine) (arena : List ℕ) (key : TileKey) → Opens e (needStep e arena key)
-unfolding needStep
-need-opens e arena key = by (awaitsRead l.answer)
+need_opens : (e : Engine) (arena : List ℕ) (key : TileKey) → Opens e (need_step e arena key)
+unfolding need_step
+need_opens e arena key = by (awaits_read l.answer)
   where
     l : Loaded
-    l = Loads.told (loadTested e.shared.cache arena e.shared.header key 0 [])
+    l = Loads.told (load_tested e.shared.cache arena e.shared.header key 0 [])
 
     p : Pending
-    p = pendingFor e.shared.cache.loading key
+    p = pending_for e.shared.cache.loading key
 
     by : (t : Bool) → Opens e (cond t (opened e p) (loaded e l))
-    by true o = record { pending = p; opens = pending-open e.shared.cache.loading key; engine = refl; asks = request-same e p p }
-    by false o = absurd (true≢false (sym o ∙ loaded-none l.answer e l.cache))
+    by true o = record { pending = p; opens = pending_open e.shared.cache.loading key; engine = refl; asks = request_same e p p }
+    by false o = absurd (true≢false (sym o ∙ loaded_none l.answer e l.cache))
 
-ready-opens : (m : MaybeKey) (e : Engine) (arena : List ℕ) → Opens e (readyBy m e arena)
-ready-opens (MaybeKey.Key key) e arena o = need-opens e arena key o
-ready-opens MaybeKey.Nothing e arena o = worked-opens e arena o
+ready_opens : (m : MaybeKey) (e : Engine) (arena : List ℕ) → Opens e (ready_by m e arena)
+ready_opens (MaybeKey.Key key) e arena o = need_opens e arena key o
+ready_opens MaybeKey.Nothing e arena o = worked_opens e arena o
 
-started-opens : (p : Phase) (e : Engine) (arena : List ℕ) → Opens e (startedBy p e arena)
-started-opens Phase.Failed e arena o = absurd (true≢false (sym o))
-started-opens Phase.Unread e arena o = record { pending = Pending.Header; opens = refl; engine = refl; asks = refl }
-started-opens Phase.Ready e arena o = ready-opens e.follower.due.need e arena o
+started_opens : (p : Phase) (e : Engine) (arena : List ℕ) → Opens e (started_by p e arena)
+started_opens Phase.Failed e arena o = absurd (true≢false (sym o))
+started_opens Phase.Unread e arena o = record { pending = Pending.Header; opens = refl; engine = refl; asks = refl }
+started_opens Phase.Ready e arena o = ready_opens e.follower.due.need e arena o
 
-stepped-opens : (p : Pending) (e : Engine) (arena : List ℕ) → p ≡ Pending.Nothing → Opens e (steppedBy p e arena)
+stepped_opens : (p : Pending) (e : Engine) (arena : List ℕ) → p ≡ Pending.Nothing → Opens e (stepped_by p e arena)
 unfolding started
-stepped-opens Pending.Nothing e arena q o = started-opens e.shared.phase e arena o
-stepped-opens Pending.Header e arena q o = absurd (true≢false (ap isOpen q))
-stepped-opens (Pending.Entry key) e arena q o = absurd (true≢false (ap isOpen q))
-stepped-opens Pending.Chunk e arena q o = absurd (true≢false (ap isOpen q))
+stepped_opens Pending.Nothing e arena q o = started_opens e.shared.phase e arena o
+stepped_opens Pending.Header e arena q o = absurd (true≢false (ap is_open q))
+stepped_opens (Pending.Entry key) e arena q o = absurd (true≢false (ap is_open q))
+stepped_opens Pending.Chunk e arena q o = absurd (true≢false (ap is_open q))
 
 -- ---- no fetch is open, and a step answers one
 
@@ -213,27 +213,27 @@ module _ (e : Engine) (arena : List ℕ) {offset len : ℕ}
     (none : e.shared.cache.pending ≡ Pending.Nothing)
     (asked : (stepped e arena).answer ≡ Status.Fetch offset len) where
   -- nothing but `pending` changes
-  pub opening-is-pending : Opening e (stepped e arena)
+  pub opening_is_pending : Opening e (stepped e arena)
   unfolding stepped
-  opening-is-pending = stepped-opens e.shared.cache.pending e arena none (ap isFetch asked)
+  opening_is_pending = stepped_opens e.shared.cache.pending e arena none (ap is_fetch asked)
 
   -- reset after the step is reset before it
-  pub reset-withdraws : forgotten (stepped e arena).engine ≡ forgotten e
+  pub reset_withdraws : forgotten (stepped e arena).engine ≡ forgotten e
   unfolding forgotten cleared
-  reset-withdraws = ap forgotten opening-is-pending.engine
+  reset_withdraws = ap forgotten opening_is_pending.engine
 
   -- the next step is the same, over whatever arena
-  pub fetch-repeats : (other : List ℕ) → stepped (stepped e arena).engine other ≡ stepped e arena
-  fetch-repeats other =
-      let o = opening-is-pending in
-      ap (λ x. stepped x other) o.engine ∙ open-repeats (withOpen e o.pending) other o.opens
+  pub fetch_repeats : (other : List ℕ) → stepped (stepped e arena).engine other ≡ stepped e arena
+  fetch_repeats other =
+      let o = opening_is_pending in
+      ap (λ x. stepped x other) o.engine ∙ open_repeats (with_open e o.pending) other o.opens
       ∙ rw (← o.asks, ← o.engine)
 
 -- ---- a change of the follower beside a delivery
 
 -- what a delivery sets in a follower
-abbrev withParts : Follower → MaybeKey → ℕ → ℕ → Follower
-withParts f need failures steps = record {
+abbrev with_parts : Follower → MaybeKey → ℕ → ℕ → Follower
+with_parts f need failures steps = record {
   sight = f.sight;
   matcher = f.matcher;
   due = record { matching = f.due.matching; road = f.due.road; last_road = f.due.last_road; need = need; reloads = f.due.reloads };
@@ -245,7 +245,7 @@ withParts f need failures steps = record {
 
 -- a change that neither reads nor sets those parts
 abbrev Aside : (Follower → Follower) → Type 0
-Aside g = (f : Follower) (need : MaybeKey) (failures steps : ℕ) → withParts (g f) need failures steps ≡ g (withParts f need failures steps)
+Aside g = (f : Follower) (need : MaybeKey) (failures steps : ℕ) → with_parts (g f) need failures steps ≡ g (with_parts f need failures steps)
 
 -- the engine with its follower changed
 abbrev pub follows : (Follower → Follower) → Engine → Engine
@@ -264,7 +264,7 @@ after g x = record { answer = x.answer; engine = follows g x.engine; arena = x.a
 module _ (g : Follower → Follower) (aside : Aside g) where
   abbrev split : Engine → Engine
   split e =
-      let f = e.follower in record { shared = e.shared; follower = withParts (g f) f.due.need f.failures f.steps }
+      let f = e.follower in record { shared = e.shared; follower = with_parts (g f) f.due.need f.failures f.steps }
 
   -- the parts are those from before the change
   parts : (e : Engine) → follows g e ≡ split e
@@ -273,103 +273,103 @@ module _ (g : Follower → Follower) (aside : Aside g) where
       ap (λ (x : Follower). record { shared = e.shared; follower = x }) (sym (aside f f.due.need f.failures f.steps))
 
   set_then : (answer : Status) (s : Shared) (f : Follower) (need : MaybeKey) (failures steps : ℕ)
-      → left answer s (withParts (g f) need failures steps) ≡ then g (left answer s (withParts f need failures steps))
+      → left answer s (with_parts (g f) need failures steps) ≡ then g (left answer s (with_parts f need failures steps))
   set_then answer s f need failures steps = ap (left answer s) (aside f need failures steps)
 
-  either-then : (t : Bool) {a b x y : Stepped} → a ≡ then g x → b ≡ then g y → cond t a b ≡ then g (cond t x y)
-  either-then true p q = p
-  either-then false p q = q
+  either_then : (t : Bool) {a b x y : Stepped} → a ≡ then g x → b ≡ then g y → cond t a b ≡ then g (cond t x y)
+  either_then true p q = p
+  either_then false p q = q
 
-  either-after : (t : Bool) {a b x y : Deliver.After} → a ≡ after g x → b ≡ after g y → cond t a b ≡ after g (cond t x y)
-  either-after true p q = p
-  either-after false p q = q
+  either_after : (t : Bool) {a b x y : Deliver.After} → a ≡ after g x → b ≡ after g y → cond t a b ≡ after g (cond t x y)
+  either_after true p q = p
+  either_after false p q = q
 
   -- ---- the header
 
-  header-failed-then : (e : Engine) (failure : ℕ) → headerFailed (follows g e) failure ≡ then g (headerFailed e failure)
-  unfolding headerFailed
-  header-failed-then e failure =
-      ap (λ (x : Engine). headerFailed x failure) (parts e)
-      ∙ either-then (eqb failure 1 && ltb e.follower.failures 7) (set_then _ _ e.follower _ _ _) (set_then _ _ e.follower _ _ _)
+  header_failed-then : (e : Engine) (failure : ℕ) → header_failed (follows g e) failure ≡ then g (header_failed e failure)
+  unfolding header_failed
+  header_failed-then e failure =
+      ap (λ (x : Engine). header_failed x failure) (parts e)
+      ∙ either_then (eqb failure 1 && ltb e.follower.failures 7) (set_then _ _ e.follower _ _ _) (set_then _ _ e.follower _ _ _)
 
-  parsed-then : (a : Answer) (e : Engine) (h : Header) → headerParsed a (follows g e) h ≡ then g (headerParsed a e h)
-  parsed-then Answer.Accepted e h = ap (λ (x : Engine). headerParsed Answer.Accepted x h) (parts e) ∙ set_then _ _ e.follower _ _ _
-  parsed-then (Answer.Refused number) e h = header-failed-then e number
+  parsed_then : (a : Answer) (e : Engine) (h : Header) → header_parsed a (follows g e) h ≡ then g (header_parsed a e h)
+  parsed_then Answer.Accepted e h = ap (λ (x : Engine). header_parsed Answer.Accepted x h) (parts e) ∙ set_then _ _ e.follower _ _ _
+  parsed_then (Answer.Refused number) e h = header_failed-then e number
 
-  header-then : (e : Engine) (failure : ℕ) (bs : List ℕ) → headerCame (follows g e) failure bs ≡ then g (headerCame e failure bs)
-  unfolding headerCame
-  header-then e failure bs =
-      let p = parse (sectorOf bs) in either-then (eqb failure 0) (parsed-then p.answer e p.header) (header-failed-then e failure)
+  header_then : (e : Engine) (failure : ℕ) (bs : List ℕ) → header_came (follows g e) failure bs ≡ then g (header_came e failure bs)
+  unfolding header_came
+  header_then e failure bs =
+      let p = parse (sector_of bs) in either_then (eqb failure 0) (parsed_then p.answer e p.header) (header_failed-then e failure)
 
   -- ---- a part of a tile
 
-  load-failed-then : (e : Engine) (c : Cache) → loadFailed (follows g e) c ≡ then g (loadFailed e c)
-  unfolding loadFailed
-  load-failed-then e c =
-      ap (λ (x : Engine). loadFailed x c) (parts e)
-      ∙ either-then (ltb e.follower.failures 7) (set_then _ _ e.follower _ _ _) (set_then _ _ e.follower _ _ _)
+  load_failed-then : (e : Engine) (c : Cache) → load_failed (follows g e) c ≡ then g (load_failed e c)
+  unfolding load_failed
+  load_failed-then e c =
+      ap (λ (x : Engine). load_failed x c) (parts e)
+      ∙ either_then (ltb e.follower.failures 7) (set_then _ _ e.follower _ _ _) (set_then _ _ e.follower _ _ _)
 
-  loaded-then : (p : Progress) (e : Engine) (c : Cache) → loadedBy p (follows g e) c ≡ then g (loadedBy p e c)
+  loaded_then : (p : Progress) (e : Engine) (c : Cache) → loaded_by p (follows g e) c ≡ then g (loaded_by p e c)
   unfolding arrived
-  loaded-then Progress.Done e c = ap (λ (x : Engine). arrived x c) (parts e) ∙ set_then _ _ e.follower _ _ _
-  loaded-then Progress.More e c = ap (λ (x : Engine). loadedBy Progress.More x c) (parts e) ∙ set_then _ _ e.follower _ _ _
-  loaded-then (Progress.Failed number) e c = load-failed-then e c
-  loaded-then (Progress.Refused number) e c = refl
+  loaded_then Progress.Done e c = ap (λ (x : Engine). arrived x c) (parts e) ∙ set_then _ _ e.follower _ _ _
+  loaded_then Progress.More e c = ap (λ (x : Engine). loaded_by Progress.More x c) (parts e) ∙ set_then _ _ e.follower _ _ _
+  loaded_then (Progress.Failed number) e c = load_failed-then e c
+  loaded_then (Progress.Refused number) e c = refl
 
-  part-after : (e : Engine) (arena : List ℕ) (key : TileKey) (failure : ℕ) (bs : List ℕ)
-      → partCame (follows g e) arena key failure bs ≡ after g (partCame e arena key failure bs)
-  unfolding partCame
-  part-after e arena key failure bs =
-      let x = loadTested e.shared.cache arena e.shared.header key failure bs in
-      ap (λ (s : Stepped). over s x.arena) (loaded-then x.answer e x.cache)
+  part_after : (e : Engine) (arena : List ℕ) (key : TileKey) (failure : ℕ) (bs : List ℕ)
+      → part_came (follows g e) arena key failure bs ≡ after g (part_came e arena key failure bs)
+  unfolding part_came
+  part_after e arena key failure bs =
+      let x = load_tested e.shared.cache arena e.shared.header key failure bs in
+      ap (λ (s : Stepped). over s x.arena) (loaded_then x.answer e x.cache)
 
-  need-after : (m : MaybeKey) (e : Engine) (arena : List ℕ) (failure : ℕ) (bs : List ℕ)
-      → needCameBy m (follows g e) arena failure bs ≡ after g (needCameBy m e arena failure bs)
-  need-after MaybeKey.Nothing e arena failure bs = refl
-  need-after (MaybeKey.Key key) e arena failure bs = part-after e arena key failure bs
+  need_after : (m : MaybeKey) (e : Engine) (arena : List ℕ) (failure : ℕ) (bs : List ℕ)
+      → need_came_by m (follows g e) arena failure bs ≡ after g (need_came_by m e arena failure bs)
+  need_after MaybeKey.Nothing e arena failure bs = refl
+  need_after (MaybeKey.Key key) e arena failure bs = part_after e arena key failure bs
 
-  came-after : (e : Engine) (arena : List ℕ) (failure : ℕ) (bs : List ℕ)
-      → needCame (follows g e) arena failure bs ≡ after g (needCame e arena failure bs)
-  came-after e arena failure bs =
-      ap (λ (x : Engine). needCameBy x.follower.due.need (follows g e) arena failure bs) (parts e)
-      ∙ need-after e.follower.due.need e arena failure bs
+  came_after : (e : Engine) (arena : List ℕ) (failure : ℕ) (bs : List ℕ)
+      → need_came (follows g e) arena failure bs ≡ after g (need_came e arena failure bs)
+  came_after e arena failure bs =
+      ap (λ (x : Engine). need_came_by x.follower.due.need (follows g e) arena failure bs) (parts e)
+      ∙ need_after e.follower.due.need e arena failure bs
 
   -- ---- the delivery
 
-  deliver-after : (p : Pending) (e : Engine) (arena : List ℕ) (failure : ℕ) (bs : List ℕ)
-      → deliveredBy p (follows g e) arena failure bs ≡ after g (deliveredBy p e arena failure bs)
-  deliver-after Pending.Nothing e arena failure bs = refl
-  deliver-after Pending.Header e arena failure bs =
-      either-after (fitsHeader failure (length bs)) (ap (λ (s : Stepped). over s arena) (header-then e failure bs)) refl
-  deliver-after (Pending.Entry key) e arena failure bs = came-after e arena failure bs
-  deliver-after Pending.Chunk e arena failure bs = came-after e arena failure bs
+  deliver_after : (p : Pending) (e : Engine) (arena : List ℕ) (failure : ℕ) (bs : List ℕ)
+      → delivered_by p (follows g e) arena failure bs ≡ after g (delivered_by p e arena failure bs)
+  deliver_after Pending.Nothing e arena failure bs = refl
+  deliver_after Pending.Header e arena failure bs =
+      either_after (fits_header failure (length bs)) (ap (λ (s : Stepped). over s arena) (header_then e failure bs)) refl
+  deliver_after (Pending.Entry key) e arena failure bs = came_after e arena failure bs
+  deliver_after Pending.Chunk e arena failure bs = came_after e arena failure bs
 
   commutes : (e : Engine) (arena : List ℕ) (failure : ℕ) (bs : List ℕ)
       → delivered (follows g e) arena failure bs ≡ after g (delivered e arena failure bs)
   unfolding delivered
-  commutes e arena failure bs = deliver-after e.shared.cache.pending e arena failure bs
+  commutes e arena failure bs = deliver_after e.shared.cache.pending e arena failure bs
 
 -- ---- a fix and a loss of fixes: before the delivery as after it, in answer, engine and arena
 
-lost-aside : Aside lost
+lost_aside : Aside lost
 unfolding lost
-lost-aside f need failures steps = refl
+lost_aside f need failures steps = refl
 
-pub lost-commutes : (e : Engine) (arena : List ℕ) (failure : ℕ) (bs : List ℕ)
+pub lost_commutes : (e : Engine) (arena : List ℕ) (failure : ℕ) (bs : List ℕ)
     → delivered (follows lost e) arena failure bs ≡ after lost (delivered e arena failure bs)
-lost-commutes e arena failure bs = commutes lost lost-aside e arena failure bs
+lost_commutes e arena failure bs = commutes lost lost_aside e arena failure bs
 
-abbrev pub fixedBy : Fix → Follower → Follower
-fixedBy fix f = fixed f fix
+abbrev pub fixed_by : Fix → Follower → Follower
+fixed_by fix f = fixed f fix
 
-fixed-aside : (fix : Fix) → Aside (fixedBy fix)
+fixed_aside : (fix : Fix) → Aside (fixed_by fix)
 unfolding fixed
-fixed-aside fix f need failures steps = by (isSamePlace f.sight.fix fix) _
+fixed_aside fix f need failures steps = by (is_same_place f.sight.fix fix) _
   where
-    by : (t : Bool) (x : Follower) → withParts (cond t f x) need failures steps ≡ cond t (withParts f need failures steps) (withParts x need failures steps)
+    by : (t : Bool) (x : Follower) → with_parts (cond t f x) need failures steps ≡ cond t (with_parts f need failures steps) (with_parts x need failures steps)
     by true x = refl
     by false x = refl
 
-pub fix-commutes : (e : Engine) (fix : Fix) (arena : List ℕ) (failure : ℕ) (bs : List ℕ)
-    → delivered (follows (fixedBy fix) e) arena failure bs ≡ after (fixedBy fix) (delivered e arena failure bs)
-fix-commutes e fix arena failure bs = commutes (fixedBy fix) (fixed-aside fix) e arena failure bs
+pub fix_commutes : (e : Engine) (fix : Fix) (arena : List ℕ) (failure : ℕ) (bs : List ℕ)
+    → delivered (follows (fixed_by fix) e) arena failure bs ≡ after (fixed_by fix) (delivered e arena failure bs)
+fix_commutes e fix arena failure bs = commutes (fixed_by fix) (fixed_aside fix) e arena failure bs

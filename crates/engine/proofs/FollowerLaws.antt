@@ -6,7 +6,7 @@ use Rattle.engine.specs.declared.Due.{Due}
 use Rattle.engine.specs.declared.Fix.{Fix}
 use Rattle.engine.specs.declared.Follower.{Follower}
 use Rattle.engine.specs.declared.Places.{Places}
-use Rattle.engine.specs.Fixes.{isSamePlace, push}
+use Rattle.engine.specs.Fixes.{is_same_place, push}
 use Rattle.engine.specs.Follow.{fixed, lost}
 
 -- the parts of what is due that neither touches
@@ -27,16 +27,16 @@ either : (b : Bool) (x y f : Follower) → FixKept x f → FixKept y f → FixKe
 either true x y f p q = p
 either false x y f p q = q
 
-pub fixed-keeps : (f : Follower) (fix : Fix) → FixKept (fixed f fix) f
+pub fixed_keeps : (f : Follower) (fix : Fix) → FixKept (fixed f fix) f
 unfolding fixed
-fixed-keeps f fix =
-    either (isSamePlace f.sight.fix fix) f _ f
+fixed_keeps f fix =
+    either (is_same_place f.sight.fix fix) f _ f
     (refl, (refl, ((refl, (refl, refl)), (refl, (refl, (refl, refl))))))
     (refl, (refl, ((refl, (refl, refl)), (refl, (refl, (refl, refl))))))
 
-pub lost-keeps : (f : Follower) → RestKept (lost f) f × DueKept (lost f).due f.due
+pub lost_keeps : (f : Follower) → RestKept (lost f) f × DueKept (lost f).due f.due
 unfolding lost
-lost-keeps f = ((refl, (refl, refl)), (refl, (refl, refl)))
+lost_keeps f = ((refl, (refl, refl)), (refl, (refl, refl)))
 
 -- of two histories by a test
 most : (b : Bool) (x y : Places) → (b ≡ true → x.len ≤ 16) → y.len ≤ 16 → (cond b x y).len ≤ 16

@@ -4,6 +4,6 @@ use Rattle.std.proofs.Common.{◌≡◌, refl}
 use lib.Ieee.{binary32, of_bits, of_int}
 use Rattle.geo.specs.Flat.{whole}
 
-pub literal-10000 : of_bits binary32 1176256512 ≡ whole 10000
+pub literal_10000 : of_bits binary32 1176256512 ≡ whole 10000
 unfolding of_bits of_int
-literal-10000 = refl
+literal_10000 = refl

@@ -3,8 +3,8 @@
 use Rattle.std.proofs.Common.{◌≡◌, ◌^◌, ◌<◌, Bool, true, false, ◌&&◌, eqb, ℤ, sym, refl, ap, ◌∙◌, arith, w32, to_z, of_z, eq-eqb, ne_eqb}
 use lib.Signed.{mag, le_z}
 use mir.Val.{hbits}
-use Rattle.pack.proofs.Signed.{up, dn, le-true, le-false, same, got}
-use Rattle.engine.specs.Fixes.{sameNumber}
+use Rattle.pack.proofs.Signed.{up, dn, le-true, le_false, same, got}
+use Rattle.engine.specs.Fixes.{same_number}
 
 module _ (a b : ℤ) (f : mag a < 2 ^ hbits w32) (g : mag b < 2 ^ hbits w32) where
   from_bits : of_z w32 a ≡ of_z w32 b → a ≡ b
@@ -12,8 +12,8 @@ module _ (a b : ℤ) (f : mag a < 2 ^ hbits w32) (g : mag b < 2 ^ hbits w32) whe
 
   by : (s t : Bool) → le_z a b ≡ s → le_z b a ≡ t → eqb (of_z w32 a) (of_z w32 b) ≡ (s && t)
   by true true d e = eq-eqb (of_z w32 a) (of_z w32 b) (ap (of_z w32) (same a b (omega (arith, le-true a b d, le-true b a e))))
-  by true false d e = ne_eqb (of_z w32 a) (of_z w32 b) (λ q. omega (arith, le-false b a e, ap up (from_bits q), ap dn (from_bits q)))
-  by false t d e = ne_eqb (of_z w32 a) (of_z w32 b) (λ q. omega (arith, le-false a b d, ap up (from_bits q), ap dn (from_bits q)))
+  by true false d e = ne_eqb (of_z w32 a) (of_z w32 b) (λ q. omega (arith, le_false b a e, ap up (from_bits q), ap dn (from_bits q)))
+  by false t d e = ne_eqb (of_z w32 a) (of_z w32 b) (λ q. omega (arith, le_false a b d, ap up (from_bits q), ap dn (from_bits q)))
 
-  pub same_bits : eqb (of_z w32 a) (of_z w32 b) ≡ sameNumber a b
+  pub same_bits : eqb (of_z w32 a) (of_z w32 b) ≡ same_number a b
   same_bits = by (le_z a b) (le_z b a) refl refl

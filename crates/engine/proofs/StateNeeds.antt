@@ -5,28 +5,28 @@ use borrow.Author.Tests.{lt-leb}
 use denote.Enum.Declared.{tag_of}
 use Rattle.engine.specs.declared.Phase.{Phase}
 use Rattle.engine.specs.declared.Phase.TheVariants as Phase
-use Rattle.engine.specs.State.{isReady, isUnread, isFailed}
+use Rattle.engine.specs.State.{is_ready, is_unread, is_failed}
 use Rattle.engine.specs.contracts.Phase as Phases
 
 -- ---- an arm of two phases
 
-abbrev phaseTag : Phase → ℕ
-phaseTag p = tag_of Phases.the_type p
+abbrev phase_tag : Phase → ℕ
+phase_tag p = tag_of Phases.the_type p
 
-pub not-ready : (p : Phase) → (phaseTag p ≡ 0) ⊎ (phaseTag p ≡ 2) → isReady p ≡ false
-not-ready Phase.Unread h = refl
-not-ready Phase.Ready h = absurd (⊎_elim (λ z. omega arith) (λ z. omega arith) h)
-not-ready Phase.Failed h = refl
+pub not_ready : (p : Phase) → (phase_tag p ≡ 0) ⊎ (phase_tag p ≡ 2) → is_ready p ≡ false
+not_ready Phase.Unread h = refl
+not_ready Phase.Ready h = absurd (⊎_elim (λ z. omega arith) (λ z. omega arith) h)
+not_ready Phase.Failed h = refl
 
-pub not-unread : (p : Phase) → (phaseTag p ≡ 1) ⊎ (phaseTag p ≡ 2) → isUnread p ≡ false
-not-unread Phase.Unread h = absurd (⊎_elim (λ z. omega arith) (λ z. omega arith) h)
-not-unread Phase.Ready h = refl
-not-unread Phase.Failed h = refl
+pub not_unread : (p : Phase) → (phase_tag p ≡ 1) ⊎ (phase_tag p ≡ 2) → is_unread p ≡ false
+not_unread Phase.Unread h = absurd (⊎_elim (λ z. omega arith) (λ z. omega arith) h)
+not_unread Phase.Ready h = refl
+not_unread Phase.Failed h = refl
 
-pub not-failed : (p : Phase) → (phaseTag p ≡ 1) ⊎ (phaseTag p ≡ 0) → isFailed p ≡ false
-not-failed Phase.Unread h = refl
-not-failed Phase.Ready h = refl
-not-failed Phase.Failed h = absurd (⊎_elim (λ z. omega arith) (λ z. omega arith) h)
+pub not_failed : (p : Phase) → (phase_tag p ≡ 1) ⊎ (phase_tag p ≡ 0) → is_failed p ≡ false
+not_failed Phase.Unread h = refl
+not_failed Phase.Ready h = refl
+not_failed Phase.Failed h = absurd (⊎_elim (λ z. omega arith) (λ z. omega arith) h)
 
 -- ---- the arena
 

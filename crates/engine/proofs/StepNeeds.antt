@@ -1,5 +1,5 @@
 -- What an arm of a `match` on several variants knows: the value is one of them, so that what the definition makes of each of them is what the
--- arm does. The idea: the number of the variant tells it. And the limit on asked tiles is a small number (`limit-small`).
+-- arm does. The idea: the number of the variant tells it. And the limit on asked tiles is a small number (`limit_small`).
 use Rattle.std.proofs.Common.{◌≡◌, ℕ, ◌+◌, ◌≤◌, Bool, true, false, cond, not, eqb, ltb, leb, ◌⊎◌, List, sym, refl, ⊎_elim, true≢false, arith, ltb-false, ltb-true, le-leb}
 use borrow.Author.Tests.{lt-leb}
 use native.Mathlib.Nat.{min-le_right}
@@ -34,189 +34,189 @@ use Rattle.engine.specs.declared.plan.Plan.TheVariants as Plan
 use Rattle.engine.specs.declared.Status.{Status}
 use Rattle.engine.specs.declared.Status.TheVariants as Status
 use Rattle.engine.specs.declared.Stepped.{Stepped}
-use Rattle.engine.specs.State.{reloadLimit, refused}
-use Rattle.engine.specs.Work.{counted, ended, matched, matchEndedBy, rematch, withHeights, roadEndedBy}
-use Rattle.engine.specs.Deliver.{over, failing, failedPack, arrived, loadFailed, loadedBy, needCame, deliveredBy}
-use Rattle.engine.specs.Plans.{ofFix, matchLeaves, matchTells, roadLeaves, roadFails, roadNumber, loadLeaves, failsPack, loadPhase, loadTells}
-use Rattle.engine.specs.Steps.{repeated, steppedBy}
-use Rattle.engine.specs.Calls.{stepFromBy}
+use Rattle.engine.specs.State.{reload_limit, refused}
+use Rattle.engine.specs.Work.{counted, ended, matched, match_ended_by, rematch, with_heights, road_ended_by}
+use Rattle.engine.specs.Deliver.{over, failing, failed_pack, arrived, load_failed, loaded_by, need_came, delivered_by}
+use Rattle.engine.specs.Plans.{of_fix, match_leaves, match_tells, road_leaves, road_fails, road_number, load_leaves, fails_pack, load_phase, load_tells}
+use Rattle.engine.specs.Steps.{repeated, stepped_by}
+use Rattle.engine.specs.Calls.{step_from_by}
 use Rattle.engine.specs.contracts.Status as Statuses
 
-abbrev keyedTag : Keyed → ℕ
-keyedTag k = tag_of Keyeds.the_type k
+abbrev keyed_tag : Keyed → ℕ
+keyed_tag k = tag_of Keyeds.the_type k
 
-abbrev roadTag : RoadOutcome.Outcome → ℕ
-roadTag o = tag_of RoadOutcomes.the_type o
+abbrev road_tag : RoadOutcome.Outcome → ℕ
+road_tag o = tag_of RoadOutcomes.the_type o
 
-abbrev progressTag : Progress → ℕ
-progressTag p = tag_of Progresses.the_type p
+abbrev progress_tag : Progress → ℕ
+progress_tag p = tag_of Progresses.the_type p
 
-abbrev pendingTag : Pending → ℕ
-pendingTag p = tag_of Pendings.the_type p
+abbrev pending_tag : Pending → ℕ
+pending_tag p = tag_of Pendings.the_type p
 
-abbrev outcomeTag : Outcome → ℕ
-outcomeTag o = tag_of Outcomes.the_type o
+abbrev outcome_tag : Outcome → ℕ
+outcome_tag o = tag_of Outcomes.the_type o
 
-abbrev statusTag : Status → ℕ
-statusTag a = tag_of Statuses.the_type a
+abbrev status_tag : Status → ℕ
+status_tag a = tag_of Statuses.the_type a
 
 -- ---- a match that ended: with a match, without one, or for want of a tile
 
-pub match-left : (o : Outcome) → (outcomeTag o ≡ 0) ⊎ ((outcomeTag o ≡ 1) ⊎ (outcomeTag o ≡ 3)) → (f : Follower) (m : Matcher) (fix : Fix) (pages : ℕ)
-    → matchLeaves o f m fix pages ≡ matched f m fix
-match-left (Outcome.Found m) h f next fix pages = refl
-match-left Outcome.Nothing h f next fix pages = refl
-match-left (Outcome.Need key) h f next fix pages =
+pub match_left : (o : Outcome) → (outcome_tag o ≡ 0) ⊎ ((outcome_tag o ≡ 1) ⊎ (outcome_tag o ≡ 3)) → (f : Follower) (m : Matcher) (fix : Fix) (pages : ℕ)
+    → match_leaves o f m fix pages ≡ matched f m fix
+match_left (Outcome.Found m) h f next fix pages = refl
+match_left Outcome.Nothing h f next fix pages = refl
+match_left (Outcome.Need key) h f next fix pages =
     absurd (⊎_elim (λ z. omega arith) (λ t. ⊎_elim (λ z. omega arith) (λ z. omega arith) t) h)
-match-left (Outcome.Refused number) h f next fix pages = refl
+match_left (Outcome.Refused number) h f next fix pages = refl
 
-pub match-told : (o : Outcome) → (outcomeTag o ≡ 0) ⊎ ((outcomeTag o ≡ 1) ⊎ (outcomeTag o ≡ 3)) → (due : Due) (pages : ℕ)
-    → matchTells o due pages ≡ Status.Working
-match-told (Outcome.Found m) h due pages = refl
-match-told Outcome.Nothing h due pages = refl
-match-told (Outcome.Need key) h due pages =
+pub match_told : (o : Outcome) → (outcome_tag o ≡ 0) ⊎ ((outcome_tag o ≡ 1) ⊎ (outcome_tag o ≡ 3)) → (due : Due) (pages : ℕ)
+    → match_tells o due pages ≡ Status.Working
+match_told (Outcome.Found m) h due pages = refl
+match_told Outcome.Nothing h due pages = refl
+match_told (Outcome.Need key) h due pages =
     absurd (⊎_elim (λ z. omega arith) (λ t. ⊎_elim (λ z. omega arith) (λ z. omega arith) t) h)
-match-told (Outcome.Refused number) h due pages = refl
+match_told (Outcome.Refused number) h due pages = refl
 
-pub match-ended : (o : Outcome) → (outcomeTag o ≡ 0) ⊎ ((outcomeTag o ≡ 1) ⊎ (outcomeTag o ≡ 2)) → (e : Engine) (f : Follower) (fix : Fix) (u : Updated)
-    → matchEndedBy o e f fix u
-    ≡ ended e u.cache (matchLeaves o f u.matcher fix u.cache.pages.count) (matchTells o f.due u.cache.pages.count)
-match-ended (Outcome.Found m) h e f fix u = refl
-match-ended Outcome.Nothing h e f fix u = refl
-match-ended (Outcome.Need key) h e f fix u = refl
-match-ended (Outcome.Refused number) h e f fix u =
+pub match_ended : (o : Outcome) → (outcome_tag o ≡ 0) ⊎ ((outcome_tag o ≡ 1) ⊎ (outcome_tag o ≡ 2)) → (e : Engine) (f : Follower) (fix : Fix) (u : Updated)
+    → match_ended_by o e f fix u
+    ≡ ended e u.cache (match_leaves o f u.matcher fix u.cache.pages.count) (match_tells o f.due u.cache.pages.count)
+match_ended (Outcome.Found m) h e f fix u = refl
+match_ended Outcome.Nothing h e f fix u = refl
+match_ended (Outcome.Need key) h e f fix u = refl
+match_ended (Outcome.Refused number) h e f fix u =
     absurd (⊎_elim (λ z. omega arith) (λ t. ⊎_elim (λ z. omega arith) (λ z. omega arith) t) h)
 
 -- ---- a road that ended
 
-pub road-refused : (o : RoadOutcome.Outcome) → roadFails o ≡ true → (e : Engine) (f : Follower) (fix : Fix) (found : Matched) (x : After)
-    → roadEndedBy o e f fix found x ≡ refused e (roadNumber o)
-road-refused (Road.Road r) q e f fix found x = absurd (true≢false (sym q))
-road-refused (Road.Need key) q e f fix found x = absurd (true≢false (sym q))
-road-refused Road.Rematch q e f fix found x = absurd (true≢false (sym q))
-road-refused (Road.Refused number) q e f fix found x = by (eqb number 10) q
+pub road_refused : (o : RoadOutcome.Outcome) → road_fails o ≡ true → (e : Engine) (f : Follower) (fix : Fix) (found : Matched) (x : After)
+    → road_ended_by o e f fix found x ≡ refused e (road_number o)
+road_refused (Road.Road r) q e f fix found x = absurd (true≢false (sym q))
+road_refused (Road.Need key) q e f fix found x = absurd (true≢false (sym q))
+road_refused Road.Rematch q e f fix found x = absurd (true≢false (sym q))
+road_refused (Road.Refused number) q e f fix found x = by (eqb number 10) q
   where
     by : (t : Bool) → not t ≡ true → cond t (ended e x.predicted.cache (rematch f) Status.Working) (refused e number) ≡ refused e number
     by true q = absurd (true≢false (sym q))
     by false q = refl
 
-pub road-ended : (o : RoadOutcome.Outcome) → roadFails o ≡ false → (e : Engine) (f : Follower) (fix : Fix) (found : Matched) (x : After)
-    → roadEndedBy o e f fix found x
-    ≡ ended e x.predicted.cache (roadLeaves o f (withHeights f.ahead x.samples x.behind) x.predicted.cache.pages.count fix found) Status.Working
-road-ended (Road.Road r) q e f fix found x = refl
-road-ended (Road.Need key) q e f fix found x = refl
-road-ended Road.Rematch q e f fix found x = refl
-road-ended (Road.Refused number) q e f fix found x = by (eqb number 10) q
+pub road_ended : (o : RoadOutcome.Outcome) → road_fails o ≡ false → (e : Engine) (f : Follower) (fix : Fix) (found : Matched) (x : After)
+    → road_ended_by o e f fix found x
+    ≡ ended e x.predicted.cache (road_leaves o f (with_heights f.ahead x.samples x.behind) x.predicted.cache.pages.count fix found) Status.Working
+road_ended (Road.Road r) q e f fix found x = refl
+road_ended (Road.Need key) q e f fix found x = refl
+road_ended Road.Rematch q e f fix found x = refl
+road_ended (Road.Refused number) q e f fix found x = by (eqb number 10) q
   where
     by : (t : Bool) → not t ≡ false
         → cond t (ended e x.predicted.cache (rematch f) Status.Working) (refused e number) ≡ ended e x.predicted.cache (rematch f) Status.Working
     by true q = refl
     by false q = absurd (true≢false q)
 
-pub road-stays : (o : RoadOutcome.Outcome) → (roadTag o ≡ 0) ⊎ ((roadTag o ≡ 1) ⊎ (roadTag o ≡ 2)) → roadFails o ≡ false
-road-stays (Road.Road r) h = refl
-road-stays (Road.Need key) h = refl
-road-stays Road.Rematch h = refl
-road-stays (Road.Refused number) h = absurd (⊎_elim (λ z. omega arith) (λ t. ⊎_elim (λ z. omega arith) (λ z. omega arith) t) h)
+pub road_stays : (o : RoadOutcome.Outcome) → (road_tag o ≡ 0) ⊎ ((road_tag o ≡ 1) ⊎ (road_tag o ≡ 2)) → road_fails o ≡ false
+road_stays (Road.Road r) h = refl
+road_stays (Road.Need key) h = refl
+road_stays Road.Rematch h = refl
+road_stays (Road.Refused number) h = absurd (⊎_elim (λ z. omega arith) (λ t. ⊎_elim (λ z. omega arith) (λ z. omega arith) t) h)
 
-pub road-unnumbered : (o : RoadOutcome.Outcome) → (roadTag o ≡ 0) ⊎ ((roadTag o ≡ 1) ⊎ (roadTag o ≡ 2)) → roadNumber o ≡ 0
-road-unnumbered (Road.Road r) h = refl
-road-unnumbered (Road.Need key) h = refl
-road-unnumbered Road.Rematch h = refl
-road-unnumbered (Road.Refused number) h = absurd (⊎_elim (λ z. omega arith) (λ t. ⊎_elim (λ z. omega arith) (λ z. omega arith) t) h)
+pub road_unnumbered : (o : RoadOutcome.Outcome) → (road_tag o ≡ 0) ⊎ ((road_tag o ≡ 1) ⊎ (road_tag o ≡ 2)) → road_number o ≡ 0
+road_unnumbered (Road.Road r) h = refl
+road_unnumbered (Road.Need key) h = refl
+road_unnumbered Road.Rematch h = refl
+road_unnumbered (Road.Refused number) h = absurd (⊎_elim (λ z. omega arith) (λ t. ⊎_elim (λ z. omega arith) (λ z. omega arith) t) h)
 
-pub road-left : (o : RoadOutcome.Outcome) → (roadTag o ≡ 2) ⊎ (roadTag o ≡ 3) → (f : Follower) (a : Ahead) (pages : ℕ) (fix : Fix) (found : Matched)
-    → roadLeaves o f a pages fix found ≡ rematch f
-road-left (Road.Road r) h f a pages fix found = absurd (⊎_elim (λ z. omega arith) (λ z. omega arith) h)
-road-left (Road.Need key) h f a pages fix found = absurd (⊎_elim (λ z. omega arith) (λ z. omega arith) h)
-road-left Road.Rematch h f a pages fix found = refl
-road-left (Road.Refused number) h f a pages fix found = refl
+pub road_left : (o : RoadOutcome.Outcome) → (road_tag o ≡ 2) ⊎ (road_tag o ≡ 3) → (f : Follower) (a : Ahead) (pages : ℕ) (fix : Fix) (found : Matched)
+    → road_leaves o f a pages fix found ≡ rematch f
+road_left (Road.Road r) h f a pages fix found = absurd (⊎_elim (λ z. omega arith) (λ z. omega arith) h)
+road_left (Road.Need key) h f a pages fix found = absurd (⊎_elim (λ z. omega arith) (λ z. omega arith) h)
+road_left Road.Rematch h f a pages fix found = refl
+road_left (Road.Refused number) h f a pages fix found = refl
 
 -- ---- a step of a load that ended
 
-pub load-ended : (p : Progress) → (progressTag p ≡ 0) ⊎ ((progressTag p ≡ 1) ⊎ (progressTag p ≡ 2)) → (e : Engine) (c : Cache)
-    → loadedBy p e c
+pub load_ended : (p : Progress) → (progress_tag p ≡ 0) ⊎ ((progress_tag p ≡ 1) ⊎ (progress_tag p ≡ 2)) → (e : Engine) (c : Cache)
+    → loaded_by p e c
     ≡ record {
-      answer = loadTells (failsPack p e.follower.failures);
+      answer = load_tells (fails_pack p e.follower.failures);
       engine = record {
-        shared = record { phase = loadPhase e.shared.phase (failsPack p e.follower.failures); header = e.shared.header; cache = c };
-        follower = loadLeaves p e.follower;
+        shared = record { phase = load_phase e.shared.phase (fails_pack p e.follower.failures); header = e.shared.header; cache = c };
+        follower = load_leaves p e.follower;
       };
     }
-unfolding arrived loadFailed
-load-ended Progress.Done h e c = refl
-load-ended Progress.More h e c = refl
-load-ended (Progress.Failed number) h e c = by e.follower.failures (ltb e.follower.failures 7) refl
+unfolding arrived load_failed
+load_ended Progress.Done h e c = refl
+load_ended Progress.More h e c = refl
+load_ended (Progress.Failed number) h e c = by e.follower.failures (ltb e.follower.failures 7) refl
   where
     by : (n : ℕ) (t : Bool) → ltb n 7 ≡ t
-        → cond t (ended e c (failing (counted e.follower) (n + 1)) Status.Working) (failedPack e c (failing (counted e.follower) 8))
+        → cond t (ended e c (failing (counted e.follower) (n + 1)) Status.Working) (failed_pack e c (failing (counted e.follower) 8))
         ≡ record {
-          answer = loadTells (leb 7 n);
+          answer = load_tells (leb 7 n);
           engine = record {
-            shared = record { phase = loadPhase e.shared.phase (leb 7 n); header = e.shared.header; cache = c };
+            shared = record { phase = load_phase e.shared.phase (leb 7 n); header = e.shared.header; cache = c };
             follower = failing (counted e.follower) (cond t (n + 1) 8);
           };
         }
     by n true q = rw (lt-leb 7 n (ltb-true n 7 q))
     by n false q = rw (le-leb 7 n (ltb-false n 7 q))
-load-ended (Progress.Refused number) h e c =
+load_ended (Progress.Refused number) h e c =
     absurd (⊎_elim (λ z. omega arith) (λ t. ⊎_elim (λ z. omega arith) (λ z. omega arith) t) h)
 
-pub load-stays : (p : Progress) → (progressTag p ≡ 0) ⊎ ((progressTag p ≡ 1) ⊎ (progressTag p ≡ 3)) → (failures : ℕ) → failsPack p failures ≡ false
-load-stays Progress.Done h failures = refl
-load-stays Progress.More h failures = refl
-load-stays (Progress.Failed number) h failures =
+pub load_stays : (p : Progress) → (progress_tag p ≡ 0) ⊎ ((progress_tag p ≡ 1) ⊎ (progress_tag p ≡ 3)) → (failures : ℕ) → fails_pack p failures ≡ false
+load_stays Progress.Done h failures = refl
+load_stays Progress.More h failures = refl
+load_stays (Progress.Failed number) h failures =
     absurd (⊎_elim (λ z. omega arith) (λ t. ⊎_elim (λ z. omega arith) (λ z. omega arith) t) h)
-load-stays (Progress.Refused number) h failures = refl
+load_stays (Progress.Refused number) h failures = refl
 
-pub load-counted : (p : Progress) → (progressTag p ≡ 1) ⊎ (progressTag p ≡ 3) → (f : Follower) → loadLeaves p f ≡ counted f
-load-counted Progress.Done h f = absurd (⊎_elim (λ z. omega arith) (λ z. omega arith) h)
-load-counted Progress.More h f = refl
-load-counted (Progress.Failed number) h f = absurd (⊎_elim (λ z. omega arith) (λ z. omega arith) h)
-load-counted (Progress.Refused number) h f = refl
+pub load_counted : (p : Progress) → (progress_tag p ≡ 1) ⊎ (progress_tag p ≡ 3) → (f : Follower) → load_leaves p f ≡ counted f
+load_counted Progress.Done h f = absurd (⊎_elim (λ z. omega arith) (λ z. omega arith) h)
+load_counted Progress.More h f = refl
+load_counted (Progress.Failed number) h f = absurd (⊎_elim (λ z. omega arith) (λ z. omega arith) h)
+load_counted (Progress.Refused number) h f = refl
 
 -- ---- a fix outside the grid
 
-pub fix-off : (k : Keyed) → (keyedTag k ≡ 1) ⊎ (keyedTag k ≡ 2) → (fix : Fix) (due : Due) (current : Current) → ofFix k fix due current ≡ Plan.Off fix
-fix-off (Keyed.In key) h fix due current = absurd (⊎_elim (λ z. omega arith) (λ z. omega arith) h)
-fix-off Keyed.Outside h fix due current = refl
-fix-off (Keyed.Refused number) h fix due current = refl
+pub fix_off : (k : Keyed) → (keyed_tag k ≡ 1) ⊎ (keyed_tag k ≡ 2) → (fix : Fix) (due : Due) (current : Current) → of_fix k fix due current ≡ Plan.Off fix
+fix_off (Keyed.In key) h fix due current = absurd (⊎_elim (λ z. omega arith) (λ z. omega arith) h)
+fix_off Keyed.Outside h fix due current = refl
+fix_off (Keyed.Refused number) h fix due current = refl
 
 -- ---- an open fetch
 
-pub part-delivered : (p : Pending) → (pendingTag p ≡ 2) ⊎ (pendingTag p ≡ 3) → (e : Engine) (arena : List ℕ) (failure : ℕ) (bs : List ℕ)
-    → deliveredBy p e arena failure bs ≡ needCame e arena failure bs
-part-delivered Pending.Nothing h e arena failure bs = absurd (⊎_elim (λ z. omega arith) (λ z. omega arith) h)
-part-delivered Pending.Header h e arena failure bs = absurd (⊎_elim (λ z. omega arith) (λ z. omega arith) h)
-part-delivered (Pending.Entry key) h e arena failure bs = refl
-part-delivered Pending.Chunk h e arena failure bs = refl
+pub part_delivered : (p : Pending) → (pending_tag p ≡ 2) ⊎ (pending_tag p ≡ 3) → (e : Engine) (arena : List ℕ) (failure : ℕ) (bs : List ℕ)
+    → delivered_by p e arena failure bs ≡ need_came e arena failure bs
+part_delivered Pending.Nothing h e arena failure bs = absurd (⊎_elim (λ z. omega arith) (λ z. omega arith) h)
+part_delivered Pending.Header h e arena failure bs = absurd (⊎_elim (λ z. omega arith) (λ z. omega arith) h)
+part_delivered (Pending.Entry key) h e arena failure bs = refl
+part_delivered Pending.Chunk h e arena failure bs = refl
 
-pub fetch-repeated : (p : Pending) → (pendingTag p ≡ 1) ⊎ ((pendingTag p ≡ 2) ⊎ (pendingTag p ≡ 3)) → (e : Engine) (arena : List ℕ)
-    → steppedBy p e arena ≡ repeated e p
-fetch-repeated Pending.Nothing h e arena =
+pub fetch_repeated : (p : Pending) → (pending_tag p ≡ 1) ⊎ ((pending_tag p ≡ 2) ⊎ (pending_tag p ≡ 3)) → (e : Engine) (arena : List ℕ)
+    → stepped_by p e arena ≡ repeated e p
+fetch_repeated Pending.Nothing h e arena =
     absurd (⊎_elim (λ z. omega arith) (λ t. ⊎_elim (λ z. omega arith) (λ z. omega arith) t) h)
-fetch-repeated Pending.Header h e arena = refl
-fetch-repeated (Pending.Entry key) h e arena = refl
-fetch-repeated Pending.Chunk h e arena = refl
+fetch_repeated Pending.Header h e arena = refl
+fetch_repeated (Pending.Entry key) h e arena = refl
+fetch_repeated Pending.Chunk h e arena = refl
 
 -- ---- a step that fetches nothing
 
-pub step-over :
+pub step_over :
     (a : Status)
-    → (statusTag a ≡ 0) ⊎ ((statusTag a ≡ 1) ⊎ ((statusTag a ≡ 2) ⊎ ((statusTag a ≡ 3) ⊎ (statusTag a ≡ 5))))
-    → (s : Stepped) (arena pack : List ℕ) → stepFromBy a s arena pack ≡ over s arena
-step-over Status.Idle h s arena pack = refl
-step-over Status.Working h s arena pack = refl
-step-over Status.NoPack h s arena pack = refl
-step-over Status.OffMap h s arena pack = refl
-step-over (Status.Fetch offset len) h s arena pack =
+    → (status_tag a ≡ 0) ⊎ ((status_tag a ≡ 1) ⊎ ((status_tag a ≡ 2) ⊎ ((status_tag a ≡ 3) ⊎ (status_tag a ≡ 5))))
+    → (s : Stepped) (arena pack : List ℕ) → step_from_by a s arena pack ≡ over s arena
+step_over Status.Idle h s arena pack = refl
+step_over Status.Working h s arena pack = refl
+step_over Status.NoPack h s arena pack = refl
+step_over Status.OffMap h s arena pack = refl
+step_over (Status.Fetch offset len) h s arena pack =
     absurd
     (⊎_elim (λ z. omega arith)
     (λ t. ⊎_elim (λ z. omega arith) (λ u. ⊎_elim (λ z. omega arith) (λ v. ⊎_elim (λ z. omega arith) (λ z. omega arith) v) u) t)
     h)
-step-over (Status.Refused number) h s arena pack = refl
+step_over (Status.Refused number) h s arena pack = refl
 
 -- ---- the limit on asked tiles
 
-pub limit-small : (pages : ℕ) → reloadLimit pages ≤ 208
-limit-small pages = omega (arith, min-le_right pages 96)
+pub limit_small : (pages : ℕ) → reload_limit pages ≤ 208
+limit_small pages = omega (arith, min-le_right pages 96)

@@ -1,10 +1,10 @@
--- An engine by its summary: number 12's test is the cache's own and the summary's (`summary-ok`), and the plan of a step is the summary's (`summary-plan`).
+-- An engine by its summary: number 12's test is the cache's own and the summary's (`summary_ok`), and the plan of a step is the summary's (`summary_plan`).
 -- What a caller that holds the state in a form of its own goes by: a step towards the needed tile opens a fetch where the cache would read
--- (`need-waits-entry`, `need-waits-chunk`), the needed tile lies in the grid (`need-in`), and a chunk that leaves more to come moves the load on and
--- writes its bytes (`chunk-more`).
+-- (`need_waits_entry`, `need_waits_chunk`), the needed tile lies in the grid (`need_in`), and a chunk that leaves more to come moves the load on and
+-- writes its bytes (`chunk_more`).
 use Rattle.std.proofs.Common.{◌≡◌, ℕ, ◌+◌, ◌<◌, Bool, true, false, cond, ◌&&◌, eqb, List, [], ◌∷◌, length, sym, refl, ap, ◌∙◌, true≢false, lt-ltb, eq-eqb, eqb-true}
 use borrow.Author.Tests.{lt-leb}
-use Rattle.pack.specs.Grid.{inGrid}
+use Rattle.pack.specs.Grid.{in_grid}
 use Rattle.pack.specs.declared.Header.{Header}
 use Rattle.pack.specs.declared.TileKey.{TileKey}
 use Rattle.pack.proofs.Laws.{and_left, and_right, clause}
@@ -18,27 +18,27 @@ use Rattle.cache.specs.declared.Pending.{Pending}
 use Rattle.cache.specs.declared.Pending.TheVariants as Pending
 use Rattle.cache.specs.declared.next.Next.{Next}
 use Rattle.cache.specs.declared.next.Next.TheVariants as Next
-use Rattle.cache.specs.Keys.{sameKey, holds}
-use Rattle.cache.specs.Lookups.{nextStep}
-use Rattle.cache.specs.State.{stateOk, runsOk, ringOk, loadOk, isChunk, wantsChunkOf, pendingFits}
+use Rattle.cache.specs.Keys.{same_key, holds}
+use Rattle.cache.specs.Lookups.{next_step}
+use Rattle.cache.specs.State.{state_ok, runs_ok, ring_ok, load_ok, is_chunk, wants_chunk_of, pending_fits}
 use Rattle.cache.specs.State as Caches
-use Rattle.cache.specs.Loads.{chunkLen, unreadStep, moved, further, put, chunkStep}
+use Rattle.cache.specs.Loads.{chunk_len, unread_step, moved, further, put, chunk_step}
 use Rattle.cache.specs.Loads as Loads
-use Rattle.cache.proofs.FromLaws.{next-chunk}
-use Rattle.cache.proofs.UnreadLaws.{unread-steps}
+use Rattle.cache.proofs.FromLaws.{next_chunk}
+use Rattle.cache.proofs.UnreadLaws.{unread_steps}
 use Rattle.engine.specs.declared.Engine.{Engine}
 use Rattle.engine.specs.declared.Phase.{Phase}
 use Rattle.engine.specs.declared.Phase.TheVariants as Phase
 use Rattle.engine.specs.declared.Status.TheVariants as Status
-use Rattle.engine.specs.Deliver.{After, over, loaded, needCameBy, deliveredBy, delivered}
+use Rattle.engine.specs.Deliver.{After, over, loaded, need_came_by, delivered_by, delivered}
 use Rattle.engine.specs.Plans.{plan_of}
-use Rattle.engine.specs.State.{refused, isReady, sharedOk, dueOk, sightOk, matcherOk, aheadOk, failuresOk, pendingOk, engineOk}
-use Rattle.engine.specs.Steps.{opened, needStep}
-use Rattle.engine.specs.Summaries.{summaryOf, sharedIn, followerIn, passes, plan}
+use Rattle.engine.specs.State.{refused, is_ready, shared_ok, due_ok, sight_ok, matcher_ok, ahead_ok, failures_ok, pending_ok, engine_ok}
+use Rattle.engine.specs.Steps.{opened, need_step}
+use Rattle.engine.specs.Summaries.{summary_of, shared_in, follower_in, passes, plan}
 use Rattle.engine.specs.Work.{counted, ended}
-use Rattle.engine.proofs.NeedLaws.{turned, entry-for, chunk-for, part-is}
-use Rattle.engine.proofs.TestedLaws.{causes, state-in}
-pub use Rattle.engine.proofs.TestedLaws.{need-in}
+use Rattle.engine.proofs.NeedLaws.{turned, entry_for, chunk_for, part_is}
+use Rattle.engine.proofs.TestedLaws.{causes, state_in}
+pub use Rattle.engine.proofs.TestedLaws.{need_in}
 
 -- ---- number 12, and the plan
 
@@ -54,103 +54,103 @@ parts_in true true true true true true false p = refl
 parts_in true true true true true true true false = refl
 parts_in true true true true true true true true = refl
 
-pub summary-ok : (e : Engine) (size : ℕ) → engineOk e size ≡ (stateOk e.shared.cache && passes (summaryOf e) size)
-unfolding engineOk sharedOk summaryOf followerIn passes
-summary-ok e size =
-    parts_in (stateOk e.shared.cache) (sharedIn (summaryOf e) size) (dueOk e.shared e.follower.due) (sightOk e.follower.sight)
-    (matcherOk e.shared e.follower.matcher) (aheadOk e.shared e.follower.ahead) (failuresOk e.shared.phase e.follower.failures)
-    (pendingOk e.shared e.follower.due.need)
+pub summary_ok : (e : Engine) (size : ℕ) → engine_ok e size ≡ (state_ok e.shared.cache && passes (summary_of e) size)
+unfolding engine_ok shared_ok summary_of follower_in passes
+summary_ok e size =
+    parts_in (state_ok e.shared.cache) (shared_in (summary_of e) size) (due_ok e.shared e.follower.due) (sight_ok e.follower.sight)
+    (matcher_ok e.shared e.follower.matcher) (ahead_ok e.shared e.follower.ahead) (failures_ok e.shared.phase e.follower.failures)
+    (pending_ok e.shared e.follower.due.need)
 
-pub summary-plan : (e : Engine) → plan (summaryOf e) ≡ plan_of e
-unfolding summaryOf
-summary-plan e = refl
+pub summary_plan : (e : Engine) → plan (summary_of e) ≡ plan_of e
+unfolding summary_of
+summary_plan e = refl
 
 -- ---- a step towards the needed tile, where the cache would read
 
-module _ (e : Engine) (arena : List ℕ) (key : TileKey) (inside : inGrid e.shared.header key ≡ true) where
-  unread-by : (n : Next) → nextStep e.shared.cache key ≡ n
-      → needStep e arena key ≡ turned e arena key (unreadStep e.shared.cache n arena key e.shared.header.tile)
-  unfolding needStep
-  unread-by n q =
-      ap (turned e arena key) (unread-steps e.shared.cache arena e.shared.header key inside)
-      ∙ ap (λ (x : Next). turned e arena key (unreadStep e.shared.cache x arena key e.shared.header.tile)) q
+module _ (e : Engine) (arena : List ℕ) (key : TileKey) (inside : in_grid e.shared.header key ≡ true) where
+  unread_by : (n : Next) → next_step e.shared.cache key ≡ n
+      → need_step e arena key ≡ turned e arena key (unread_step e.shared.cache n arena key e.shared.header.tile)
+  unfolding need_step
+  unread_by n q =
+      ap (turned e arena key) (unread_steps e.shared.cache arena e.shared.header key inside)
+      ∙ ap (λ (x : Next). turned e arena key (unread_step e.shared.cache x arena key e.shared.header.tile)) q
 
-  pub need-waits-entry : nextStep e.shared.cache key ≡ Next.Entry → needStep e arena key ≡ opened e (Pending.Entry key)
-  need-waits-entry q = unread-by Next.Entry q ∙ ap (opened e) (entry-for key e.shared.cache q)
+  pub need_waits_entry : next_step e.shared.cache key ≡ Next.Entry → need_step e arena key ≡ opened e (Pending.Entry key)
+  need_waits_entry q = unread_by Next.Entry q ∙ ap (opened e) (entry_for key e.shared.cache q)
 
-  pub need-waits-chunk : (l : Loading) → nextStep e.shared.cache key ≡ Next.Chunk l → l.done < l.len → needStep e arena key ≡ opened e Pending.Chunk
-  need-waits-chunk l q more =
-      unread-by (Next.Chunk l) q ∙ rw (lt-leb l.len l.done more) (ap (opened e) (chunk-for key e.shared.cache l q))
+  pub need_waits_chunk : (l : Loading) → next_step e.shared.cache key ≡ Next.Chunk l → l.done < l.len → need_step e arena key ≡ opened e Pending.Chunk
+  need_waits_chunk l q more =
+      unread_by (Next.Chunk l) q ∙ rw (lt-leb l.len l.done more) (ap (opened e) (chunk_for key e.shared.cache l q))
 
 -- ---- a chunk that leaves more to come
 
-same_key : (a b : TileKey) → sameKey a b ≡ true → a ≡ b
-same_key a b e =
+same_key_lem : (a b : TileKey) → same_key a b ≡ true → a ≡ b
+same_key_lem a b e =
     let row : a.row ≡ b.row = eqb-true a.row b.row (and_left (eqb a.row b.row) _ e) in
     let col : a.col ≡ b.col = eqb-true a.col b.col (and_right (eqb a.row b.row) _ e) in
     λ i. record { row = row i; col = col i }
 
-holds-is : (need : MaybeKey) (key : TileKey) → holds need key ≡ true → need ≡ MaybeKey.Key key
-holds-is (MaybeKey.Key k) key q = ap MaybeKey.Key (same_key k key q)
-holds-is MaybeKey.Nothing key q = absurd (true≢false (sym q))
+holds_is : (need : MaybeKey) (key : TileKey) → holds need key ≡ true → need ≡ MaybeKey.Key key
+holds_is (MaybeKey.Key k) key q = ap MaybeKey.Key (same_key_lem k key q)
+holds_is MaybeKey.Nothing key q = absurd (true≢false (sym q))
 
-ready-is : (p : Phase) → isReady p ≡ true → p ≡ Phase.Ready
-ready-is Phase.Ready q = refl
-ready-is Phase.Unread q = absurd (true≢false (sym q))
-ready-is Phase.Failed q = absurd (true≢false (sym q))
+ready_is : (p : Phase) → is_ready p ≡ true → p ≡ Phase.Ready
+ready_is Phase.Ready q = refl
+ready_is Phase.Unread q = absurd (true≢false (sym q))
+ready_is Phase.Failed q = absurd (true≢false (sym q))
 
 -- the next step towards a key that is a chunk is one of the load under way
-chunk_next : (c : Cache) (key : TileKey) (l : Loading) → c.loading ≡ MaybeLoading.Tile l → isChunk (nextStep c key) ≡ true → nextStep c key ≡ Next.Chunk l
-chunk_next c key l q t = by (nextStep c key) refl t
+chunk_next : (c : Cache) (key : TileKey) (l : Loading) → c.loading ≡ MaybeLoading.Tile l → is_chunk (next_step c key) ≡ true → next_step c key ≡ Next.Chunk l
+chunk_next c key l q t = by (next_step c key) refl t
   where
-    by : (n : Next) → nextStep c key ≡ n → isChunk n ≡ true → n ≡ Next.Chunk l
-    by (Next.Chunk m) r t = let s : c.loading ≡ MaybeLoading.Tile m = next-chunk key m c r in let same : m ≡ l = cc in ap Next.Chunk same
+    by : (n : Next) → next_step c key ≡ n → is_chunk n ≡ true → n ≡ Next.Chunk l
+    by (Next.Chunk m) r t = let s : c.loading ≡ MaybeLoading.Tile m = next_chunk key m c r in let same : m ≡ l = cc in ap Next.Chunk same
     by Next.Entry r t = absurd (true≢false (sym t))
     by (Next.Ready i) r t = absurd (true≢false (sym t))
     by Next.Missing r t = absurd (true≢false (sym t))
     by Next.NoPages r t = absurd (true≢false (sym t))
 
 -- the fetch of a chunk is open, of a load that number 12 does not name
-module _ (e : Engine) (size : ℕ) (ok : engineOk e size ≡ true) (l : Loading)
+module _ (e : Engine) (size : ℕ) (ok : engine_ok e size ≡ true) (l : Loading)
     (waits : e.shared.cache.pending ≡ Pending.Chunk) (loads : e.shared.cache.loading ≡ MaybeLoading.Tile l) where
-  chunk-open : (isReady e.shared.phase && holds e.follower.due.need l.key) ≡ true
-  unfolding engineOk
-  chunk-open = rw (waits, loads) at (clause 6 (causes e size ok) ok)
+  chunk_open : (is_ready e.shared.phase && holds e.follower.due.need l.key) ≡ true
+  unfolding engine_ok
+  chunk_open = rw (waits, loads) at (clause 6 (causes e size ok) ok)
 
-  pub chunk-ready : e.shared.phase ≡ Phase.Ready
-  chunk-ready = ready-is e.shared.phase (and_left (isReady e.shared.phase) _ chunk-open)
+  pub chunk_ready : e.shared.phase ≡ Phase.Ready
+  chunk_ready = ready_is e.shared.phase (and_left (is_ready e.shared.phase) _ chunk_open)
 
-  pub chunk-need : e.follower.due.need ≡ MaybeKey.Key l.key
-  chunk-need = holds-is e.follower.due.need l.key (and_right (isReady e.shared.phase) _ chunk-open)
+  pub chunk_need : e.follower.due.need ≡ MaybeKey.Key l.key
+  chunk_need = holds_is e.follower.due.need l.key (and_right (is_ready e.shared.phase) _ chunk_open)
 
-  pub chunk_inside : inGrid e.shared.header l.key ≡ true
-  chunk_inside = need-in e size ok l.key chunk-ready chunk-need
+  pub chunk_inside : in_grid e.shared.header l.key ≡ true
+  chunk_inside = need_in e size ok l.key chunk_ready chunk_need
 
-  chunk-wanted : isChunk (nextStep e.shared.cache l.key) ≡ true
-  unfolding stateOk
-  chunk-wanted =
+  chunk_wanted : is_chunk (next_step e.shared.cache l.key) ≡ true
+  unfolding state_ok
+  chunk_wanted =
       let c = e.shared.cache in
-      sym (ap (λ (m : MaybeLoading). wantsChunkOf m c) loads)
-      ∙ sym (ap (λ (p : Pending). pendingFits p c) waits)
-      ∙ clause 3 (runsOk c ∷ ringOk c ∷ loadOk c ∷ Caches.pendingOk c ∷ []) (state-in e size ok)
+      sym (ap (λ (m : MaybeLoading). wants_chunk_of m c) loads)
+      ∙ sym (ap (λ (p : Pending). pending_fits p c) waits)
+      ∙ clause 3 (runs_ok c ∷ ring_ok c ∷ load_ok c ∷ Caches.pending_ok c ∷ []) (state_in e size ok)
 
-  pub chunk-is-next : nextStep e.shared.cache l.key ≡ Next.Chunk l
-  chunk-is-next = chunk_next e.shared.cache l.key l loads chunk-wanted
+  pub chunk_is_next : next_step e.shared.cache l.key ≡ Next.Chunk l
+  chunk_is_next = chunk_next e.shared.cache l.key l loads chunk_wanted
 
 -- the load, `come` bytes of its tile in
-abbrev pub loadAt : Loading → ℕ → Loading
-loadAt l come = record { key = l.key; slot = l.slot; offset = l.offset; len = l.len; done = come }
+abbrev pub load_at : Loading → ℕ → Loading
+load_at l come = record { key = l.key; slot = l.slot; offset = l.offset; len = l.len; done = come }
 
 -- the step counted, the load moved on, the chunk written
-abbrev pub moreCame : Engine → Loading → List ℕ → List ℕ → After
-moreCame e l arena bs =
+abbrev pub more_came : Engine → Loading → List ℕ → List ℕ → After
+more_came e l arena bs =
     let c = e.shared.cache in
-    over (ended e (moved c c.pages (MaybeLoading.Tile (loadAt l (l.done + chunkLen l)))) (counted e.follower) Status.Working)
+    over (ended e (moved c c.pages (MaybeLoading.Tile (load_at l (l.done + chunk_len l)))) (counted e.follower) Status.Working)
     (put arena l.slot l.done bs)
 
-module _ (e : Engine) (arena bs : List ℕ) (ok : engineOk e (length arena) ≡ true) (l : Loading)
+module _ (e : Engine) (arena bs : List ℕ) (ok : engine_ok e (length arena) ≡ true) (l : Loading)
     (waits : e.shared.cache.pending ≡ Pending.Chunk) (loads : e.shared.cache.loading ≡ MaybeLoading.Tile l)
-    (fits : length bs ≡ chunkLen l) (left : l.done + chunkLen l < l.len) where
+    (fits : length bs ≡ chunk_len l) (left : l.done + chunk_len l < l.len) where
   abbrev c₁ : Cache
   c₁ = e.shared.cache
 
@@ -163,16 +163,16 @@ module _ (e : Engine) (arena bs : List ℕ) (ok : engineOk e (length arena) ≡ 
       (over (loaded e (Loads.told (Loads.stepped c₁ n arena h₁ l.key 0 bs))) (Loads.stepped c₁ n arena h₁ l.key 0 bs).arena)
       (over (refused e 11) arena)
 
-  chunk-made : made (Next.Chunk l) ≡ moreCame e l arena bs
-  unfolding chunkStep further
-  chunk-made =
-      rw (chunk_inside e (length arena) ok l waits loads, eq-eqb (length bs) (chunkLen l) fits, lt-ltb (l.done + chunkLen l) l.len left)
+  chunk_made : made (Next.Chunk l) ≡ more_came e l arena bs
+  unfolding chunk_step further
+  chunk_made =
+      rw (chunk_inside e (length arena) ok l waits loads, eq-eqb (length bs) (chunk_len l) fits, lt-ltb (l.done + chunk_len l) l.len left)
 
-  pub chunk-more : delivered e arena 0 bs ≡ moreCame e l arena bs
+  pub chunk_more : delivered e arena 0 bs ≡ more_came e l arena bs
   unfolding delivered
-  chunk-more =
-      ap (λ (p : Pending). deliveredBy p e arena 0 bs) waits
-      ∙ ap (λ (k : MaybeKey). needCameBy k e arena 0 bs) (chunk-need e (length arena) ok l waits loads)
-      ∙ part-is e arena l.key 0 bs (chunk_inside e (length arena) ok l waits loads)
-      ∙ ap made (chunk-is-next e (length arena) ok l waits loads)
-      ∙ chunk-made
+  chunk_more =
+      ap (λ (p : Pending). delivered_by p e arena 0 bs) waits
+      ∙ ap (λ (k : MaybeKey). need_came_by k e arena 0 bs) (chunk_need e (length arena) ok l waits loads)
+      ∙ part_is e arena l.key 0 bs (chunk_inside e (length arena) ok l waits loads)
+      ∙ ap made (chunk_is_next e (length arena) ok l waits loads)
+      ∙ chunk_made

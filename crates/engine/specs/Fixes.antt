@@ -5,8 +5,8 @@ use Rattle.std.specs.Float.Ieee.{le}
 use Rattle.cache.specs.declared.victim.Found.{Found}
 use Rattle.cache.specs.declared.victim.Found.TheVariants as Found
 use Rattle.geo.specs.declared.Point.{Point}
-use Rattle.geo.specs.Flat.{whole, metresOf, length_of, bearingOf}
-use Rattle.angle.specs.Cosine.{lonScaleUm}
+use Rattle.geo.specs.Flat.{whole, metres_of, length_of, bearing_of}
+use Rattle.angle.specs.Cosine.{lon_scale_um}
 use Rattle.matcher.specs.declared.Heading.{Heading}
 use Rattle.matcher.specs.declared.Heading.TheVariants as Heading
 use Rattle.predict.specs.Incoming.{highest}
@@ -18,33 +18,33 @@ use Rattle.engine.specs.declared.Sight.{Sight}
 use Rattle.engine.specs.declared.fixes.Course.{Course}
 
 -- "`from_e7` cuts toward zero" (document 01)
-abbrev pub fromE7 : ℤ → ℤ → ℕ → Fix
-fromE7 lat lon at = record { lat = int_div lat (pos 10); lon = int_div lon (pos 10); at_ms = at }
+abbrev pub from_e7 : ℤ → ℤ → ℕ → Fix
+from_e7 lat lon at = record { lat = int_div lat (pos 10); lon = int_div lon (pos 10); at_ms = at }
 
-abbrev pub noPoint : Point
-noPoint = record { lat = pos 0; lon = pos 0 }
+abbrev pub no_point : Point
+no_point = record { lat = pos 0; lon = pos 0 }
 
 -- no fix yet
-abbrev pub nothingSeen : Sight
-nothingSeen = record {
+abbrev pub nothing_seen : Sight
+nothing_seen = record {
   fix = MaybeFix.Nothing;
-  history = record { v = replicate 16 noPoint; len = 0 };
+  history = record { v = replicate 16 no_point; len = 0 };
   heading = Heading.Nothing;
   heading_at = 0;
 }
 
-abbrev pub sameNumber : ℤ → ℤ → Bool
-sameNumber a b = int_le a b && int_le b a
+abbrev pub same_number : ℤ → ℤ → Bool
+same_number a b = int_le a b && int_le b a
 
 -- "A fix at the same place is ignored, its time too" (document 01)
-abbrev pub isSamePlace : MaybeFix → Fix → Bool
-isSamePlace MaybeFix.Nothing fix = false
-isSamePlace (MaybeFix.Is f) fix = sameNumber f.lat fix.lat && sameNumber f.lon fix.lon
+abbrev pub is_same_place : MaybeFix → Fix → Bool
+is_same_place MaybeFix.Nothing fix = false
+is_same_place (MaybeFix.Is f) fix = same_number f.lat fix.lat && same_number f.lon fix.lon
 
 -- ---- the places of the last fixes: HISTORY is 16
 
-abbrev pub placeAt : Places → ℕ → Point
-placeAt h i = slice_index_or h.v i noPoint
+abbrev pub place_at : Places → ℕ → Point
+place_at h i = slice_index_or h.v i no_point
 
 -- each place takes the next one's, and the last keeps its own
 unfoldable pub shifted : Places → Places
@@ -57,25 +57,25 @@ push h here = cond (nat_lt h.len 16) (record { v = slice_set h.v h.len here; len
 -- ---- the heading
 
 -- HEADING_MOVE_M is 15
-abbrev pub isMove : Places → Point → ℕ → ℕ → Bool
-isMove h here lonUm i = let m = metresOf here (placeAt h i) lonUm in le (whole 15) (length_of m.east m.north)
+abbrev pub is_move : Places → Point → ℕ → ℕ → Bool
+is_move h here lon_um i = let m = metres_of here (place_at h i) lon_um in le (whole 15) (length_of m.east m.north)
 
 -- the newest place that lies that far away
-unfoldable pub movedFrom : Places → Point → ℕ → Found
-movedFrom h here lonUm = highest (λ (i : ℕ). isMove h here lonUm i) h.len
+unfoldable pub moved_from : Places → Point → ℕ → Found
+moved_from h here lon_um = highest (λ (i : ℕ). is_move h here lon_um i) h.len
 
 abbrev pub place_of : Fix → Point
 place_of fix = record { lat = fix.lat; lon = fix.lon }
 
-abbrev pub courseBy : Found → Sight → Fix → ℕ → Course
-courseBy Found.Nothing s fix lonUm = record { heading = s.heading; at_ms = s.heading_at }
-courseBy (Found.At i) s fix lonUm =
-    let m = metresOf (place_of fix) (placeAt s.history i) lonUm in
-    record { heading = Heading.Degrees (bearingOf m.east m.north); at_ms = fix.at_ms }
+abbrev pub course_by : Found → Sight → Fix → ℕ → Course
+course_by Found.Nothing s fix lon_um = record { heading = s.heading; at_ms = s.heading_at }
+course_by (Found.At i) s fix lon_um =
+    let m = metres_of (place_of fix) (place_at s.history i) lon_um in
+    record { heading = Heading.Degrees (bearing_of m.east m.north); at_ms = fix.at_ms }
 
 -- the bearing from that place, or the heading before
-unfoldable pub courseOf : Sight → Fix → Course
-courseOf s fix = let lonUm = lonScaleUm fix.lat in courseBy (movedFrom s.history (place_of fix) lonUm) s fix lonUm
+unfoldable pub course_of : Sight → Fix → Course
+course_of s fix = let lon_um = lon_scale_um fix.lat in course_by (moved_from s.history (place_of fix) lon_um) s fix lon_um
 
 -- HEADING_MAX_AGE_MS is 120,000
 abbrev pub fresh : Course → ℕ → Heading
@@ -85,7 +85,7 @@ fresh c now = cond (nat_lt 120000 (now - c.at_ms)) Heading.Nothing c.heading
 
 unfoldable pub seen : Sight → Fix → Sight
 seen s fix =
-    let c = courseOf s fix in record {
+    let c = course_of s fix in record {
       fix = MaybeFix.Is fix;
       history = push s.history (place_of fix);
       heading = fresh c fix.at_ms;

@@ -15,50 +15,50 @@ use Rattle.engine.specs.declared.MaybeFix.TheVariants as MaybeFix
 use Rattle.engine.specs.declared.MaybeTime.TheVariants as MaybeTime
 use Rattle.engine.specs.declared.Ahead.{Ahead}
 use Rattle.engine.specs.Fixes as Fixes
-use Rattle.engine.specs.Publish.{nothingAhead, forgotten}
-use Rattle.engine.specs.Setters.{withSight, withMatcher, withDue, withAhead, withFailures, withMatching, withRoad}
+use Rattle.engine.specs.Publish.{nothing_ahead, forgotten}
+use Rattle.engine.specs.Setters.{with_sight, with_matcher, with_due, with_ahead, with_failures, with_matching, with_road}
 
-abbrev pub nothingDone : Bool → Due
-nothingDone matching = record { matching = matching; road = false; last_road = MaybeTime.Nothing; need = MaybeKey.Nothing; reloads = 0 }
+abbrev pub nothing_done : Bool → Due
+nothing_done matching = record { matching = matching; road = false; last_road = MaybeTime.Nothing; need = MaybeKey.Nothing; reloads = 0 }
 
 -- `horizon_m.min(10,000)`: not-a-number becomes 10,000
 unfoldable pub fresh : Float → Follower
 fresh horizon = record {
-  sight = Fixes.nothingSeen;
+  sight = Fixes.nothing_seen;
   matcher = Matching.reset;
-  due = nothingDone false;
-  ahead = nothingAhead 0;
+  due = nothing_done false;
+  ahead = nothing_ahead 0;
   failures = 0;
   horizon_m = min horizon (whole 10000);
   steps = 0;
 }
 
-abbrev pub matchAsked : Due → Due
-matchAsked d = withMatching d true
+abbrev pub match_asked : Due → Due
+match_asked d = with_matching d true
 
-abbrev pub nothingAsked : Due → Due
-nothingAsked d = withRoad (withMatching d false) false
+abbrev pub nothing_asked : Due → Due
+nothing_asked d = with_road (with_matching d false) false
 
 -- a match is due; nothing changes where the fix is at the same place
 unfoldable pub fixed : Follower → Fix → Follower
 fixed f fix =
-    cond (Fixes.isSamePlace f.sight.fix fix) f
-    (withDue (withSight f (Fixes.seen f.sight fix)) (matchAsked f.due))
+    cond (Fixes.is_same_place f.sight.fix fix) f
+    (with_due (with_sight f (Fixes.seen f.sight fix)) (match_asked f.due))
 
-abbrev pub isMatched : Current → Bool
-isMatched Current.Nothing = false
-isMatched (Current.Is m) = true
+abbrev pub is_matched : Current → Bool
+is_matched Current.Nothing = false
+is_matched (Current.Is m) = true
 
 -- a road that is published goes
-abbrev pub lostAhead : Ahead → Ahead
-lostAhead a = cond (isMatched a.matched) (forgotten a) a
+abbrev pub lost_ahead : Ahead → Ahead
+lost_ahead a = cond (is_matched a.matched) (forgotten a) a
 
 unfoldable pub lost : Follower → Follower
-lost f = withAhead (withDue (withMatcher (withSight f (Fixes.lost f.sight)) Matching.reset) (nothingAsked f.due)) (lostAhead f.ahead)
+lost f = with_ahead (with_due (with_matcher (with_sight f (Fixes.lost f.sight)) Matching.reset) (nothing_asked f.due)) (lost_ahead f.ahead)
 
-abbrev pub hasFix : MaybeFix → Bool
-hasFix MaybeFix.Nothing = false
-hasFix (MaybeFix.Is fix) = true
+abbrev pub has_fix : MaybeFix → Bool
+has_fix MaybeFix.Nothing = false
+has_fix (MaybeFix.Is fix) = true
 
 unfoldable pub reset : Follower → Follower
-reset f = withFailures (withAhead (withDue (withMatcher f Matching.reset) (nothingDone (hasFix f.sight.fix))) (forgotten f.ahead)) 0
+reset f = with_failures (with_ahead (with_due (with_matcher f Matching.reset) (nothing_done (has_fix f.sight.fix))) (forgotten f.ahead)) 0

@@ -11,28 +11,28 @@ use Rattle.engine.specs.declared.HeadingRead.TheVariants as HeadingRead
 use Rattle.engine.specs.declared.Count.{Count}
 use Rattle.engine.specs.declared.Count.TheVariants as Count
 
-abbrev pub numberOfStatus : Status → ℕ
-numberOfStatus Status.Idle = 0
-numberOfStatus Status.Working = 0
-numberOfStatus Status.NoPack = 0
-numberOfStatus Status.OffMap = 0
-numberOfStatus (Status.Fetch offset len) = 0
-numberOfStatus (Status.Refused number) = number
+abbrev pub number_of_status : Status → ℕ
+number_of_status Status.Idle = 0
+number_of_status Status.Working = 0
+number_of_status Status.NoPack = 0
+number_of_status Status.OffMap = 0
+number_of_status (Status.Fetch offset len) = 0
+number_of_status (Status.Refused number) = number
 
-abbrev pub numberOfTaken : Taken → ℕ
-numberOfTaken Taken.Done = 0
-numberOfTaken (Taken.Refused number) = number
+abbrev pub number_of_taken : Taken → ℕ
+number_of_taken Taken.Done = 0
+number_of_taken (Taken.Refused number) = number
 
-abbrev pub numberOfKnown : Known → ℕ
-numberOfKnown Known.Nothing = 0
-numberOfKnown Known.Is = 0
-numberOfKnown (Known.Refused number) = number
+abbrev pub number_of_known : Known → ℕ
+number_of_known Known.Nothing = 0
+number_of_known Known.Is = 0
+number_of_known (Known.Refused number) = number
 
-abbrev pub numberOfHeadingRead : HeadingRead → ℕ
-numberOfHeadingRead HeadingRead.Nothing = 0
-numberOfHeadingRead (HeadingRead.Degrees degrees) = 0
-numberOfHeadingRead (HeadingRead.Refused number) = number
+abbrev pub number_of_heading_read : HeadingRead → ℕ
+number_of_heading_read HeadingRead.Nothing = 0
+number_of_heading_read (HeadingRead.Degrees degrees) = 0
+number_of_heading_read (HeadingRead.Refused number) = number
 
-abbrev pub numberOfCount : Count → ℕ
-numberOfCount (Count.Is n) = 0
-numberOfCount (Count.Refused number) = number
+abbrev pub number_of_count : Count → ℕ
+number_of_count (Count.Is n) = 0
+number_of_count (Count.Refused number) = number

@@ -8,7 +8,7 @@ use Rattle.pack.specs.declared.Keyed.{Keyed}
 use Rattle.pack.specs.declared.Keyed.TheVariants as Keyed
 use Rattle.cache.specs.declared.MaybeKey.{MaybeKey}
 use Rattle.cache.specs.declared.MaybeKey.TheVariants as MaybeKey
-use Rattle.cache.specs.Uses.{withUses}
+use Rattle.cache.specs.Uses.{with_uses}
 use Rattle.cache.specs.declared.Pending.{Pending}
 use Rattle.cache.specs.declared.Pending.TheVariants as Pending
 use Rattle.cache.specs.declared.Progress.{Progress}
@@ -37,118 +37,118 @@ use Rattle.engine.specs.declared.Status.{Status}
 use Rattle.engine.specs.declared.Status.TheVariants as Status
 use Rattle.engine.specs.declared.Stepped.{Stepped}
 use Rattle.engine.specs.Deliver.{failing, needless}
-use Rattle.engine.specs.Steps.{opened, needStep}
-use Rattle.engine.specs.Work.{asking, isOther, isTime, matchDone, counted, ended, offMap, matched, matchAsks, mayAsk, matchEndedBy, matchStep, published, roadAsks, rematch, roadStep, roadOff, withDue}
+use Rattle.engine.specs.Steps.{opened, need_step}
+use Rattle.engine.specs.Work.{asking, is_other, is_time, match_done, counted, ended, off_map, matched, match_asks, may_ask, match_ended_by, match_step, published, road_asks, rematch, road_step, road_off, with_due}
 
-abbrev pub ofRoad : Current → Fix → Plan
-ofRoad (Current.Is found) fix = Plan.Road fix found
-ofRoad Current.Nothing fix = Plan.Roadless
+abbrev pub of_road : Current → Fix → Plan
+of_road (Current.Is found) fix = Plan.Road fix found
+of_road Current.Nothing fix = Plan.Roadless
 
-abbrev pub ofDue : Fix → Due → Current → Plan
-ofDue fix due current = cond due.matching (Plan.Match fix) (cond due.road (ofRoad current fix) Plan.Rest)
+abbrev pub of_due : Fix → Due → Current → Plan
+of_due fix due current = cond due.matching (Plan.Match fix) (cond due.road (of_road current fix) Plan.Rest)
 
-abbrev pub ofFix : Keyed → Fix → Due → Current → Plan
-ofFix (Keyed.In key) fix due current = ofDue fix due current
-ofFix Keyed.Outside fix due current = Plan.Off fix
-ofFix (Keyed.Refused number) fix due current = Plan.Off fix
+abbrev pub of_fix : Keyed → Fix → Due → Current → Plan
+of_fix (Keyed.In key) fix due current = of_due fix due current
+of_fix Keyed.Outside fix due current = Plan.Off fix
+of_fix (Keyed.Refused number) fix due current = Plan.Off fix
 
-abbrev pub ofSight : MaybeFix → Header → Due → Current → Plan
-ofSight MaybeFix.Nothing h due current = Plan.Rest
-ofSight (MaybeFix.Is fix) h due current = ofFix (key_of h fix.lat fix.lon) fix due current
+abbrev pub of_sight : MaybeFix → Header → Due → Current → Plan
+of_sight MaybeFix.Nothing h due current = Plan.Rest
+of_sight (MaybeFix.Is fix) h due current = of_fix (key_of h fix.lat fix.lon) fix due current
 
-abbrev pub ofNeed : MaybeKey → Header → MaybeFix → Due → Current → Plan
-ofNeed (MaybeKey.Key key) h fix due current = Plan.Need key
-ofNeed MaybeKey.Nothing h fix due current = ofSight fix h due current
+abbrev pub of_need : MaybeKey → Header → MaybeFix → Due → Current → Plan
+of_need (MaybeKey.Key key) h fix due current = Plan.Need key
+of_need MaybeKey.Nothing h fix due current = of_sight fix h due current
 
-abbrev pub ofState : Phase → Header → MaybeFix → Due → Current → Plan
-ofState Phase.Failed h fix due current = Plan.NoPack
-ofState Phase.Unread h fix due current = Plan.Header
-ofState Phase.Ready h fix due current = ofNeed due.need h fix due current
+abbrev pub of_state : Phase → Header → MaybeFix → Due → Current → Plan
+of_state Phase.Failed h fix due current = Plan.NoPack
+of_state Phase.Unread h fix due current = Plan.Header
+of_state Phase.Ready h fix due current = of_need due.need h fix due current
 
 -- off the map, and a road that is due without a match
-abbrev pub roadDropped : Engine → Stepped
-roadDropped e = ended e e.shared.cache (withDue (counted e.follower) (roadOff e.follower.due)) Status.Idle
+abbrev pub road_dropped : Engine → Stepped
+road_dropped e = ended e e.shared.cache (with_due (counted e.follower) (road_off e.follower.due)) Status.Idle
 
-abbrev pub leftMap : Engine → Fix → Stepped
-leftMap e fix = ended e e.shared.cache (offMap (counted e.follower) fix) Status.OffMap
+abbrev pub left_map : Engine → Fix → Stepped
+left_map e fix = ended e e.shared.cache (off_map (counted e.follower) fix) Status.OffMap
 
 -- what is to be done, done
-abbrev pub doneBy : Plan → Engine → List ℕ → Stepped
-doneBy Plan.Rest e arena = ended e e.shared.cache (counted e.follower) Status.Idle
-doneBy Plan.NoPack e arena = record { answer = Status.NoPack; engine = e }
-doneBy Plan.Header e arena = opened e Pending.Header
-doneBy (Plan.Need key) e arena = needStep e arena key
-doneBy (Plan.Match fix) e arena = matchStep e arena (counted e.follower) fix
-doneBy (Plan.Road fix found) e arena = roadStep e arena (counted e.follower) fix found
-doneBy Plan.Roadless e arena = roadDropped e
-doneBy (Plan.Off fix) e arena = leftMap e fix
+abbrev pub done_by : Plan → Engine → List ℕ → Stepped
+done_by Plan.Rest e arena = ended e e.shared.cache (counted e.follower) Status.Idle
+done_by Plan.NoPack e arena = record { answer = Status.NoPack; engine = e }
+done_by Plan.Header e arena = opened e Pending.Header
+done_by (Plan.Need key) e arena = need_step e arena key
+done_by (Plan.Match fix) e arena = match_step e arena (counted e.follower) fix
+done_by (Plan.Road fix found) e arena = road_step e arena (counted e.follower) fix found
+done_by Plan.Roadless e arena = road_dropped e
+done_by (Plan.Off fix) e arena = left_map e fix
 
 abbrev pub plan_of : Engine → Plan
-plan_of e = ofState e.shared.phase e.shared.header e.follower.sight.fix e.follower.due e.follower.matcher.current
+plan_of e = of_state e.shared.phase e.shared.header e.follower.sight.fix e.follower.due e.follower.matcher.current
 
 -- ---- what a match that ended makes of the follower, and its answer
 
-abbrev pub matchLeaves : MatchOutcome.Outcome → Follower → Matcher → Fix → ℕ → Follower
-matchLeaves (Found.Found m) f next fix pages = matched f next fix
-matchLeaves Found.Nothing f next fix pages = matched f next fix
-matchLeaves (Found.Need key) f next fix pages = matchAsks f pages key
-matchLeaves (Found.Refused number) f next fix pages = matched f next fix
+abbrev pub match_leaves : MatchOutcome.Outcome → Follower → Matcher → Fix → ℕ → Follower
+match_leaves (Found.Found m) f next fix pages = matched f next fix
+match_leaves Found.Nothing f next fix pages = matched f next fix
+match_leaves (Found.Need key) f next fix pages = match_asks f pages key
+match_leaves (Found.Refused number) f next fix pages = matched f next fix
 
-abbrev pub matchTells : MatchOutcome.Outcome → Due → ℕ → Status
-matchTells (Found.Found m) due pages = Status.Working
-matchTells Found.Nothing due pages = Status.Working
-matchTells (Found.Need key) due pages = cond (mayAsk due pages) Status.Working Status.Idle
-matchTells (Found.Refused number) due pages = Status.Working
+abbrev pub match_tells : MatchOutcome.Outcome → Due → ℕ → Status
+match_tells (Found.Found m) due pages = Status.Working
+match_tells Found.Nothing due pages = Status.Working
+match_tells (Found.Need key) due pages = cond (may_ask due pages) Status.Working Status.Idle
+match_tells (Found.Refused number) due pages = Status.Working
 
-abbrev pub matchMade : Engine → Fix → Made → Stepped
-matchMade e fix u =
-    matchEndedBy u.answer e (counted e.follower) fix
-    (record { answer = u.answer; matcher = u.matcher; cache = withUses e.shared.cache u.uses })
+abbrev pub match_made : Engine → Fix → Made → Stepped
+match_made e fix u =
+    match_ended_by u.answer e (counted e.follower) fix
+    (record { answer = u.answer; matcher = u.matcher; cache = with_uses e.shared.cache u.uses })
 
 -- what is due after it, of what was due
-abbrev pub matchedDue : Due → Current → Current → ℕ → Due
-matchedDue due Current.Nothing published at = matchDone due due.road
-matchedDue due (Current.Is found) published at = matchDone due (cond (isOther found published || isTime due.last_road at) true due.road)
+abbrev pub matched_due : Due → Current → Current → ℕ → Due
+matched_due due Current.Nothing published at = match_done due due.road
+matched_due due (Current.Is found) published at = match_done due (cond (is_other found published || is_time due.last_road at) true due.road)
 
-abbrev pub askingDue : Due → ℕ → TileKey → Due
-askingDue due pages key = cond (mayAsk due pages) (asking due key (due.reloads + 1)) (matchDone due due.road)
+abbrev pub asking_due : Due → ℕ → TileKey → Due
+asking_due due pages key = cond (may_ask due pages) (asking due key (due.reloads + 1)) (match_done due due.road)
 
 -- ---- what a road makes of the follower, and when it refuses the step
 
-abbrev pub roadLeaves : RoadOutcome.Outcome → Follower → Ahead → ℕ → Fix → Matched → Follower
-roadLeaves (Road.Road r) f a pages fix found = published f a fix found r
-roadLeaves (Road.Need key) f a pages fix found = roadAsks f pages fix found key
-roadLeaves Road.Rematch f a pages fix found = rematch f
-roadLeaves (Road.Refused number) f a pages fix found = rematch f
+abbrev pub road_leaves : RoadOutcome.Outcome → Follower → Ahead → ℕ → Fix → Matched → Follower
+road_leaves (Road.Road r) f a pages fix found = published f a fix found r
+road_leaves (Road.Need key) f a pages fix found = road_asks f pages fix found key
+road_leaves Road.Rematch f a pages fix found = rematch f
+road_leaves (Road.Refused number) f a pages fix found = rematch f
 
-abbrev pub roadFails : RoadOutcome.Outcome → Bool
-roadFails (Road.Road r) = false
-roadFails (Road.Need key) = false
-roadFails Road.Rematch = false
-roadFails (Road.Refused number) = not (number == 10)
+abbrev pub road_fails : RoadOutcome.Outcome → Bool
+road_fails (Road.Road r) = false
+road_fails (Road.Need key) = false
+road_fails Road.Rematch = false
+road_fails (Road.Refused number) = not (number == 10)
 
-abbrev pub roadNumber : RoadOutcome.Outcome → ℕ
-roadNumber (Road.Road r) = 0
-roadNumber (Road.Need key) = 0
-roadNumber Road.Rematch = 0
-roadNumber (Road.Refused number) = number
+abbrev pub road_number : RoadOutcome.Outcome → ℕ
+road_number (Road.Road r) = 0
+road_number (Road.Need key) = 0
+road_number Road.Rematch = 0
+road_number (Road.Refused number) = number
 
 -- ---- what a step of a load makes of the follower and of the phase, and its answer
 
-abbrev pub loadLeaves : Progress → Follower → Follower
-loadLeaves Progress.Done f = failing (withDue (counted f) (needless f.due)) 0
-loadLeaves Progress.More f = counted f
-loadLeaves (Progress.Failed number) f = failing (counted f) (cond (nat_lt f.failures 7) (f.failures + 1) 8)
-loadLeaves (Progress.Refused number) f = counted f
+abbrev pub load_leaves : Progress → Follower → Follower
+load_leaves Progress.Done f = failing (with_due (counted f) (needless f.due)) 0
+load_leaves Progress.More f = counted f
+load_leaves (Progress.Failed number) f = failing (counted f) (cond (nat_lt f.failures 7) (f.failures + 1) 8)
+load_leaves (Progress.Refused number) f = counted f
 
-abbrev pub failsPack : Progress → ℕ → Bool
-failsPack Progress.Done failures = false
-failsPack Progress.More failures = false
-failsPack (Progress.Failed number) failures = nat_le 7 failures
-failsPack (Progress.Refused number) failures = false
+abbrev pub fails_pack : Progress → ℕ → Bool
+fails_pack Progress.Done failures = false
+fails_pack Progress.More failures = false
+fails_pack (Progress.Failed number) failures = nat_le 7 failures
+fails_pack (Progress.Refused number) failures = false
 
-abbrev pub loadPhase : Phase → Bool → Phase
-loadPhase phase failed = cond failed Phase.Failed phase
+abbrev pub load_phase : Phase → Bool → Phase
+load_phase phase failed = cond failed Phase.Failed phase
 
-abbrev pub loadTells : Bool → Status
-loadTells failed = cond failed Status.NoPack Status.Working
+abbrev pub load_tells : Bool → Status
+load_tells failed = cond failed Status.NoPack Status.Working

@@ -10,17 +10,17 @@ use Rattle.predict.specs.declared.End.TheVariants as End
 use Rattle.predict.specs.declared.Prediction.{Prediction}
 use Rattle.engine.specs.declared.Ahead.{Ahead}
 
-abbrev pub onRoadBy : Current → ℕ → Bool
-onRoadBy Current.Nothing len = false
-onRoadBy (Current.Is m) len = nat_lt 1 len
+abbrev pub on_road_by : Current → ℕ → Bool
+on_road_by Current.Nothing len = false
+on_road_by (Current.Is m) len = nat_lt 1 len
 
 -- on a mapped road, and more than the rider's own height is known
-abbrev pub onRoad : Ahead → Bool
-onRoad a = onRoadBy a.matched a.len
+abbrev pub on_road : Ahead → Bool
+on_road a = on_road_by a.matched a.len
 
 -- `Ahead::default()`, with the generation given
-unfoldable pub nothingAhead : ℕ → Ahead
-nothingAhead generation = record {
+unfoldable pub nothing_ahead : ℕ → Ahead
+nothing_ahead generation = record {
   generation = generation;
   at_ms = 0;
   matched = Current.Nothing;
@@ -37,11 +37,11 @@ nothingAhead generation = record {
 
 -- the generation counts on in 32 bits
 abbrev pub forgotten : Ahead → Ahead
-forgotten a = nothingAhead (after a.generation)
+forgotten a = nothing_ahead (after a.generation)
 
 -- no match: lengths, distances and confidence 0; the heights stay where they stand
-unfoldable pub withoutMatch : Ahead → ℕ → End → Ahead
-withoutMatch a at end = record {
+unfoldable pub without_match : Ahead → ℕ → End → Ahead
+without_match a at end = record {
   generation = after a.generation;
   at_ms = at;
   matched = Current.Nothing;
@@ -57,8 +57,8 @@ withoutMatch a at end = record {
 }
 
 -- the road of a match
-unfoldable pub withMatch : Ahead → ℕ → Matched → Prediction → Ahead
-withMatch a at m p = record {
+unfoldable pub with_match : Ahead → ℕ → Matched → Prediction → Ahead
+with_match a at m p = record {
   generation = after a.generation;
   at_ms = at;
   matched = Current.Is m;

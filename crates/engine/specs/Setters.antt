@@ -10,8 +10,8 @@ use Rattle.engine.specs.declared.Sight.{Sight}
 
 -- ---- a follower
 
-abbrev pub withSight : Follower → Sight → Follower
-withSight f sight = record {
+abbrev pub with_sight : Follower → Sight → Follower
+with_sight f sight = record {
   sight = sight;
   matcher = f.matcher;
   due = f.due;
@@ -21,8 +21,8 @@ withSight f sight = record {
   steps = f.steps;
 }
 
-abbrev pub withMatcher : Follower → Matcher → Follower
-withMatcher f m = record {
+abbrev pub with_matcher : Follower → Matcher → Follower
+with_matcher f m = record {
   sight = f.sight;
   matcher = m;
   due = f.due;
@@ -32,8 +32,8 @@ withMatcher f m = record {
   steps = f.steps;
 }
 
-abbrev pub withDue : Follower → Due → Follower
-withDue f due = record {
+abbrev pub with_due : Follower → Due → Follower
+with_due f due = record {
   sight = f.sight;
   matcher = f.matcher;
   due = due;
@@ -43,8 +43,8 @@ withDue f due = record {
   steps = f.steps;
 }
 
-abbrev pub withAhead : Follower → Ahead → Follower
-withAhead f ahead = record {
+abbrev pub with_ahead : Follower → Ahead → Follower
+with_ahead f ahead = record {
   sight = f.sight;
   matcher = f.matcher;
   due = f.due;
@@ -54,8 +54,8 @@ withAhead f ahead = record {
   steps = f.steps;
 }
 
-abbrev pub withFailures : Follower → ℕ → Follower
-withFailures f n = record {
+abbrev pub with_failures : Follower → ℕ → Follower
+with_failures f n = record {
   sight = f.sight;
   matcher = f.matcher;
   due = f.due;
@@ -65,8 +65,8 @@ withFailures f n = record {
   steps = f.steps;
 }
 
-abbrev pub withSteps : Follower → ℕ → Follower
-withSteps f n = record {
+abbrev pub with_steps : Follower → ℕ → Follower
+with_steps f n = record {
   sight = f.sight;
   matcher = f.matcher;
   due = f.due;
@@ -78,17 +78,17 @@ withSteps f n = record {
 
 -- ---- what is due
 
-abbrev pub withMatching : Due → Bool → Due
-withMatching d b = record { matching = b; road = d.road; last_road = d.last_road; need = d.need; reloads = d.reloads }
+abbrev pub with_matching : Due → Bool → Due
+with_matching d b = record { matching = b; road = d.road; last_road = d.last_road; need = d.need; reloads = d.reloads }
 
-abbrev pub withRoad : Due → Bool → Due
-withRoad d b = record { matching = d.matching; road = b; last_road = d.last_road; need = d.need; reloads = d.reloads }
+abbrev pub with_road : Due → Bool → Due
+with_road d b = record { matching = d.matching; road = b; last_road = d.last_road; need = d.need; reloads = d.reloads }
 
-abbrev pub withLastRoad : Due → MaybeTime → Due
-withLastRoad d at = record { matching = d.matching; road = d.road; last_road = at; need = d.need; reloads = d.reloads }
+abbrev pub with_last_road : Due → MaybeTime → Due
+with_last_road d at = record { matching = d.matching; road = d.road; last_road = at; need = d.need; reloads = d.reloads }
 
-abbrev pub withNeed : Due → MaybeKey → Due
-withNeed d key = record { matching = d.matching; road = d.road; last_road = d.last_road; need = key; reloads = d.reloads }
+abbrev pub with_need : Due → MaybeKey → Due
+with_need d key = record { matching = d.matching; road = d.road; last_road = d.last_road; need = key; reloads = d.reloads }
 
-abbrev pub withReloads : Due → ℕ → Due
-withReloads d n = record { matching = d.matching; road = d.road; last_road = d.last_road; need = d.need; reloads = n }
+abbrev pub with_reloads : Due → ℕ → Due
+with_reloads d n = record { matching = d.matching; road = d.road; last_road = d.last_road; need = d.need; reloads = n }

@@ -1,19 +1,19 @@
 -- An engine before its pack is read, and the states that number 12 names (document 01, "Refused", beside the cache's and the matcher's causes),
--- each by name: a count above its array (`placesOk`, `aheadOk`), failures above 8, or 8 with a pack not failed (`failuresOk`), a held place or
--- heading that 8 would refuse (`sightOk`), a needed or matched key outside the read header's grid or held while the header is unread
--- (`heldOk`), reloads above their limit (`dueOk`), an open fetch that the state would not make (`pendingOk`), a header that `Header::parse`
--- would refuse, an arena shorter than its pages (`sharedOk`). A pack that failed keeps what is needed and matched.
+-- each by name: a count above its array (`places_ok`, `ahead_ok`), failures above 8, or 8 with a pack not failed (`failures_ok`), a held place or
+-- heading that 8 would refuse (`sight_ok`), a needed or matched key outside the read header's grid or held while the header is unread
+-- (`held_ok`), reloads above their limit (`due_ok`), an open fetch that the state would not make (`pending_ok`), a header that `Header::parse`
+-- would refuse, an arena shorter than its pages (`shared_ok`). A pack that failed keeps what is needed and matched.
 use Rattle.std.specs.Prelude.{ℕ, ◌+◌, ◌*◌, min, Bool, true, false, cond, not, ◌&&◌, [], ◌∷◌, ◌==◌, nat_le, nat_lt}
 use Rattle.pack.specs.Sector.{all_of, rules}
 use Rattle.pack.specs.Sector as Sector
-use Rattle.pack.specs.Grid.{inGrid, isPoint}
+use Rattle.pack.specs.Grid.{in_grid, is_point}
 use Rattle.pack.specs.declared.Header.{Header}
 use Rattle.pack.specs.declared.TileKey.{TileKey}
 use Rattle.cache.specs.declared.MaybeKey.{MaybeKey}
 use Rattle.cache.specs.declared.MaybeKey.TheVariants as MaybeKey
 use Rattle.cache.specs.Keys.{holds}
-use Rattle.cache.specs.Search.{lowest, isFound}
-use Rattle.cache.specs.State.{stateOk, arenaOk, cleared}
+use Rattle.cache.specs.Search.{lowest, is_found}
+use Rattle.cache.specs.State.{state_ok, arena_ok, cleared}
 use Rattle.cache.specs.declared.Cache.{Cache}
 use Rattle.cache.specs.declared.MaybeLoading.{MaybeLoading}
 use Rattle.cache.specs.declared.MaybeLoading.TheVariants as MaybeLoading
@@ -21,9 +21,9 @@ use Rattle.cache.specs.declared.Pending.{Pending}
 use Rattle.cache.specs.declared.Pending.TheVariants as Pending
 use Rattle.matcher.specs.declared.Current.{Current}
 use Rattle.matcher.specs.declared.Current.TheVariants as Current
-use Rattle.matcher.specs.State.{countsOk, headingOk}
+use Rattle.matcher.specs.State.{counts_ok, heading_ok}
 use Rattle.matcher.specs.declared.Matcher.{Matcher}
-use Rattle.engine.specs.Fixes.{placeAt}
+use Rattle.engine.specs.Fixes.{place_at}
 use Rattle.engine.specs.Follow as Followers
 use Rattle.engine.specs.declared.Ahead.{Ahead}
 use Rattle.engine.specs.declared.Due.{Due}
@@ -69,115 +69,115 @@ forgotten e = record {
 
 -- ---- phases
 
-abbrev pub isReady : Phase → Bool
-isReady Phase.Ready = true
-isReady Phase.Unread = false
-isReady Phase.Failed = false
+abbrev pub is_ready : Phase → Bool
+is_ready Phase.Ready = true
+is_ready Phase.Unread = false
+is_ready Phase.Failed = false
 
-abbrev pub isUnread : Phase → Bool
-isUnread Phase.Unread = true
-isUnread Phase.Ready = false
-isUnread Phase.Failed = false
+abbrev pub is_unread : Phase → Bool
+is_unread Phase.Unread = true
+is_unread Phase.Ready = false
+is_unread Phase.Failed = false
 
-abbrev pub isFailed : Phase → Bool
-isFailed Phase.Failed = true
-isFailed Phase.Ready = false
-isFailed Phase.Unread = false
+abbrev pub is_failed : Phase → Bool
+is_failed Phase.Failed = true
+is_failed Phase.Ready = false
+is_failed Phase.Unread = false
 
 -- ---- the causes of number 12
 
 -- a key that is held
-abbrev pub heldBy : Phase → Header → TileKey → Bool
-heldBy Phase.Unread h key = false
-heldBy Phase.Failed h key = true
-heldBy Phase.Ready h key = inGrid h key
+abbrev pub held_by : Phase → Header → TileKey → Bool
+held_by Phase.Unread h key = false
+held_by Phase.Failed h key = true
+held_by Phase.Ready h key = in_grid h key
 
-abbrev pub heldOk : Shared → TileKey → Bool
-heldOk s key = heldBy s.phase s.header key
+abbrev pub held_ok : Shared → TileKey → Bool
+held_ok s key = held_by s.phase s.header key
 
-abbrev pub needBy : Phase → Header → MaybeKey → Bool
-needBy phase h MaybeKey.Nothing = true
-needBy phase h (MaybeKey.Key key) = heldBy phase h key
+abbrev pub need_by : Phase → Header → MaybeKey → Bool
+need_by phase h MaybeKey.Nothing = true
+need_by phase h (MaybeKey.Key key) = held_by phase h key
 
-abbrev pub needOk : Shared → MaybeKey → Bool
-needOk s need = needBy s.phase s.header need
+abbrev pub need_ok : Shared → MaybeKey → Bool
+need_ok s need = need_by s.phase s.header need
 
-abbrev pub matchedBy : Phase → Header → Current → Bool
-matchedBy phase h Current.Nothing = true
-matchedBy phase h (Current.Is m) = heldBy phase h m.tile.key
+abbrev pub matched_by : Phase → Header → Current → Bool
+matched_by phase h Current.Nothing = true
+matched_by phase h (Current.Is m) = held_by phase h m.tile.key
 
-abbrev pub matchedOk : Shared → Current → Bool
-matchedOk s current = matchedBy s.phase s.header current
+abbrev pub matched_ok : Shared → Current → Bool
+matched_ok s current = matched_by s.phase s.header current
 
 -- the header counts in phase Ready alone
-abbrev pub headerBy : Phase → Header → Bool
-headerBy phase h = cond (isReady phase) (rules h) true
+abbrev pub header_by : Phase → Header → Bool
+header_by phase h = cond (is_ready phase) (rules h) true
 
-abbrev pub headerOk : Shared → Bool
-headerOk s = headerBy s.phase s.header
+abbrev pub header_ok : Shared → Bool
+header_ok s = header_by s.phase s.header
 
-unfoldable pub sharedOk : Shared → ℕ → Bool
-sharedOk s size = stateOk s.cache && (arenaOk s.cache size && headerOk s)
+unfoldable pub shared_ok : Shared → ℕ → Bool
+shared_ok s size = state_ok s.cache && (arena_ok s.cache size && header_ok s)
 
-abbrev pub loadsNeeded : MaybeLoading → MaybeKey → Bool
-loadsNeeded MaybeLoading.Nothing need = false
-loadsNeeded (MaybeLoading.Tile l) need = holds need l.key
+abbrev pub loads_needed : MaybeLoading → MaybeKey → Bool
+loads_needed MaybeLoading.Nothing need = false
+loads_needed (MaybeLoading.Tile l) need = holds need l.key
 
 -- beside what the cache asks of an open fetch: the header's is open while it is unread, any other in phase Ready and for the tile needed
-abbrev pub pendingIn : Pending → Phase → MaybeLoading → MaybeKey → Bool
-pendingIn Pending.Nothing phase loading need = true
-pendingIn Pending.Header phase loading need = isUnread phase
-pendingIn (Pending.Entry key) phase loading need = isReady phase && holds need key
-pendingIn Pending.Chunk phase loading need = isReady phase && loadsNeeded loading need
+abbrev pub pending_in : Pending → Phase → MaybeLoading → MaybeKey → Bool
+pending_in Pending.Nothing phase loading need = true
+pending_in Pending.Header phase loading need = is_unread phase
+pending_in (Pending.Entry key) phase loading need = is_ready phase && holds need key
+pending_in Pending.Chunk phase loading need = is_ready phase && loads_needed loading need
 
-abbrev pub pendingBy : Pending → Shared → MaybeKey → Bool
-pendingBy pending s need = pendingIn pending s.phase s.cache.loading need
+abbrev pub pending_by : Pending → Shared → MaybeKey → Bool
+pending_by pending s need = pending_in pending s.phase s.cache.loading need
 
-abbrev pub pendingOk : Shared → MaybeKey → Bool
-pendingOk s need = pendingBy s.cache.pending s need
+abbrev pub pending_ok : Shared → MaybeKey → Bool
+pending_ok s need = pending_by s.cache.pending s need
 
-abbrev pub fixOk : MaybeFix → Bool
-fixOk MaybeFix.Nothing = true
-fixOk (MaybeFix.Is f) = isPoint f.lat f.lon
+abbrev pub fix_ok : MaybeFix → Bool
+fix_ok MaybeFix.Nothing = true
+fix_ok (MaybeFix.Is f) = is_point f.lat f.lon
 
 -- at most sixteen places, each a point
-unfoldable pub placesOk : Places → Bool
-placesOk h = nat_le h.len 16 && not (isFound (lowest (λ (i : ℕ). not (isPoint (placeAt h i).lat (placeAt h i).lon)) h.len))
+unfoldable pub places_ok : Places → Bool
+places_ok h = nat_le h.len 16 && not (is_found (lowest (λ (i : ℕ). not (is_point (place_at h i).lat (place_at h i).lon)) h.len))
 
-abbrev pub sightOk : Sight → Bool
-sightOk s = fixOk s.fix && (placesOk s.history && headingOk s.heading)
+abbrev pub sight_ok : Sight → Bool
+sight_ok s = fix_ok s.fix && (places_ok s.history && heading_ok s.heading)
 
 -- 501 samples, 11 behind
-abbrev pub aheadBy : Phase → Header → ℕ → ℕ → Current → Bool
-aheadBy phase h len behind published = nat_le len 501 && (nat_le behind 11 && matchedBy phase h published)
+abbrev pub ahead_by : Phase → Header → ℕ → ℕ → Current → Bool
+ahead_by phase h len behind published = nat_le len 501 && (nat_le behind 11 && matched_by phase h published)
 
-abbrev pub aheadOk : Shared → Ahead → Bool
-aheadOk s a = aheadBy s.phase s.header a.len a.behind_len a.matched
+abbrev pub ahead_ok : Shared → Ahead → Bool
+ahead_ok s a = ahead_by s.phase s.header a.len a.behind_len a.matched
 
-abbrev pub failuresOk : Phase → ℕ → Bool
-failuresOk phase failures = cond (nat_lt failures 8) true (failures == 8 && isFailed phase)
+abbrev pub failures_ok : Phase → ℕ → Bool
+failures_ok phase failures = cond (nat_lt failures 8) true (failures == 8 && is_failed phase)
 
-abbrev pub matcherBy : Phase → Header → Matcher → Bool
-matcherBy phase h m = countsOk m && matchedBy phase h m.current
+abbrev pub matcher_by : Phase → Header → Matcher → Bool
+matcher_by phase h m = counts_ok m && matched_by phase h m.current
 
-abbrev pub matcherOk : Shared → Matcher → Bool
-matcherOk s m = matcherBy s.phase s.header m
+abbrev pub matcher_ok : Shared → Matcher → Bool
+matcher_ok s m = matcher_by s.phase s.header m
 
 -- 2 × pages + 16, of at most 96 pages
-abbrev pub reloadLimit : ℕ → ℕ
-reloadLimit pages = 2 * min pages 96 + 16
+abbrev pub reload_limit : ℕ → ℕ
+reload_limit pages = 2 * min pages 96 + 16
 
-abbrev pub dueBy : Phase → Header → ℕ → Due → Bool
-dueBy phase h pages due = nat_le due.reloads (reloadLimit pages) && needBy phase h due.need
+abbrev pub due_by : Phase → Header → ℕ → Due → Bool
+due_by phase h pages due = nat_le due.reloads (reload_limit pages) && need_by phase h due.need
 
-abbrev pub dueOk : Shared → Due → Bool
-dueOk s due = dueBy s.phase s.header s.cache.pages.count due
+abbrev pub due_ok : Shared → Due → Bool
+due_ok s due = due_by s.phase s.header s.cache.pages.count due
 
 -- all of them, over an arena of `size` bytes: what is shared, what a follower holds, and the open fetch against the follower whose it is
-unfoldable pub engineOk : Engine → ℕ → Bool
-engineOk e size =
+unfoldable pub engine_ok : Engine → ℕ → Bool
+engine_ok e size =
     let s = e.shared in
     let f = e.follower in
     all_of
-    (sharedOk s size ∷ dueOk s f.due ∷ sightOk f.sight ∷ matcherOk s f.matcher ∷ aheadOk s f.ahead ∷ failuresOk s.phase f.failures
-    ∷ pendingOk s f.due.need ∷ [])
+    (shared_ok s size ∷ due_ok s f.due ∷ sight_ok f.sight ∷ matcher_ok s f.matcher ∷ ahead_ok s f.ahead ∷ failures_ok s.phase f.failures
+    ∷ pending_ok s f.due.need ∷ [])

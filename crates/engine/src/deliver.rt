@@ -12,7 +12,7 @@ use pack::{Header, TileKey};
 
 // The pack in another phase; a fetch is open no more.
 fn with_phase(s: Shared, phase: Phase, header: Header) -> Shared
-    ensures { result ≡ Deliver.withPhase s phase header }
+    ensures { result ≡ Deliver.with_phase s phase header }
 {
     let old = s.cache;
     let cache = crate::fetch::with_pending(old, Pending::Nothing);
@@ -24,7 +24,7 @@ fn with_phase(s: Shared, phase: Phase, header: Header) -> Shared
 }
 
 fn with_failures(e: Engine, s: Shared, failures: u8, answer: Status) -> Stepped
-    ensures { result ≡ Deliver.withFailures e s failures answer }
+    ensures { result ≡ Deliver.with_failures e s failures answer }
 {
     let mut f = e.follower;
     f.failures = failures;
@@ -37,7 +37,7 @@ fn with_failures(e: Engine, s: Shared, failures: u8, answer: Status) -> Stepped
 
 // No readable header: a missed read is tried again, up to the eighth.
 fn header_failed(e: Engine, failure: u32) -> Stepped
-    ensures { result ≡ Deliver.headerFailed e failure }
+    ensures { result ≡ Deliver.header_failed e failure }
 {
     let s = e.shared;
     let header = s.header;
@@ -55,7 +55,7 @@ fn header_failed(e: Engine, failure: u32) -> Stepped
 // The first 512 bytes of an answer that has as many: one copy.
 fn whole_sector(bytes: &[u8]) -> [u8; 512]
     requires { 512 ≤ length bytes.now }
-    ensures { result ≡ Deliver.sectorOf bytes.now }
+    ensures { result ≡ Deliver.sector_of bytes.now }
 {
     let mut out = [0u8; 512];
     let mut i = 0;
@@ -68,7 +68,7 @@ fn whole_sector(bytes: &[u8]) -> [u8; 512]
 
 // The first 512 bytes of an answer, 0 where it is shorter.
 fn short_sector(bytes: &[u8]) -> [u8; 512]
-    ensures { result ≡ Deliver.sectorOf bytes.now }
+    ensures { result ≡ Deliver.sector_of bytes.now }
 {
     let mut out = [0u8; 512];
     let mut i = 0;
@@ -81,7 +81,7 @@ fn short_sector(bytes: &[u8]) -> [u8; 512]
 
 // The first 512 bytes of an answer.
 pub fn sector_of(bytes: &[u8]) -> [u8; 512]
-    ensures { result ≡ Deliver.sectorOf bytes.now }
+    ensures { result ≡ Deliver.sector_of bytes.now }
 {
     if bytes.len() < 512 {
         return short_sector(bytes);
@@ -91,7 +91,7 @@ pub fn sector_of(bytes: &[u8]) -> [u8; 512]
 
 // The header came.
 fn header_came(e: Engine, failure: u32, bytes: &[u8]) -> Stepped
-    ensures { result ≡ Deliver.headerCame e failure bytes.now }
+    ensures { result ≡ Deliver.header_came e failure bytes.now }
 {
     if failure != 0 {
         return header_failed(e, failure);
@@ -128,7 +128,7 @@ fn needless(d: Due) -> Due
 
 // The follower that a step of a load leaves.
 fn load_leaves(f: Follower, answer: Progress) -> Follower
-    ensures { result ≡ Plans.loadLeaves answer f }
+    ensures { result ≡ Plans.load_leaves answer f }
 {
     let mut d = crate::work::counted(f);
     match answer {
@@ -153,7 +153,7 @@ fn load_leaves(f: Follower, answer: Progress) -> Follower
 
 // Whether a step of a load fails the pack: the eighth failure does.
 fn fails_pack(answer: Progress, failures: u8) -> bool
-    ensures { result ≡ Plans.failsPack answer failures }
+    ensures { result ≡ Plans.fails_pack answer failures }
 {
     match answer {
         Progress::Failed(_) => 7 <= failures,
@@ -162,7 +162,7 @@ fn fails_pack(answer: Progress, failures: u8) -> bool
 }
 
 fn load_phase(phase: Phase, is_failed: bool) -> Phase
-    ensures { result ≡ Plans.loadPhase phase is_failed }
+    ensures { result ≡ Plans.load_phase phase is_failed }
 {
     if is_failed {
         return Phase::Failed;
@@ -171,7 +171,7 @@ fn load_phase(phase: Phase, is_failed: bool) -> Phase
 }
 
 fn load_tells(is_failed: bool) -> Status
-    ensures { result ≡ Plans.loadTells is_failed }
+    ensures { result ≡ Plans.load_tells is_failed }
 {
     if is_failed {
         return Status::NoPack;
@@ -211,8 +211,8 @@ pub(crate) fn loaded(mut e: Engine, l: Loaded) -> Stepped
 
 // The entry or a chunk of the needed tile came.
 fn part_came(e: Engine, arena: &mut [u8], key: TileKey, failure: u32, bytes: &[u8]) -> Stepped
-    ensures value { result ≡ Deliver.told (Deliver.partCame e arena.old key failure bytes.now) }
-    ensures arena_after { arena.new ≡ (Deliver.partCame e arena.old key failure bytes.now).arena }
+    ensures value { result ≡ Deliver.told (Deliver.part_came e arena.old key failure bytes.now) }
+    ensures arena_after { arena.new ≡ (Deliver.part_came e arena.old key failure bytes.now).arena }
 {
     let s = e.shared;
     let c = s.cache;
@@ -225,7 +225,7 @@ fn part_came(e: Engine, arena: &mut [u8], key: TileKey, failure: u32, bytes: &[u
 
 // Whether an answer fits a read of 512 bytes.
 pub fn fits_header(failure: u32, len: usize) -> bool
-    ensures { result ≡ Deliver.fitsHeader failure len }
+    ensures { result ≡ Deliver.fits_header failure len }
 {
     if failure == 0 {
         return len == 512;
@@ -235,8 +235,8 @@ pub fn fits_header(failure: u32, len: usize) -> bool
 
 // A part of the tile that is needed; without one there is nothing that it could fit.
 fn need_came(e: Engine, arena: &mut [u8], failure: u32, bytes: &[u8]) -> Stepped
-    ensures value { result ≡ Deliver.told (Deliver.needCame e arena.old failure bytes.now) }
-    ensures arena_after { arena.new ≡ (Deliver.needCame e arena.old failure bytes.now).arena }
+    ensures value { result ≡ Deliver.told (Deliver.need_came e arena.old failure bytes.now) }
+    ensures arena_after { arena.new ≡ (Deliver.need_came e arena.old failure bytes.now).arena }
 {
     let f = e.follower;
     let due = f.due;

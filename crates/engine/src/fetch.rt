@@ -9,7 +9,7 @@ use cache::{Cache, MaybeKey, MaybeLoading, Pending, Progress};
 use pack::{Header, TileKey};
 
 pub fn with_pending(c: Cache, pending: Pending) -> Cache
-    ensures { result ≡ Steps.withPending c pending }
+    ensures { result ≡ Steps.with_pending c pending }
 {
     let pages = c.pages;
     let missing = c.missing;
@@ -25,7 +25,7 @@ pub fn with_pending(c: Cache, pending: Pending) -> Cache
 
 // The read of a chunk.
 fn chunk_request(loading: MaybeLoading) -> Status
-    ensures { result ≡ Steps.chunkRequest loading }
+    ensures { result ≡ Steps.chunk_request loading }
 {
     match loading {
         MaybeLoading::Nothing => Status::Refused(12),
@@ -38,7 +38,7 @@ fn chunk_request(loading: MaybeLoading) -> Status
 
 // The read that an open fetch asks for, worked out from it, the header and the load.
 pub fn request(header: Header, loading: MaybeLoading, pending: Pending) -> Status
-    ensures { result ≡ Steps.requestBy header loading pending }
+    ensures { result ≡ Steps.request_by header loading pending }
 {
     match pending {
         Pending::Nothing => Status::Refused(12),
@@ -49,7 +49,7 @@ pub fn request(header: Header, loading: MaybeLoading, pending: Pending) -> Statu
 }
 
 fn request_of(s: Shared, pending: Pending) -> Status
-    ensures { result ≡ Steps.requestOf s pending }
+    ensures { result ≡ Steps.request_of s pending }
 {
     let header = s.header;
     let c = s.cache;
@@ -73,7 +73,7 @@ fn opened(e: Engine, pending: Pending) -> Stepped
 
 // Whether a tile can't be settled without a read: the cache answers 11.
 fn awaits_read(answer: Progress) -> bool
-    ensures { result ≡ Steps.awaitsRead answer }
+    ensures { result ≡ Steps.awaits_read answer }
 {
     match answer {
         Progress::Done => false,
@@ -85,7 +85,7 @@ fn awaits_read(answer: Progress) -> bool
 
 // The fetch that the read towards a tile opens: a chunk where the load under way is of that tile, else its entry.
 fn pending_for(loading: MaybeLoading, key: TileKey) -> Pending
-    ensures { result ≡ Steps.pendingFor loading key }
+    ensures { result ≡ Steps.pending_for loading key }
 {
     match loading {
         MaybeLoading::Nothing => Pending::Entry(key),
@@ -100,7 +100,7 @@ fn pending_for(loading: MaybeLoading, key: TileKey) -> Pending
 
 // One step towards the tile that is needed.
 fn need_step(e: Engine, arena: &[u8], key: TileKey) -> Stepped
-    ensures { result ≡ Steps.needStep e arena.now key }
+    ensures { result ≡ Steps.need_step e arena.now key }
 {
     let s = e.shared;
     let c = s.cache;

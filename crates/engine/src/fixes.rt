@@ -9,7 +9,7 @@ use matcher::Heading;
 
 // No fix yet.
 pub(crate) fn nothing_seen() -> Sight
-    ensures { result ≡ Fixes.nothingSeen }
+    ensures { result ≡ Fixes.nothing_seen }
 {
     let none = Point { lat: 0, lon: 0 };
     let v = [none; 16];
@@ -24,7 +24,7 @@ pub(crate) fn nothing_seen() -> Sight
 
 // Whether a fix is at the place of the newest one.
 pub(crate) fn is_same_place(last: MaybeFix, fix: Fix) -> bool
-    ensures { result ≡ Fixes.isSamePlace last fix }
+    ensures { result ≡ Fixes.is_same_place last fix }
 {
     match last {
         MaybeFix::Nothing => false,
@@ -38,7 +38,7 @@ pub(crate) fn is_same_place(last: MaybeFix, fix: Fix) -> bool
 }
 
 fn place_at(h: Places, i: usize) -> Point
-    ensures { result ≡ Fixes.placeAt h i }
+    ensures { result ≡ Fixes.place_at h i }
 {
     if i < 16 {
         return h.v[i];
@@ -48,7 +48,7 @@ fn place_at(h: Places, i: usize) -> Point
 
 // Whether the rider has moved 15 m or more since the place number `i`.
 fn is_move(h: Places, i: usize, here: Point, lon_um: u32) -> bool
-    ensures { result ≡ Fixes.isMove h here lon_um i }
+    ensures { result ≡ Fixes.is_move h here lon_um i }
 {
     let old = place_at(h, i);
     let m = geo::flat::metres(here, old, lon_um);
@@ -57,7 +57,7 @@ fn is_move(h: Places, i: usize, here: Point, lon_um: u32) -> bool
 
 // The newest place that lies 15 m or more away.
 fn moved_from(h: Places, here: Point, lon_um: u32) -> Found
-    ensures { result ≡ Fixes.movedFrom h here lon_um }
+    ensures { result ≡ Fixes.moved_from h here lon_um }
 {
     let mut i = h.len;
     while 0 < i {
@@ -109,7 +109,7 @@ pub(crate) struct Course {
 
 // The heading from the newest place that is far enough, or the one before.
 fn course_of(s: Sight, fix: Fix) -> Course
-    ensures { result ≡ Fixes.courseOf s fix }
+    ensures { result ≡ Fixes.course_of s fix }
 {
     let here = Point {
         lat: fix.lat,

@@ -8,7 +8,7 @@ use matcher::{Current, Matcher};
 
 // Nothing done yet but, where `matching` says so, a match due.
 fn nothing_done(matching: bool) -> Due
-    ensures { result ≡ State.nothingDone matching }
+    ensures { result ≡ State.nothing_done matching }
 {
     Due {
         matching,
@@ -57,7 +57,7 @@ pub(crate) fn fixed(f: Follower, fix: Fix) -> Follower
 }
 
 fn is_matched(c: Current) -> bool
-    ensures { result ≡ State.isMatched c }
+    ensures { result ≡ State.is_matched c }
 {
     match c {
         Current::Nothing => false,
@@ -89,7 +89,7 @@ pub(crate) fn lost(f: Follower) -> Follower
 }
 
 fn has_fix(fix: MaybeFix) -> bool
-    ensures { result ≡ State.hasFix fix }
+    ensures { result ≡ State.has_fix fix }
 {
     match fix {
         MaybeFix::Nothing => false,

@@ -118,7 +118,7 @@ pub struct Follower {
 impl Fix {
     // From the 1e-7 degree whole numbers that a receiver reports, cut toward zero.
     pub fn from_e7(lat_e7: i32, lon_e7: i32, at_ms: u64) -> Fix
-        ensures { result ≡ Fixes.fromE7 lat_e7 lon_e7 at_ms }
+        ensures { result ≡ Fixes.from_e7 lat_e7 lon_e7 at_ms }
     {
         Fix {
             lat: lat_e7 / 10,
@@ -131,7 +131,7 @@ impl Fix {
 impl Ahead {
     // The rider is on a mapped road and its profile is known.
     pub fn on_road(self) -> bool
-        ensures { result ≡ Publish.onRoad self }
+        ensures { result ≡ Publish.on_road self }
     {
         let matched = self.matched;
         match matched {
@@ -375,8 +375,8 @@ impl Engine {
 
     // One step over a pack that is lent whole: `step`, and where it fetches, `deliver` with the pack's bytes, or with 2 where they pass its end.
     pub fn step_from(self, arena: &mut [u8], pack: &[u8]) -> Stepped
-        ensures value { result ≡ Calls.told (Calls.stepFrom self arena.old pack.now) }
-        ensures arena_after { arena.new ≡ (Calls.stepFrom self arena.old pack.now).arena }
+        ensures value { result ≡ Calls.told (Calls.step_from self arena.old pack.now) }
+        ensures arena_after { arena.new ≡ (Calls.step_from self arena.old pack.now).arena }
     {
         let s = self.step(&arena[..]);
         let answer = s.answer;
@@ -393,8 +393,8 @@ impl Engine {
 
 // A fetch answered from a pack that is lent whole.
 fn answered_from(e: Engine, arena: &mut [u8], offset: u64, len: usize, pack: &[u8]) -> Stepped
-    ensures value { result ≡ Calls.told (Calls.answeredFrom e arena.old offset len pack.now) }
-    ensures arena_after { arena.new ≡ (Calls.answeredFrom e arena.old offset len pack.now).arena }
+    ensures value { result ≡ Calls.told (Calls.answered_from e arena.old offset len pack.now) }
+    ensures arena_after { arena.new ≡ (Calls.answered_from e arena.old offset len pack.now).arena }
 {
     match pack::read(pack, offset, len) {
         pack::Range::At(at) => e.deliver(arena, 0, &pack[at..at + len]),

@@ -23,7 +23,7 @@ pub enum Plan {
 
 // A road is due: of the current match, if there is one.
 fn of_road(current: Current, fix: Fix) -> Plan
-    ensures { result ≡ Plans.ofRoad current fix }
+    ensures { result ≡ Plans.of_road current fix }
 {
     match current {
         Current::Is(found) => Plan::Road(fix, found),
@@ -33,7 +33,7 @@ fn of_road(current: Current, fix: Fix) -> Plan
 
 // What is due at a fix in the grid.
 fn of_due(fix: Fix, due: Due, current: Current) -> Plan
-    ensures { result ≡ Plans.ofDue fix due current }
+    ensures { result ≡ Plans.of_due fix due current }
 {
     if due.matching {
         return Plan::Match(fix);
@@ -46,7 +46,7 @@ fn of_due(fix: Fix, due: Due, current: Current) -> Plan
 
 // What is to be done at a fix.
 fn of_fix(header: Header, fix: Fix, due: Due, current: Current) -> Plan
-    ensures { result ≡ Plans.ofFix (key_of header fix.lat fix.lon) fix due current }
+    ensures { result ≡ Plans.of_fix (key_of header fix.lat fix.lon) fix due current }
 {
     match pack::grid::key_of(header, fix.lat, fix.lon) {
         Keyed::Outside | Keyed::Refused(_) => Plan::Off(fix),
@@ -56,7 +56,7 @@ fn of_fix(header: Header, fix: Fix, due: Due, current: Current) -> Plan
 
 // What is to be done without a tile.
 fn of_sight(header: Header, fix: MaybeFix, due: Due, current: Current) -> Plan
-    ensures { result ≡ Plans.ofSight fix header due current }
+    ensures { result ≡ Plans.of_sight fix header due current }
 {
     match fix {
         MaybeFix::Nothing => Plan::Rest,
@@ -66,7 +66,7 @@ fn of_sight(header: Header, fix: MaybeFix, due: Due, current: Current) -> Plan
 
 // What is to be done with a pack that is read.
 fn of_need(header: Header, fix: MaybeFix, due: Due, current: Current) -> Plan
-    ensures { result ≡ Plans.ofNeed due.need header fix due current }
+    ensures { result ≡ Plans.of_need due.need header fix due current }
 {
     let need = due.need;
     match need {
@@ -82,7 +82,7 @@ pub(crate) fn of_state(
     due: Due,
     current: Current,
 ) -> Plan
-    ensures { result ≡ Plans.ofState phase header fix due current }
+    ensures { result ≡ Plans.of_state phase header fix due current }
 {
     match phase {
         Phase::Failed => Plan::NoPack,

@@ -8,7 +8,7 @@ use predict::{BEHIND_SAMPLES, End, MAX_SAMPLES, Prediction};
 
 // Nothing published, with the generation given.
 pub(crate) fn nothing_ahead(generation: u32) -> Ahead
-    ensures { result ≡ Publish.nothingAhead generation }
+    ensures { result ≡ Publish.nothing_ahead generation }
 {
     let samples = [0i16; MAX_SAMPLES];
     let behind = [0i16; BEHIND_SAMPLES];
@@ -37,7 +37,7 @@ pub(crate) fn forgotten(a: Ahead) -> Ahead
 
 // Without a match there is no road: the heights stay where they stand, and count no more.
 pub(crate) fn without_match(a: Ahead, at_ms: u64, end: End) -> Ahead
-    ensures { result ≡ Publish.withoutMatch a at_ms end }
+    ensures { result ≡ Publish.without_match a at_ms end }
 {
     let samples = a.samples;
     let behind = a.behind;
@@ -59,7 +59,7 @@ pub(crate) fn without_match(a: Ahead, at_ms: u64, end: End) -> Ahead
 
 // The road of a match, with the heights that stand there.
 pub(crate) fn with_match(a: Ahead, at_ms: u64, found: matcher::Matched, p: Prediction) -> Ahead
-    ensures { result ≡ Publish.withMatch a at_ms found p }
+    ensures { result ≡ Publish.with_match a at_ms found p }
 {
     let samples = a.samples;
     let behind = a.behind;

@@ -87,7 +87,7 @@ pub(crate) fn forgotten(e: Engine) -> Changed
 // ---- number 12
 
 pub(crate) fn is_ready(phase: Phase) -> bool
-    ensures { result ≡ State.isReady phase }
+    ensures { result ≡ State.is_ready phase }
 {
     match phase {
         Phase::Ready => true,
@@ -97,7 +97,7 @@ pub(crate) fn is_ready(phase: Phase) -> bool
 
 // Tiles that one match or road may ask for: more than the cache holds means that they evict each other.
 pub(crate) fn reload_limit(pages: usize) -> usize
-    ensures { result ≡ State.reloadLimit pages }
+    ensures { result ≡ State.reload_limit pages }
 {
     if 96 < pages {
         return 208;
@@ -107,7 +107,7 @@ pub(crate) fn reload_limit(pages: usize) -> usize
 
 // Every cause, over an arena of `size` bytes.
 pub(crate) fn engine_ok(e: Engine, size: usize) -> bool
-    ensures { result ≡ State.engineOk e size }
+    ensures { result ≡ State.engine_ok e size }
 {
     let s = e.shared;
     let c = s.cache;

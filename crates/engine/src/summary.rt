@@ -28,7 +28,7 @@ pub struct Summary {
 }
 
 pub(crate) fn summary_of(e: Engine) -> Summary
-    ensures { result ≡ Summaries.summaryOf e }
+    ensures { result ≡ Summaries.summary_of e }
 {
     let s = e.shared;
     let phase = s.phase;
@@ -61,7 +61,7 @@ pub(crate) fn summary_of(e: Engine) -> Summary
 // ---- number 12, beside the cache's own causes
 
 fn is_unread(phase: Phase) -> bool
-    ensures { result ≡ State.isUnread phase }
+    ensures { result ≡ State.is_unread phase }
 {
     match phase {
         Phase::Unread => true,
@@ -70,7 +70,7 @@ fn is_unread(phase: Phase) -> bool
 }
 
 fn is_failed(phase: Phase) -> bool
-    ensures { result ≡ State.isFailed phase }
+    ensures { result ≡ State.is_failed phase }
 {
     match phase {
         Phase::Failed => true,
@@ -80,7 +80,7 @@ fn is_failed(phase: Phase) -> bool
 
 // A key that is held: in the grid of the header that was read, and none while it is unread.
 fn held_ok(phase: Phase, header: Header, key: TileKey) -> bool
-    ensures { result ≡ State.heldBy phase header key }
+    ensures { result ≡ State.held_by phase header key }
 {
     match phase {
         Phase::Unread => false,
@@ -90,7 +90,7 @@ fn held_ok(phase: Phase, header: Header, key: TileKey) -> bool
 }
 
 fn need_ok(phase: Phase, header: Header, need: MaybeKey) -> bool
-    ensures { result ≡ State.needBy phase header need }
+    ensures { result ≡ State.need_by phase header need }
 {
     match need {
         MaybeKey::Nothing => true,
@@ -99,7 +99,7 @@ fn need_ok(phase: Phase, header: Header, need: MaybeKey) -> bool
 }
 
 fn matched_ok(phase: Phase, header: Header, current: Current) -> bool
-    ensures { result ≡ State.matchedBy phase header current }
+    ensures { result ≡ State.matched_by phase header current }
 {
     match current {
         Current::Nothing => true,
@@ -112,7 +112,7 @@ fn matched_ok(phase: Phase, header: Header, current: Current) -> bool
 
 // In phase Ready the header is one that `Header::parse` accepts.
 fn header_ok(phase: Phase, header: Header) -> bool
-    ensures { result ≡ State.headerBy phase header }
+    ensures { result ≡ State.header_by phase header }
 {
     if crate::state::is_ready(phase) {
         return header.rules();
@@ -122,7 +122,7 @@ fn header_ok(phase: Phase, header: Header) -> bool
 
 // Whether the load under way is that of the needed tile.
 fn loads_needed(loading: MaybeLoading, need: MaybeKey) -> bool
-    ensures { result ≡ State.loadsNeeded loading need }
+    ensures { result ≡ State.loads_needed loading need }
 {
     match loading {
         MaybeLoading::Nothing => false,
@@ -135,7 +135,7 @@ fn loads_needed(loading: MaybeLoading, need: MaybeKey) -> bool
 
 // An open fetch that the state would make: the header's while it is unread, else one of the tile that is needed.
 fn pending_ok(pending: Pending, phase: Phase, loading: MaybeLoading, need: MaybeKey) -> bool
-    ensures { result ≡ State.pendingIn pending phase loading need }
+    ensures { result ≡ State.pending_in pending phase loading need }
 {
     match pending {
         Pending::Nothing => true,
@@ -156,7 +156,7 @@ fn pending_ok(pending: Pending, phase: Phase, loading: MaybeLoading, need: Maybe
 }
 
 fn fix_ok(fix: MaybeFix) -> bool
-    ensures { result ≡ State.fixOk fix }
+    ensures { result ≡ State.fix_ok fix }
 {
     match fix {
         MaybeFix::Nothing => true,
@@ -166,7 +166,7 @@ fn fix_ok(fix: MaybeFix) -> bool
 
 // Whether the places kept are at most sixteen, and points.
 fn places_ok(h: Places) -> bool
-    ensures { result ≡ State.placesOk h }
+    ensures { result ≡ State.places_ok h }
 {
     let n = h.len;
     if 16 < n {
@@ -187,7 +187,7 @@ fn places_ok(h: Places) -> bool
 }
 
 fn sight_ok(s: Sight) -> bool
-    ensures { result ≡ State.sightOk s }
+    ensures { result ≡ State.sight_ok s }
 {
     let fix = s.fix;
     if !fix_ok(fix) {
@@ -202,7 +202,7 @@ fn sight_ok(s: Sight) -> bool
 }
 
 fn due_ok(phase: Phase, header: Header, pages: usize, due: Due) -> bool
-    ensures { result ≡ State.dueBy phase header pages due }
+    ensures { result ≡ State.due_by phase header pages due }
 {
     if crate::state::reload_limit(pages) < (due.reloads as usize) {
         return false;
@@ -212,7 +212,7 @@ fn due_ok(phase: Phase, header: Header, pages: usize, due: Due) -> bool
 }
 
 fn matcher_ok(phase: Phase, header: Header, m: Matcher) -> bool
-    ensures { result ≡ State.matcherBy phase header m }
+    ensures { result ≡ State.matcher_by phase header m }
 {
     if !matcher::state::counts_ok(m) {
         return false;
@@ -223,7 +223,7 @@ fn matcher_ok(phase: Phase, header: Header, m: Matcher) -> bool
 
 // The counts of the published road, and its match.
 fn ahead_ok(phase: Phase, header: Header, len: usize, behind_len: usize, published: Current) -> bool
-    ensures { result ≡ State.aheadBy phase header len behind_len published }
+    ensures { result ≡ State.ahead_by phase header len behind_len published }
 {
     if 501 < len {
         return false;
@@ -236,7 +236,7 @@ fn ahead_ok(phase: Phase, header: Header, len: usize, behind_len: usize, publish
 
 // Eight failures fail the pack.
 fn failures_ok(phase: Phase, failures: u8) -> bool
-    ensures { result ≡ State.failuresOk phase failures }
+    ensures { result ≡ State.failures_ok phase failures }
 {
     if failures < 8 {
         return true;
@@ -249,7 +249,7 @@ fn failures_ok(phase: Phase, failures: u8) -> bool
 
 // The arena holds the pages, and the header is one.
 fn shared_ok(s: Summary, size: usize) -> bool
-    ensures { result ≡ Summaries.sharedIn s size }
+    ensures { result ≡ Summaries.shared_in s size }
 {
     if size / cache::PAGE_BYTES < s.count {
         return false;
@@ -261,7 +261,7 @@ fn shared_ok(s: Summary, size: usize) -> bool
 
 // What the follower holds: what is due, the fixes, the match, the published road, the failures.
 fn follower_ok(s: Summary) -> bool
-    ensures { result ≡ Summaries.followerIn s }
+    ensures { result ≡ Summaries.follower_in s }
 {
     let phase = s.phase;
     let header = s.header;

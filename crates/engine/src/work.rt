@@ -1,7 +1,7 @@
 // The work of a step that needs no read: off the map, a match, a road, or nothing. What these functions ask of the state is what number 12's
 // test has shown.
 ghost use Rattle.std.specs.Prelude.{◌≡◌, true};
-ghost use Rattle.pack.specs.Grid.{inGrid};
+ghost use Rattle.pack.specs.Grid.{in_grid};
 ghost use Rattle.engine.specs.Plans as Plans;
 ghost use Rattle.engine.specs.Work as Work;
 
@@ -22,7 +22,7 @@ pub(crate) fn counted(f: Follower) -> Follower
 }
 
 pub fn is_matched(c: Current) -> bool
-    ensures { result ≡ Work.isMatched c }
+    ensures { result ≡ Work.is_matched c }
 {
     match c {
         Current::Nothing => false,
@@ -43,7 +43,7 @@ pub fn emptied(a: Ahead, at_ms: u64, end: End) -> Ahead
 
 // The fix lies outside the grid.
 fn off_map(f: Follower, fix: Fix) -> Follower
-    ensures { result ≡ Work.offMap f fix }
+    ensures { result ≡ Work.off_map f fix }
 {
     let mut d = f;
     let a = d.ahead;
@@ -78,7 +78,7 @@ pub fn asking(d: Due, key: TileKey, reloads: u16) -> Due
 
 // Whether the attempt under way may ask for another tile.
 pub fn may_ask(d: Due, pages: usize) -> bool
-    ensures { result ≡ Work.mayAsk d pages }
+    ensures { result ≡ Work.may_ask d pages }
 {
     (d.reloads as usize) < crate::state::reload_limit(pages)
 }
@@ -87,7 +87,7 @@ pub fn may_ask(d: Due, pages: usize) -> bool
 
 // Whether a match is on another edge than the one published.
 fn is_other(found: Matched, published: Current) -> bool
-    ensures { result ≡ Work.isOther found published }
+    ensures { result ≡ Work.is_other found published }
 {
     match published {
         Current::Nothing => true,
@@ -97,7 +97,7 @@ fn is_other(found: Matched, published: Current) -> bool
 
 // Whether two seconds have passed since the last road.
 fn is_time(last: MaybeTime, now_ms: u64) -> bool
-    ensures { result ≡ Work.isTime last now_ms }
+    ensures { result ≡ Work.is_time last now_ms }
 {
     match last {
         MaybeTime::Nothing => true,
@@ -112,7 +112,7 @@ fn is_time(last: MaybeTime, now_ms: u64) -> bool
 
 // What is due once a match is made: a road where it is on another edge, or it is time.
 pub fn matched_due(due: Due, current: Current, published: Current, at_ms: u64) -> Due
-    ensures { result ≡ Plans.matchedDue due current published at_ms }
+    ensures { result ≡ Plans.matched_due due current published at_ms }
 {
     let mut d = due;
     d.reloads = 0;
@@ -151,7 +151,7 @@ fn matched(f: Follower, m: Matcher, fix: Fix) -> Follower
 
 // What is due once a match needs a tile first; past the limit the match is given up.
 pub fn asking_due(due: Due, pages: usize, key: TileKey) -> Due
-    ensures { result ≡ Plans.askingDue due pages key }
+    ensures { result ≡ Plans.asking_due due pages key }
 {
     if may_ask(due, pages) {
         return asking(due, key, due.reloads + 1);
@@ -163,7 +163,7 @@ pub fn asking_due(due: Due, pages: usize, key: TileKey) -> Due
 }
 
 fn match_asks(f: Follower, pages: usize, key: TileKey) -> Follower
-    ensures { result ≡ Work.matchAsks f pages key }
+    ensures { result ≡ Work.match_asks f pages key }
 {
     let mut d = f;
     let before = d.due;
@@ -174,7 +174,7 @@ fn match_asks(f: Follower, pages: usize, key: TileKey) -> Follower
 
 // The newest fix matched.
 pub(crate) fn match_step(e: Engine, arena: &[u8], fix: Fix) -> Stepped
-    ensures { result ≡ Work.matchStep e arena.now (Work.counted e.follower) fix }
+    ensures { result ≡ Work.match_step e arena.now (Work.counted e.follower) fix }
 {
     let s = e.shared;
     let c = s.cache;
@@ -199,7 +199,7 @@ fn match_leaves(
     pages: usize,
     answer: matcher::Outcome,
 ) -> Follower
-    ensures { result ≡ Plans.matchLeaves answer f m fix pages }
+    ensures { result ≡ Plans.match_leaves answer f m fix pages }
 {
     match answer {
         matcher::Outcome::Found(_) | matcher::Outcome::Nothing | matcher::Outcome::Refused(_) =>
@@ -210,7 +210,7 @@ fn match_leaves(
 
 // How a step that matched ends, where the match is not refused.
 pub fn match_tells(due: Due, pages: usize, answer: matcher::Outcome) -> Status
-    ensures { result ≡ Plans.matchTells answer due pages }
+    ensures { result ≡ Plans.match_tells answer due pages }
 {
     match answer {
         matcher::Outcome::Found(_) | matcher::Outcome::Nothing | matcher::Outcome::Refused(_) =>
@@ -226,7 +226,7 @@ pub fn match_tells(due: Due, pages: usize, answer: matcher::Outcome) -> Status
 
 // What a match that ended makes of the engine, which is written in place.
 fn match_ended(mut e: Engine, fix: Fix, u: Made) -> Stepped
-    ensures { result ≡ Plans.matchMade e fix u }
+    ensures { result ≡ Plans.match_made e fix u }
 {
     let answer = u.answer;
     if let matcher::Outcome::Refused(number) = answer {
@@ -255,7 +255,7 @@ fn match_ended(mut e: Engine, fix: Fix, u: Made) -> Stepped
 // ---- a road
 
 pub fn no_road() -> Prediction
-    ensures { result ≡ Work.noRoad }
+    ensures { result ≡ Work.no_road }
 {
     Prediction {
         len: 0,
@@ -269,7 +269,7 @@ pub fn no_road() -> Prediction
 
 // A road was worked out at the fix's time.
 pub fn road_done(d: Due, at_ms: u64) -> Due
-    ensures { result ≡ Work.roadDone d at_ms }
+    ensures { result ≡ Work.road_done d at_ms }
 {
     let need = d.need;
     Due {
@@ -296,7 +296,7 @@ fn published(f: Follower, a: Ahead, fix: Fix, found: Matched, p: Prediction) -> 
 
 // A road needs a tile first; past the limit the road is Memory.
 fn road_asks(f: Follower, pages: usize, fix: Fix, found: Matched, key: TileKey) -> Follower
-    ensures { result ≡ Work.roadAsks f pages fix found key }
+    ensures { result ≡ Work.road_asks f pages fix found key }
 {
     let due = f.due;
     if may_ask(due, pages) {
@@ -332,7 +332,7 @@ fn road_leaves(
     found: Matched,
     answer: Outcome,
 ) -> Follower
-    ensures { result ≡ Plans.roadLeaves answer f a pages fix found }
+    ensures { result ≡ Plans.road_leaves answer f a pages fix found }
 {
     match answer {
         Outcome::Road(r) => published(f, a, fix, found, r),
@@ -343,7 +343,7 @@ fn road_leaves(
 
 // Whether a road refuses the step: after 10 the fix is matched again.
 pub fn road_fails(answer: Outcome) -> bool
-    ensures { result ≡ Plans.roadFails answer }
+    ensures { result ≡ Plans.road_fails answer }
 {
     match answer {
         Outcome::Road(_) | Outcome::Need(_) | Outcome::Rematch => false,
@@ -353,7 +353,7 @@ pub fn road_fails(answer: Outcome) -> bool
 
 // The number that it is refused with, 0 where it is not.
 pub fn road_number(answer: Outcome) -> u32
-    ensures { result ≡ Plans.roadNumber answer }
+    ensures { result ≡ Plans.road_number answer }
 {
     match answer {
         Outcome::Road(_) | Outcome::Need(_) | Outcome::Rematch => 0,
@@ -363,8 +363,8 @@ pub fn road_number(answer: Outcome) -> u32
 
 // The road ahead of a match, worked out over heights of 0. The engine is written in place.
 pub(crate) fn road_step(mut e: Engine, arena: &[u8], fix: Fix, found: Matched) -> Stepped
-    requires { inGrid e.shared.header found.tile.key ≡ true }
-    ensures { result ≡ Work.roadStep e arena.now (Work.counted e.follower) fix found }
+    requires { in_grid e.shared.header found.tile.key ≡ true }
+    ensures { result ≡ Work.road_step e arena.now (Work.counted e.follower) fix found }
 {
     let mut s = e.shared;
     let old = s.cache;
@@ -403,7 +403,7 @@ pub(crate) fn road_step(mut e: Engine, arena: &[u8], fix: Fix, found: Matched) -
 
 // A road was due without a match: it is due no more.
 pub(crate) fn road_dropped(mut e: Engine) -> Stepped
-    ensures { result ≡ Plans.roadDropped e }
+    ensures { result ≡ Plans.road_dropped e }
 {
     let before = e.follower;
     let mut f = counted(before);
@@ -419,7 +419,7 @@ pub(crate) fn road_dropped(mut e: Engine) -> Stepped
 
 // The fix lies outside the grid.
 pub(crate) fn left_map(mut e: Engine, fix: Fix) -> Stepped
-    ensures { result ≡ Plans.leftMap e fix }
+    ensures { result ≡ Plans.left_map e fix }
 {
     let before = e.follower;
     let counted = counted(before);

@@ -1,4 +1,4 @@
--- The first step of a new engine asks for the header (`new-steps`): no state that 12 names, in phase Unread, with no read open.
+-- The first step of a new engine asks for the header (`new_steps`): no state that 12 names, in phase Unread, with no read open.
 use Prim.Native.Nat.{ℕ}
 use mathlib.Core.Path.{◌≡◌, refl, ap}
 use mathlib.Core.Bool.{Bool, cond}
@@ -13,15 +13,15 @@ use Rattle.engine.specs.declared.Stepped.{Stepped}
 use Rattle.engine.proofs.StateLaws.{new_ok}
 use Rattle.engine_states.specs.First.{FirstStep}
 
-new-opens : (arena : List ℕ) (horizon : Float) → step (new arena horizon) arena ≡ opened (new arena horizon) Pending.Header
+new_opens : (arena : List ℕ) (horizon : Float) → step (new arena horizon) arena ≡ opened (new arena horizon) Pending.Header
 unfolding new Caches.fresh step stepped started
-new-opens arena horizon =
+new_opens arena horizon =
     ap (λ (t : Bool). cond t (stepped (new arena horizon) arena) (refused (new arena horizon) 12)) (new_ok arena horizon)
 
-pub new-steps : (arena : List ℕ) (horizon : Float) → FirstStep arena horizon
+pub new_steps : (arena : List ℕ) (horizon : Float) → FirstStep arena horizon
 unfolding new Caches.fresh
-new-steps arena horizon = record {
-  asks = ap (λ (s : Stepped). s.answer) (new-opens arena horizon);
+new_steps arena horizon = record {
+  asks = ap (λ (s : Stepped). s.answer) (new_opens arena horizon);
   before = refl;
-  after = ap (λ (s : Stepped). s.engine.shared.cache.pending) (new-opens arena horizon);
+  after = ap (λ (s : Stepped). s.engine.shared.cache.pending) (new_opens arena horizon);
 }

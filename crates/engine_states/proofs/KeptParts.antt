@@ -8,13 +8,13 @@ use mathlib.Core.List.{List, [], ◌∷◌}
 use native.Mathlib.Omega.{arith}
 use lib.Dec.{leb}
 use borrow.Author.Tests.{ltb-true, le-leb}
-use Rattle.pack.specs.Grid.{inGrid}
+use Rattle.pack.specs.Grid.{in_grid}
 use Rattle.pack.specs.declared.Header.{Header}
 use Rattle.pack.specs.declared.TileKey.{TileKey}
 use Rattle.pack.proofs.Laws.{and_left, and_right, clause}
 use Rattle.cache.specs.declared.MaybeKey.{MaybeKey}
 use Rattle.cache.specs.declared.MaybeKey.TheVariants as MaybeKey
-use Rattle.cache.specs.State.{stateOk, arenaOk}
+use Rattle.cache.specs.State.{state_ok, arena_ok}
 use Rattle.cache.specs.declared.Cache.{Cache}
 use Rattle.cache.specs.declared.Pending.{Pending}
 use Rattle.cache.specs.declared.Pending.TheVariants as Pending
@@ -22,19 +22,19 @@ use Rattle.matcher.specs.declared.Current.{Current}
 use Rattle.matcher.specs.declared.Current.TheVariants as Current
 use Rattle.matcher.specs.declared.Matched.{Matched}
 use Rattle.matcher.specs.Calls as Matching
-use Rattle.matcher.specs.State.{countsOk, edgeOk}
+use Rattle.matcher.specs.State.{counts_ok, edge_ok}
 use Rattle.matcher.specs.declared.Matcher.{Matcher}
 use Rattle.predict.specs.declared.End.{End}
 use Rattle.predict.specs.declared.Prediction.{Prediction}
-use Rattle.engine.specs.Publish.{withoutMatch, withMatch}
+use Rattle.engine.specs.Publish.{without_match, with_match}
 use Rattle.engine.specs.declared.Ahead.{Ahead}
 use Rattle.engine.specs.declared.Fix.{Fix}
 use Rattle.engine.specs.declared.Follower.{Follower}
 use Rattle.engine.specs.Deliver.{failing, needless}
-use Rattle.engine.specs.State.{headerOk, sharedOk, heldOk, needOk, matchedOk, pendingOk, sightOk, aheadOk, failuresOk, matcherOk, reloadLimit}
-use Rattle.engine.specs.State.{dueOk, engineOk}
-use Rattle.engine.specs.Work.{withDue, counted, isMatched, emptied, offMap, asking, mayAsk, matchDone, matchedBy, matched, matchAsks, noRoad}
-use Rattle.engine.specs.Work.{published, roadAsks, roadOff, rematch}
+use Rattle.engine.specs.State.{header_ok, shared_ok, held_ok, need_ok, matched_ok, pending_ok, sight_ok, ahead_ok, failures_ok, matcher_ok, reload_limit}
+use Rattle.engine.specs.State.{due_ok, engine_ok}
+use Rattle.engine.specs.Work.{with_due, counted, is_matched, emptied, off_map, asking, may_ask, match_done, matched_by, matched, match_asks, no_road}
+use Rattle.engine.specs.Work.{published, road_asks, road_off, rematch}
 use Rattle.engine.specs.declared.Engine.{Engine}
 use Rattle.engine.specs.declared.Phase.{Phase}
 use Rattle.engine.specs.declared.Phase.TheVariants as Phase
@@ -46,26 +46,26 @@ use Rattle.engine_states.proofs.SightKept.{both}
 
 -- those of a follower, whoever's the open fetch is
 pub record Holds (s : Shared) (f : Follower) : Type 0 where
-  pub due : dueOk s f.due ≡ true
-  pub sight : sightOk f.sight ≡ true
-  pub matcher : matcherOk s f.matcher ≡ true
-  pub ahead : aheadOk s f.ahead ≡ true
-  pub failures : failuresOk s.phase f.failures ≡ true
+  pub due : due_ok s f.due ≡ true
+  pub sight : sight_ok f.sight ≡ true
+  pub matcher : matcher_ok s f.matcher ≡ true
+  pub ahead : ahead_ok s f.ahead ≡ true
+  pub failures : failures_ok s.phase f.failures ≡ true
 
 -- with those of what is shared, and of the open fetch
 pub record Ok (s : Shared) (f : Follower) (n : ℕ) : Type 0 where
-  pub shared : sharedOk s n ≡ true
+  pub shared : shared_ok s n ≡ true
   pub holds : Holds s f
-  pub pending : pendingOk s f.due.need ≡ true
+  pub pending : pending_ok s f.due.need ≡ true
 
 abbrev causes : Engine → ℕ → List Bool
 causes e n =
-    sharedOk e.shared n ∷ dueOk e.shared e.follower.due ∷ sightOk e.follower.sight ∷ matcherOk e.shared e.follower.matcher
-    ∷ aheadOk e.shared e.follower.ahead ∷ failuresOk e.shared.phase e.follower.failures
-    ∷ pendingOk e.shared e.follower.due.need ∷ []
+    shared_ok e.shared n ∷ due_ok e.shared e.follower.due ∷ sight_ok e.follower.sight ∷ matcher_ok e.shared e.follower.matcher
+    ∷ ahead_ok e.shared e.follower.ahead ∷ failures_ok e.shared.phase e.follower.failures
+    ∷ pending_ok e.shared e.follower.due.need ∷ []
 
-pub apart : (e : Engine) (n : ℕ) → engineOk e n ≡ true → Ok e.shared e.follower n
-unfolding engineOk
+pub apart : (e : Engine) (n : ℕ) → engine_ok e n ≡ true → Ok e.shared e.follower n
+unfolding engine_ok
 apart e n ok = record {
   shared = clause 0 (causes e n) ok;
   holds = record {
@@ -78,203 +78,203 @@ apart e n ok = record {
   pending = clause 6 (causes e n) ok;
 }
 
-pub together : (e : Engine) (n : ℕ) → Ok e.shared e.follower n → engineOk e n ≡ true
-unfolding engineOk
+pub together : (e : Engine) (n : ℕ) → Ok e.shared e.follower n → engine_ok e n ≡ true
+unfolding engine_ok
 together e n ok =
     let f = ok.holds in rw (ok.shared, f.due, f.sight, f.matcher, f.ahead, f.failures, ok.pending)
 
 -- another follower over what is shared: that needs the same tile, or with no fetch open
-pub same-fetch : (s : Shared) (f g : Follower) (n : ℕ) → Ok s f n → g.due.need ≡ f.due.need → Holds s g → Ok s g n
-same-fetch s f g n ok same h = record { shared = ok.shared; holds = h; pending = rw same ok.pending }
+pub same_fetch : (s : Shared) (f g : Follower) (n : ℕ) → Ok s f n → g.due.need ≡ f.due.need → Holds s g → Ok s g n
+same_fetch s f g n ok same h = record { shared = ok.shared; holds = h; pending = rw same ok.pending }
 
-pub none-pending : (s : Shared) (need : MaybeKey) → s.cache.pending ≡ Pending.Nothing → pendingOk s need ≡ true
-none-pending s need idle = rw idle
+pub none_pending : (s : Shared) (need : MaybeKey) → s.cache.pending ≡ Pending.Nothing → pending_ok s need ≡ true
+none_pending s need idle = rw idle
 
-pub no-fetch : (s : Shared) (f g : Follower) (n : ℕ) → Ok s f n → s.cache.pending ≡ Pending.Nothing → Holds s g → Ok s g n
-no-fetch s f g n ok idle h = record { shared = ok.shared; holds = h; pending = none-pending s g.due.need idle }
+pub no_fetch : (s : Shared) (f g : Follower) (n : ℕ) → Ok s f n → s.cache.pending ≡ Pending.Nothing → Holds s g → Ok s g n
+no_fetch s f g n ok idle h = record { shared = ok.shared; holds = h; pending = none_pending s g.due.need idle }
 
 -- ---- another cache beside the same phase and header
 
-abbrev pub withCache : Shared → Cache → Shared
-withCache s c = record { phase = s.phase; header = s.header; cache = c }
+abbrev pub with_cache : Shared → Cache → Shared
+with_cache s c = record { phase = s.phase; header = s.header; cache = c }
 
-need-cache : (s : Shared) (c : Cache) (need : MaybeKey) → needOk s need ≡ true → needOk (withCache s c) need ≡ true
-need-cache s c MaybeKey.Nothing ok = refl
-need-cache s c (MaybeKey.Key key) ok = ok
+need_cache : (s : Shared) (c : Cache) (need : MaybeKey) → need_ok s need ≡ true → need_ok (with_cache s c) need ≡ true
+need_cache s c MaybeKey.Nothing ok = refl
+need_cache s c (MaybeKey.Key key) ok = ok
 
-matched-cache : (s : Shared) (c : Cache) (m : Current) → matchedOk s m ≡ true → matchedOk (withCache s c) m ≡ true
-matched-cache s c Current.Nothing ok = refl
-matched-cache s c (Current.Is m) ok = ok
+matched_cache : (s : Shared) (c : Cache) (m : Current) → matched_ok s m ≡ true → matched_ok (with_cache s c) m ≡ true
+matched_cache s c Current.Nothing ok = refl
+matched_cache s c (Current.Is m) ok = ok
 
 -- what a follower holds, over another cache of as many pages
 module _ (s : Shared) (c : Cache) (f : Follower) (h : Holds s f) where
-  matcher-cache : matcherOk (withCache s c) f.matcher ≡ true
-  matcher-cache =
-      both (countsOk f.matcher) _ (and_left (countsOk f.matcher) _ h.matcher)
-      (matched-cache s c f.matcher.current (and_right (countsOk f.matcher) _ h.matcher))
+  matcher_cache : matcher_ok (with_cache s c) f.matcher ≡ true
+  matcher_cache =
+      both (counts_ok f.matcher) _ (and_left (counts_ok f.matcher) _ h.matcher)
+      (matched_cache s c f.matcher.current (and_right (counts_ok f.matcher) _ h.matcher))
 
-  ahead-cache : aheadOk (withCache s c) f.ahead ≡ true
-  ahead-cache =
-      let rest : (leb f.ahead.behind_len 11 && matchedOk s f.ahead.matched) ≡ true = and_right (leb f.ahead.len 501) _ h.ahead in
+  ahead_cache : ahead_ok (with_cache s c) f.ahead ≡ true
+  ahead_cache =
+      let rest : (leb f.ahead.behind_len 11 && matched_ok s f.ahead.matched) ≡ true = and_right (leb f.ahead.len 501) _ h.ahead in
       both (leb f.ahead.len 501) _ (and_left (leb f.ahead.len 501) _ h.ahead)
       (both (leb f.ahead.behind_len 11) _ (and_left (leb f.ahead.behind_len 11) _ rest)
-      (matched-cache s c f.ahead.matched (and_right (leb f.ahead.behind_len 11) _ rest)))
+      (matched_cache s c f.ahead.matched (and_right (leb f.ahead.behind_len 11) _ rest)))
 
-  pub cache-holds : c.pages.count ≡ s.cache.pages.count → Holds (withCache s c) f
-  cache-holds count = record {
+  pub cache_holds : c.pages.count ≡ s.cache.pages.count → Holds (with_cache s c) f
+  cache_holds count = record {
     due =
-        both (leb f.due.reloads (reloadLimit c.pages.count)) _
-        (rw count (and_left (leb f.due.reloads (reloadLimit s.cache.pages.count)) _ h.due))
-        (need-cache s c f.due.need (and_right (leb f.due.reloads (reloadLimit s.cache.pages.count)) _ h.due));
+        both (leb f.due.reloads (reload_limit c.pages.count)) _
+        (rw count (and_left (leb f.due.reloads (reload_limit s.cache.pages.count)) _ h.due))
+        (need_cache s c f.due.need (and_right (leb f.due.reloads (reload_limit s.cache.pages.count)) _ h.due));
     sight = h.sight;
-    matcher = matcher-cache;
-    ahead = ahead-cache;
+    matcher = matcher_cache;
+    ahead = ahead_cache;
     failures = h.failures;
   }
 
 module _ (s : Shared) (c : Cache) (f : Follower) (n : ℕ) (ok : Ok s f n) where
-  shared-cache : stateOk c ≡ true → c.pages.count ≡ s.cache.pages.count → sharedOk (withCache s c) n ≡ true
-  unfolding sharedOk
-  shared-cache good count =
-      let rest : (arenaOk s.cache n && headerOk s) ≡ true = and_right (stateOk s.cache) _ ok.shared in
-      both (stateOk c) _ good
-      (both (arenaOk c n) _ (rw count (and_left (arenaOk s.cache n) _ rest)) (and_right (arenaOk s.cache n) (headerOk s) rest))
+  shared_cache : state_ok c ≡ true → c.pages.count ≡ s.cache.pages.count → shared_ok (with_cache s c) n ≡ true
+  unfolding shared_ok
+  shared_cache good count =
+      let rest : (arena_ok s.cache n && header_ok s) ≡ true = and_right (state_ok s.cache) _ ok.shared in
+      both (state_ok c) _ good
+      (both (arena_ok c n) _ (rw count (and_left (arena_ok s.cache n) _ rest)) (and_right (arena_ok s.cache n) (header_ok s) rest))
 
   -- its pages as many, and an open fetch that the state makes
-  pub cache-ok : stateOk c ≡ true → c.pages.count ≡ s.cache.pages.count → pendingOk (withCache s c) f.due.need ≡ true → Ok (withCache s c) f n
-  cache-ok good count fits = record { shared = shared-cache good count; holds = cache-holds s c f ok.holds count; pending = fits }
+  pub cache_ok : state_ok c ≡ true → c.pages.count ≡ s.cache.pages.count → pending_ok (with_cache s c) f.due.need ≡ true → Ok (with_cache s c) f n
+  cache_ok good count fits = record { shared = shared_cache good count; holds = cache_holds s c f ok.holds count; pending = fits }
 
 -- ---- a follower that is changed
 
-emptied-ok : (s : Shared) (a : Ahead) (at : ℕ) (end : End) → aheadOk s a ≡ true → aheadOk s (emptied a at end) ≡ true
-unfolding withoutMatch
-emptied-ok s a at end ok = by (isMatched a.matched)
+emptied_ok : (s : Shared) (a : Ahead) (at : ℕ) (end : End) → ahead_ok s a ≡ true → ahead_ok s (emptied a at end) ≡ true
+unfolding without_match
+emptied_ok s a at end ok = by (is_matched a.matched)
   where
-    by : (t : Bool) → aheadOk s (cond t (withoutMatch a at end) a) ≡ true
+    by : (t : Bool) → ahead_ok s (cond t (without_match a at end) a) ≡ true
     by true = refl
     by false = ok
 
 module _ (s : Shared) (f : Follower) (ok : Holds s f) where
-  pub off-map-ok : (fix : Fix) → Holds s (offMap f fix)
-  unfolding offMap
-  off-map-ok fix = record {
+  pub off_map_ok : (fix : Fix) → Holds s (off_map f fix)
+  unfolding off_map
+  off_map_ok fix = record {
     due = ok.due;
     sight = ok.sight;
-    matcher = by (isMatched f.ahead.matched);
-    ahead = emptied-ok s f.ahead _ _ ok.ahead;
+    matcher = by (is_matched f.ahead.matched);
+    ahead = emptied_ok s f.ahead _ _ ok.ahead;
     failures = ok.failures;
   }
     where
-      by : (t : Bool) → matcherOk s (cond t Matching.reset f.matcher) ≡ true
+      by : (t : Bool) → matcher_ok s (cond t Matching.reset f.matcher) ≡ true
       by true = refl
       by false = ok.matcher
 
-  pub road-off-ok : Holds s (withDue f (roadOff f.due))
-  road-off-ok =
+  pub road_off_ok : Holds s (with_due f (road_off f.due))
+  road_off_ok =
       record { due = ok.due; sight = ok.sight; matcher = ok.matcher; ahead = ok.ahead; failures = ok.failures }
 
-  pub counted-ok : Holds s (counted f)
-  counted-ok =
+  pub counted_ok : Holds s (counted f)
+  counted_ok =
       record { due = ok.due; sight = ok.sight; matcher = ok.matcher; ahead = ok.ahead; failures = ok.failures }
 
-  pub rematch-ok : Holds s (rematch f)
-  rematch-ok = record { due = ok.due; sight = ok.sight; matcher = refl; ahead = ok.ahead; failures = ok.failures }
+  pub rematch_ok : Holds s (rematch f)
+  rematch_ok = record { due = ok.due; sight = ok.sight; matcher = refl; ahead = ok.ahead; failures = ok.failures }
 
 -- ---- a match and a road
 
-placed_of : (s : Shared) (x : Current) → s.phase ≡ Phase.Ready → edgeOk x ≡ true → matchedOk s x ≡ true → PlacedIn s.header x
+placed_of : (s : Shared) (x : Current) → s.phase ≡ Phase.Ready → edge_ok x ≡ true → matched_ok s x ≡ true → PlacedIn s.header x
 placed_of s Current.Nothing ready edge key = tt
 placed_of s (Current.Is m) ready edge key = record { grid = rw ready at key; edge = edge }
 
-placed-edge : (h : Header) (x : Current) → PlacedIn h x → edgeOk x ≡ true
-placed-edge h Current.Nothing p = refl
-placed-edge h (Current.Is m) p = p.edge
+placed_edge : (h : Header) (x : Current) → PlacedIn h x → edge_ok x ≡ true
+placed_edge h Current.Nothing p = refl
+placed_edge h (Current.Is m) p = p.edge
 
-placed-key : (s : Shared) (x : Current) → s.phase ≡ Phase.Ready → PlacedIn s.header x → matchedOk s x ≡ true
-placed-key s Current.Nothing ready p = refl
-placed-key s (Current.Is m) ready p = rw ready p.grid
+placed_key : (s : Shared) (x : Current) → s.phase ≡ Phase.Ready → PlacedIn s.header x → matched_ok s x ≡ true
+placed_key s Current.Nothing ready p = refl
+placed_key s (Current.Is m) ready p = rw ready p.grid
 
 module _ (s : Shared) (m : Matcher) (ready : s.phase ≡ Phase.Ready) where
-  pub standing-of : matcherOk s m ≡ true → Standing s.header m
-  standing-of ok =
-      let counts : countsOk m ≡ true = and_left (countsOk m) _ ok in
+  pub standing_of : matcher_ok s m ≡ true → Standing s.header m
+  standing_of ok =
+      let counts : counts_ok m ≡ true = and_left (counts_ok m) _ ok in
       record {
-        current = placed_of s m.current ready (and_left (edgeOk m.current) _ counts) (and_right (countsOk m) _ ok);
-        challenger = and_right (edgeOk m.current) _ counts;
+        current = placed_of s m.current ready (and_left (edge_ok m.current) _ counts) (and_right (counts_ok m) _ ok);
+        challenger = and_right (edge_ok m.current) _ counts;
       }
 
-  pub standing-ok : Standing s.header m → matcherOk s m ≡ true
-  standing-ok p =
-      both (countsOk m) _ (both (edgeOk m.current) _ (placed-edge s.header m.current p.current) p.challenger)
-      (placed-key s m.current ready p.current)
+  pub standing_ok : Standing s.header m → matcher_ok s m ≡ true
+  standing_ok p =
+      both (counts_ok m) _ (both (edge_ok m.current) _ (placed_edge s.header m.current p.current) p.challenger)
+      (placed_key s m.current ready p.current)
 
-either-follower : (t : Bool) (s : Shared) (f g : Follower) → (t ≡ true → Holds s f) → Holds s g → Holds s (cond t f g)
-either-follower true s f g p q = p refl
-either-follower false s f g p q = q
+either_follower : (t : Bool) (s : Shared) (f g : Follower) → (t ≡ true → Holds s f) → Holds s g → Holds s (cond t f g)
+either_follower true s f g p q = p refl
+either_follower false s f g p q = q
 
 module _ (s : Shared) (f : Follower) (ok : Holds s f) where
   -- the reloads begin anew
-  done-due : dueOk s (matchDone f.due false) ≡ true
-  done-due =
-      both (leb 0 (reloadLimit s.cache.pages.count)) _ (le-leb 0 (reloadLimit s.cache.pages.count) (omega arith))
-      (and_right (leb f.due.reloads (reloadLimit s.cache.pages.count)) _ ok.due)
+  done_due : due_ok s (match_done f.due false) ≡ true
+  done_due =
+      both (leb 0 (reload_limit s.cache.pages.count)) _ (le-leb 0 (reload_limit s.cache.pages.count) (omega arith))
+      (and_right (leb f.due.reloads (reload_limit s.cache.pages.count)) _ ok.due)
 
-  matched-by-ok : (x : Current) (m : Matcher) (fix : Fix) → matcherOk s m ≡ true → Holds s (matchedBy x f m fix)
-  matched-by-ok Current.Nothing m fix good = record {
-    due = done-due;
+  matched_by_ok : (x : Current) (m : Matcher) (fix : Fix) → matcher_ok s m ≡ true → Holds s (matched_by x f m fix)
+  matched_by_ok Current.Nothing m fix good = record {
+    due = done_due;
     sight = ok.sight;
     matcher = good;
-    ahead = emptied-ok s f.ahead _ _ ok.ahead;
+    ahead = emptied_ok s f.ahead _ _ ok.ahead;
     failures = ok.failures;
   }
-  matched-by-ok (Current.Is found) m fix good =
-      record { due = done-due; sight = ok.sight; matcher = good; ahead = ok.ahead; failures = ok.failures }
+  matched_by_ok (Current.Is found) m fix good =
+      record { due = done_due; sight = ok.sight; matcher = good; ahead = ok.ahead; failures = ok.failures }
 
-  pub matched-ok : (m : Matcher) (fix : Fix) → matcherOk s m ≡ true → Holds s (matched f m fix)
+  pub matched_ok_lem : (m : Matcher) (fix : Fix) → matcher_ok s m ≡ true → Holds s (matched f m fix)
   unfolding matched
-  matched-ok m fix good = matched-by-ok m.current m fix good
+  matched_ok_lem m fix good = matched_by_ok m.current m fix good
 
-  pub published-ok : (a : Ahead) (fix : Fix) (found : Matched) (p : Prediction) → heldOk s found.tile.key ≡ true → p.len ≤ 501 → p.behind ≤ 11
+  pub published_ok : (a : Ahead) (fix : Fix) (found : Matched) (p : Prediction) → held_ok s found.tile.key ≡ true → p.len ≤ 501 → p.behind ≤ 11
       → Holds s (published f a fix found p)
-  unfolding published withMatch
-  published-ok a fix found p key ahead behind = record {
-    due = done-due;
+  unfolding published with_match
+  published_ok a fix found p key ahead behind = record {
+    due = done_due;
     sight = ok.sight;
     matcher = ok.matcher;
     ahead = both (leb p.len 501) _ (le-leb p.len 501 ahead) (both (leb p.behind 11) _ (le-leb p.behind 11 behind) key);
     failures = ok.failures;
   }
 
-  module _ (ready : s.phase ≡ Phase.Ready) (key : TileKey) (in-grid : inGrid s.header key ≡ true) where
-    asks-ok : mayAsk f.due s.cache.pages.count ≡ true → Holds s (withDue f (asking f.due key (f.due.reloads + 1)))
-    asks-ok may = record {
+  module _ (ready : s.phase ≡ Phase.Ready) (key : TileKey) (is_in_grid : in_grid s.header key ≡ true) where
+    asks_ok : may_ask f.due s.cache.pages.count ≡ true → Holds s (with_due f (asking f.due key (f.due.reloads + 1)))
+    asks_ok may = record {
       due =
-          let most = reloadLimit s.cache.pages.count in
+          let most = reload_limit s.cache.pages.count in
           both (leb (f.due.reloads + 1) most) _ (le-leb (f.due.reloads + 1) most (omega (arith, ltb-true f.due.reloads most may)))
-          (rw ready in-grid);
+          (rw ready is_in_grid);
       sight = ok.sight;
       matcher = ok.matcher;
       ahead = ok.ahead;
       failures = ok.failures;
     }
 
-    pub match-asks-ok : Holds s (matchAsks f s.cache.pages.count key)
-    match-asks-ok =
-        either-follower (mayAsk f.due s.cache.pages.count) s _ _ asks-ok
-        (record { due = done-due; sight = ok.sight; matcher = ok.matcher; ahead = ok.ahead; failures = ok.failures })
+    pub match_asks_ok : Holds s (match_asks f s.cache.pages.count key)
+    match_asks_ok =
+        either_follower (may_ask f.due s.cache.pages.count) s _ _ asks_ok
+        (record { due = done_due; sight = ok.sight; matcher = ok.matcher; ahead = ok.ahead; failures = ok.failures })
 
-    pub road-asks-ok : (fix : Fix) (found : Matched) → heldOk s found.tile.key ≡ true → Holds s (roadAsks f s.cache.pages.count fix found key)
-    road-asks-ok fix found held =
-        either-follower (mayAsk f.due s.cache.pages.count) s _ _ asks-ok
-        (published-ok f.ahead fix found noRoad held (omega arith) (omega arith))
+    pub road_asks_ok : (fix : Fix) (found : Matched) → held_ok s found.tile.key ≡ true → Holds s (road_asks f s.cache.pages.count fix found key)
+    road_asks_ok fix found held =
+        either_follower (may_ask f.due s.cache.pages.count) s _ _ asks_ok
+        (published_ok f.ahead fix found no_road held (omega arith) (omega arith))
 
 -- ---- a part of a tile
 
-pub needless-ok : (s : Shared) (f : Follower) → Holds s f → Holds s (failing (withDue f (needless f.due)) 0)
-needless-ok s f ok = record {
+pub needless_ok : (s : Shared) (f : Follower) → Holds s f → Holds s (failing (with_due f (needless f.due)) 0)
+needless_ok s f ok = record {
   due =
-      both (leb f.due.reloads (reloadLimit s.cache.pages.count)) true
-      (and_left (leb f.due.reloads (reloadLimit s.cache.pages.count)) _ ok.due) refl;
+      both (leb f.due.reloads (reload_limit s.cache.pages.count)) true
+      (and_left (leb f.due.reloads (reload_limit s.cache.pages.count)) _ ok.due) refl;
   sight = ok.sight;
   matcher = ok.matcher;
   ahead = ok.ahead;
@@ -282,46 +282,46 @@ needless-ok s f ok = record {
 }
 
 -- a pack that failed keeps what is needed and matched
-abbrev failedWith : Shared → Cache → Shared
-failedWith s c = record { phase = Phase.Failed; header = s.header; cache = c }
+abbrev failed_with : Shared → Cache → Shared
+failed_with s c = record { phase = Phase.Failed; header = s.header; cache = c }
 
-need-failed : (s : Shared) (c : Cache) (need : MaybeKey) → needOk (failedWith s c) need ≡ true
-need-failed s c MaybeKey.Nothing = refl
-need-failed s c (MaybeKey.Key key) = refl
+need_failed : (s : Shared) (c : Cache) (need : MaybeKey) → need_ok (failed_with s c) need ≡ true
+need_failed s c MaybeKey.Nothing = refl
+need_failed s c (MaybeKey.Key key) = refl
 
-matched-failed : (s : Shared) (c : Cache) (m : Current) → matchedOk (failedWith s c) m ≡ true
-matched-failed s c Current.Nothing = refl
-matched-failed s c (Current.Is m) = refl
+matched_failed : (s : Shared) (c : Cache) (m : Current) → matched_ok (failed_with s c) m ≡ true
+matched_failed s c Current.Nothing = refl
+matched_failed s c (Current.Is m) = refl
 
-pub failing-ok : (s : Shared) (f : Follower) (k : ℕ) → failuresOk s.phase k ≡ true → Holds s f → Holds s (failing f k)
-failing-ok s f k few ok =
+pub failing_ok : (s : Shared) (f : Follower) (k : ℕ) → failures_ok s.phase k ≡ true → Holds s f → Holds s (failing f k)
+failing_ok s f k few ok =
     record { due = ok.due; sight = ok.sight; matcher = ok.matcher; ahead = ok.ahead; failures = few }
 
-pub failed-holds : (s : Shared) (c : Cache) (f : Follower) (k : ℕ) → c.pages.count ≡ s.cache.pages.count → failuresOk Phase.Failed k ≡ true → Holds s f
-    → Holds (failedWith s c) (failing f k)
-failed-holds s c f k count few ok =
-    let behind : (leb f.ahead.behind_len 11 && matchedOk s f.ahead.matched) ≡ true = and_right (leb f.ahead.len 501) _ ok.ahead in
+pub failed_holds : (s : Shared) (c : Cache) (f : Follower) (k : ℕ) → c.pages.count ≡ s.cache.pages.count → failures_ok Phase.Failed k ≡ true → Holds s f
+    → Holds (failed_with s c) (failing f k)
+failed_holds s c f k count few ok =
+    let behind : (leb f.ahead.behind_len 11 && matched_ok s f.ahead.matched) ≡ true = and_right (leb f.ahead.len 501) _ ok.ahead in
     record {
       due =
-          both (leb f.due.reloads (reloadLimit c.pages.count)) _
-          (rw count (and_left (leb f.due.reloads (reloadLimit s.cache.pages.count)) _ ok.due))
-          (need-failed s c f.due.need);
+          both (leb f.due.reloads (reload_limit c.pages.count)) _
+          (rw count (and_left (leb f.due.reloads (reload_limit s.cache.pages.count)) _ ok.due))
+          (need_failed s c f.due.need);
       sight = ok.sight;
-      matcher = both (countsOk f.matcher) _ (and_left (countsOk f.matcher) _ ok.matcher) (matched-failed s c f.matcher.current);
+      matcher = both (counts_ok f.matcher) _ (and_left (counts_ok f.matcher) _ ok.matcher) (matched_failed s c f.matcher.current);
       ahead =
           both (leb f.ahead.len 501) _ (and_left (leb f.ahead.len 501) _ ok.ahead)
-          (both (leb f.ahead.behind_len 11) _ (and_left (leb f.ahead.behind_len 11) _ behind) (matched-failed s c f.ahead.matched));
+          (both (leb f.ahead.behind_len 11) _ (and_left (leb f.ahead.behind_len 11) _ behind) (matched_failed s c f.ahead.matched));
       failures = few;
     }
 
-pub failed-ok : (s : Shared) (f : Follower) (n : ℕ) → s.cache.pending ≡ Pending.Nothing → Ok s f n → Ok (failedWith s s.cache) (failing f 8) n
-unfolding sharedOk
-failed-ok s f n idle ok =
-    let shared : (arenaOk s.cache n && headerOk s) ≡ true = and_right (stateOk s.cache) _ ok.shared in
+pub failed_ok : (s : Shared) (f : Follower) (n : ℕ) → s.cache.pending ≡ Pending.Nothing → Ok s f n → Ok (failed_with s s.cache) (failing f 8) n
+unfolding shared_ok
+failed_ok s f n idle ok =
+    let shared : (arena_ok s.cache n && header_ok s) ≡ true = and_right (state_ok s.cache) _ ok.shared in
     record {
       shared =
-          both (stateOk s.cache) _ (and_left (stateOk s.cache) _ ok.shared)
-          (both (arenaOk s.cache n) true (and_left (arenaOk s.cache n) _ shared) refl);
-      holds = failed-holds s s.cache f 8 refl refl ok.holds;
-      pending = none-pending (failedWith s s.cache) f.due.need idle;
+          both (state_ok s.cache) _ (and_left (state_ok s.cache) _ ok.shared)
+          (both (arena_ok s.cache n) true (and_left (arena_ok s.cache n) _ shared) refl);
+      holds = failed_holds s s.cache f 8 refl refl ok.holds;
+      pending = none_pending (failed_with s s.cache) f.due.need idle;
     }

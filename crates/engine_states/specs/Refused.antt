@@ -29,5 +29,5 @@ pub record RefusedSame (e : Engine) (arena : List ℕ) : Type 0 where
   pub step : is_refused (Calls.step e arena).answer ≡ true → (Calls.step e arena).engine ≡ e
   pub deliver : (failure : ℕ) (bs : List ℕ) → is_refused (Calls.deliver e arena failure bs).answer ≡ true
       → ((Calls.deliver e arena failure bs).engine ≡ e) × ((Calls.deliver e arena failure bs).arena ≡ arena)
-  pub stepFrom : (pack : List ℕ) → is_refused (Calls.stepFrom e arena pack).answer ≡ true
-      → ((Calls.stepFrom e arena pack).engine ≡ e) × ((Calls.stepFrom e arena pack).arena ≡ arena)
+  pub step_from : (pack : List ℕ) → is_refused (Calls.step_from e arena pack).answer ≡ true
+      → ((Calls.step_from e arena pack).engine ≡ e) × ((Calls.step_from e arena pack).arena ≡ arena)

@@ -3,18 +3,18 @@ use mathlib.Core.Path.{◌≡◌, refl}
 use lib.Ieee.{binary32, of_bits, of_int}
 use Rattle.geo.specs.Flat.{whole}
 
-pub literal-0 : of_bits binary32 0 ≡ whole 0
+pub literal_0 : of_bits binary32 0 ≡ whole 0
 unfolding of_bits of_int
-literal-0 = refl
+literal_0 = refl
 
-pub literal-1 : of_bits binary32 1065353216 ≡ whole 1
+pub literal_1 : of_bits binary32 1065353216 ≡ whole 1
 unfolding of_bits of_int
-literal-1 = refl
+literal_1 = refl
 
-pub literal-180 : of_bits binary32 1127481344 ≡ whole 180
+pub literal_180 : of_bits binary32 1127481344 ≡ whole 180
 unfolding of_bits of_int
-literal-180 = refl
+literal_180 = refl
 
-pub literal-360 : of_bits binary32 1135869952 ≡ whole 360
+pub literal_360 : of_bits binary32 1135869952 ≡ whole 360
 unfolding of_bits of_int
-literal-360 = refl
+literal_360 = refl

@@ -11,22 +11,22 @@ use Rattle.geo.specs.declared.Figure.TheVariants as Figure
 use Rattle.geo.specs.declared.EdgePoint.{EdgePoint}
 use Rattle.geo.specs.declared.EdgePoint.TheVariants as EdgePoint
 
-abbrev pub numberOfPointRead : PointRead → ℕ
-numberOfPointRead (PointRead.At point) = 0
-numberOfPointRead (PointRead.Refused number) = number
+abbrev pub number_of_point_read : PointRead → ℕ
+number_of_point_read (PointRead.At point) = 0
+number_of_point_read (PointRead.Refused number) = number
 
-abbrev pub numberOfMetresRead : MetresRead → ℕ
-numberOfMetresRead (MetresRead.At metres) = 0
-numberOfMetresRead (MetresRead.Refused number) = number
+abbrev pub number_of_metres_read : MetresRead → ℕ
+number_of_metres_read (MetresRead.At metres) = 0
+number_of_metres_read (MetresRead.Refused number) = number
 
-abbrev pub numberOfProjectedRead : ProjectedRead → ℕ
-numberOfProjectedRead (ProjectedRead.At projected) = 0
-numberOfProjectedRead (ProjectedRead.Refused number) = number
+abbrev pub number_of_projected_read : ProjectedRead → ℕ
+number_of_projected_read (ProjectedRead.At projected) = 0
+number_of_projected_read (ProjectedRead.Refused number) = number
 
-abbrev pub numberOfFigure : Figure → ℕ
-numberOfFigure (Figure.Is figure) = 0
-numberOfFigure (Figure.Refused number) = number
+abbrev pub number_of_figure : Figure → ℕ
+number_of_figure (Figure.Is figure) = 0
+number_of_figure (Figure.Refused number) = number
 
-abbrev pub numberOfEdgePoint : EdgePoint → ℕ
-numberOfEdgePoint (EdgePoint.At point height) = 0
-numberOfEdgePoint (EdgePoint.Refused number) = number
+abbrev pub number_of_edge_point : EdgePoint → ℕ
+number_of_edge_point (EdgePoint.At point height) = 0
+number_of_edge_point (EdgePoint.Refused number) = number

@@ -33,14 +33,14 @@ pub fn point(header: Header, key: TileKey, node: Node) -> Point
 
 // A node's elevation in decimetres.
 pub fn z_dm(node: Node) -> i32
-    ensures { result ≡ Points.zDm node }
+    ensures { result ≡ Points.z_dm node }
 {
     (node.z as i32) * tile::Z_STEP_DM - tile::Z_OFFSET_DM
 }
 
 // Metres east and north of `origin`. The differences are taken in 64 bits, so that any two points have them.
 pub fn metres(p: Point, origin: Point, lon_um: u32) -> Metres
-    ensures { result ≡ Flat.metresOf p origin lon_um }
+    ensures { result ≡ Flat.metres_of p origin lon_um }
 {
     let east = num::convert::f32_of_i64((p.lon as i64) - (origin.lon as i64));
     let north = num::convert::f32_of_i64((p.lat as i64) - (origin.lat as i64));
@@ -58,7 +58,7 @@ pub fn length(east: f32, north: f32) -> f32
 
 // The bearing of a vector as a figure; one that is not finite counts as north.
 pub fn bearing(east: f32, north: f32) -> f32
-    ensures { result ≡ Flat.bearingOf east north }
+    ensures { result ≡ Flat.bearing_of east north }
 {
     match angle::bearing(east, north) {
         angle::Degrees::At(d) => d,
@@ -67,7 +67,7 @@ pub fn bearing(east: f32, north: f32) -> f32
 }
 
 pub fn is_heading(d: f32) -> bool
-    ensures { result ≡ Flat.isHeading d }
+    ensures { result ≡ Flat.is_heading d }
 {
     if d >= -360.0 {
         return d <= 360.0;
@@ -101,7 +101,7 @@ pub fn turn(from: f32, to: f32) -> f32
 }
 
 pub fn are_finite(m: Metres) -> bool
-    ensures { result ≡ Flat.areFinite m }
+    ensures { result ≡ Flat.are_finite m }
 {
     if num::order::is_finite(m.east) {
         return num::order::is_finite(m.north);
@@ -110,7 +110,7 @@ pub fn are_finite(m: Metres) -> bool
 }
 
 fn fraction(p: Metres, a: Metres, dx: f32, dy: f32) -> f32
-    ensures { result ≡ Flat.fractionOf p a dx dy }
+    ensures { result ≡ Flat.fraction_of p a dx dy }
 {
     let len2 = dx * dx + dy * dy;
     if len2 > 0.0 {
@@ -122,7 +122,7 @@ fn fraction(p: Metres, a: Metres, dx: f32, dy: f32) -> f32
 
 // Where `p` projects onto segment a-b.
 pub fn project(p: Metres, a: Metres, b: Metres) -> Projected
-    ensures { result ≡ Flat.projectOf p a b }
+    ensures { result ≡ Flat.project_of p a b }
 {
     let dx = b.east - a.east;
     let dy = b.north - a.north;

@@ -82,7 +82,7 @@ impl Point {
 
     // Metres east and north of `origin`, with `lon_um` micrometres per micro-degree of longitude: 8 for a point beyond 360 degrees.
     pub fn metres_from(self, origin: Point, lon_um: u32) -> MetresRead
-        ensures { result ≡ Flat.metresFrom self origin lon_um }
+        ensures { result ≡ Flat.metres_from self origin lon_um }
     {
         if !pack::grid::is_point(self.lat, self.lon) {
             return MetresRead::Refused(8);
@@ -145,7 +145,7 @@ pub fn project(p: Metres, a: Metres, b: Metres) -> ProjectedRead
 
 // The tile point at `index` of `edge`, as a global point and elevation: 12 for the header, 9 for a tile outside the grid, 7 for a point that is not there.
 pub fn edge_point(header: Header, bytes: &[u8], edge: Edge, index: usize) -> EdgePoint
-    ensures { result ≡ Points.edgePoint header bytes.now edge index }
+    ensures { result ≡ Points.edge_point header bytes.now edge index }
 {
     if !header.rules() {
         return EdgePoint::Refused(12);

@@ -12,7 +12,7 @@ units um over degrees = min degrees reach * um / (over + 1)
 
 -- from the left margin, which is 2,000 wide, by the micrometres of a micro-degree of longitude in the middle of the grid
 abbrev pub across : ℕ → ℕ → ℕ → ℕ
-across lonUm over east = 2000 + units lonUm over east
+across lon_um over east = 2000 + units lon_um over east
 
 -- from the grid's lower edge up, and no further than the page's upper edge; a micro-degree of latitude has 111,195 micrometres
 abbrev pub down : ℕ → ℕ → ℕ → ℕ

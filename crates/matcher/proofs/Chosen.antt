@@ -1,4 +1,4 @@
--- The candidate that the match goes to is one of those kept (`chosen-kept`): what holds of all of them holds of it. The idea: the cheapest
+-- The candidate that the match goes to is one of those kept (`chosen_kept`): what holds of all of them holds of it. The idea: the cheapest
 -- and the first on the matched edge are found below the count of those kept, and every choice is between such.
 use Prim.Native.Nat.{ℕ, ◌<◌}
 use mathlib.Core.Path.{◌≡◌, refl}
@@ -10,20 +10,20 @@ use Rattle.geo.specs.Flat.{whole}
 use Rattle.pack.proofs.Laws.{and_left}
 use Rattle.cache.specs.declared.victim.Found.{Found}
 use Rattle.cache.specs.declared.victim.Found.TheVariants as Found
-use Rattle.cache.proofs.SearchLaws.{lowest-at}
-use Rattle.matcher.specs.Keeping.{candidateIn}
+use Rattle.cache.proofs.SearchLaws.{lowest_at}
+use Rattle.matcher.specs.Keeping.{candidate_in}
 use Rattle.matcher.specs.declared.Candidate.{Candidate}
 use Rattle.matcher.specs.declared.Kept.{Kept}
 use Rattle.matcher.specs.declared.Matched.{Matched}
 use Rattle.matcher.specs.declared.Current.{Current}
 use Rattle.matcher.specs.declared.Current.TheVariants as Current
-use Rattle.num.proofs.FoldLaws.{up-keeps}
+use Rattle.num.proofs.FoldLaws.{up_keeps}
 use Rattle.matcher.specs.declared.Challenger.{Challenger}
 use Rattle.matcher.specs.declared.choose.Which.{Which}
 use Rattle.matcher.specs.declared.choose.Which.TheVariants as Which
 use Rattle.matcher.specs.declared.choose.Least.{Least}
 use Rattle.matcher.specs.declared.choose.Choice.{Choice}
-use Rattle.matcher.specs.Choose.{counts, isCheaper, lesserBy, lesser, leastStep, leastTo, leastOf, sameEdge, kept_at, beaten, contested, held, keptBy, chosenBy, pastBy, pastNode}
+use Rattle.matcher.specs.Choose.{counts, is_cheaper, lesser_by, lesser, least_step, least_to, least_of, same_edge, kept_at, beaten, contested, held, kept_by, chosen_by, past_by, past_node}
 
 -- ---- a number below the bound, or none
 
@@ -31,36 +31,36 @@ abbrev pub IsBelow : ℕ → Found → Type 0
 IsBelow n Found.Nothing = Unit
 IsBelow n (Found.At i) = i < n
 
-lesser-below : (n : ℕ) (at : Found) (l : Least) (i : ℕ) (c : Candidate) → IsBelow n l.at → i < n
-    → IsBelow n (lesserBy at l i c.cost).at
-lesser-below n Found.Nothing l i c was h = h
-lesser-below n (Found.At j) l i c was h = by (isCheaper c.cost l.cost)
+lesser_below : (n : ℕ) (at : Found) (l : Least) (i : ℕ) (c : Candidate) → IsBelow n l.at → i < n
+    → IsBelow n (lesser_by at l i c.cost).at
+lesser_below n Found.Nothing l i c was h = h
+lesser_below n (Found.At j) l i c was h = by (is_cheaper c.cost l.cost)
   where
     by : (t : Bool) → IsBelow n (cond t (record { at = Found.At i; cost = c.cost }) l).at
     by true = h
     by false = was
 
-step-below : (l : Least) (n i : ℕ) (c : Candidate) (which : Which) → IsBelow n l.at → IsBelow n (leastStep l n i c which).at
-step-below l n i c which was = by (ltb i n && counts which c) refl
+step_below : (l : Least) (n i : ℕ) (c : Candidate) (which : Which) → IsBelow n l.at → IsBelow n (least_step l n i c which).at
+step_below l n i c which was = by (ltb i n && counts which c) refl
   where
     by : (t : Bool) → (ltb i n && counts which c) ≡ t → IsBelow n (cond t (lesser l i c.cost) l).at
-    by true e = lesser-below n l.at l i c was (ltb-true i n (and_left (ltb i n) (counts which c) e))
+    by true e = lesser_below n l.at l i c was (ltb-true i n (and_left (ltb i n) (counts which c) e))
     by false e = was
 
-pub least-below : (k : Kept) (which : Which) → IsBelow k.len (leastOf k which)
-unfolding leastTo
-least-below k which =
-    up-keeps (λ (l : Least) (i : ℕ). leastStep l k.len i (candidateIn k i) which) (record { at = Found.Nothing; cost = whole 0 })
+pub least_below : (k : Kept) (which : Which) → IsBelow k.len (least_of k which)
+unfolding least_to
+least_below k which =
+    up_keeps (λ (l : Least) (i : ℕ). least_step l k.len i (candidate_in k i) which) (record { at = Found.Nothing; cost = whole 0 })
     (λ (l : Least). IsBelow k.len l.at) 8 tt
-    (λ (i : ℕ) (h : i < 8) (l : Least). step-below l k.len i (candidateIn k i) which)
+    (λ (i : ℕ) (h : i < 8) (l : Least). step_below l k.len i (candidate_in k i) which)
 
-pub kept-below : (k : Kept) (m : Matched) → IsBelow k.len (kept_at k m)
+pub kept_below : (k : Kept) (m : Matched) → IsBelow k.len (kept_at k m)
 unfolding kept_at
-kept-below k m = by (kept_at k m) refl
+kept_below k m = by (kept_at k m) refl
   where
     by : (x : Found) → kept_at k m ≡ x → IsBelow k.len x
     by Found.Nothing e = tt
-    by (Found.At i) e = (lowest-at (λ (i : ℕ). ltb i 8 && sameEdge (candidateIn k i) m) k.len i e).0
+    by (Found.At i) e = (lowest_at (λ (i : ℕ). ltb i 8 && same_edge (candidate_in k i) m) k.len i e).0
 
 -- ---- the choices
 
@@ -72,31 +72,31 @@ module _ (P : Candidate → Type 0) where
   held_of : (top kept : Candidate) (m : Matched) (challenger : Challenger) → P top → P kept → P (held top kept m challenger).chosen
   unfolding held contested
   held_of top kept m challenger p q =
-      cond_of (top.joined && not (sameEdge top m)) _ _ p
-      (cond_of (sameEdge top m || le kept.cost (add binary32 top.cost (whole 1))) _ _ q (cond_of (ltb (beaten challenger top) 2) _ _ q p))
+      cond_of (top.joined && not (same_edge top m)) _ _ p
+      (cond_of (same_edge top m || le kept.cost (add binary32 top.cost (whole 1))) _ _ q (cond_of (ltb (beaten challenger top) 2) _ _ q p))
 
-  module _ (k : Kept) (all : (i : ℕ) → i < k.len → P (candidateIn k i)) where
+  module _ (k : Kept) (all : (i : ℕ) → i < k.len → P (candidate_in k i)) where
     kept_of : (x : Found) (top : Candidate) (m : Matched) (challenger : Challenger) → IsBelow k.len x → P top
-        → P (keptBy x k top m challenger).chosen
+        → P (kept_by x k top m challenger).chosen
     kept_of Found.Nothing top m challenger h p = p
-    kept_of (Found.At i) top m challenger h p = held_of top (candidateIn k i) m challenger p (all i h)
+    kept_of (Found.At i) top m challenger h p = held_of top (candidate_in k i) m challenger p (all i h)
 
-    chosen_of : (current : Current) (top : Candidate) (challenger : Challenger) → P top → P (chosenBy current k top challenger).chosen
+    chosen_of : (current : Current) (top : Candidate) (challenger : Challenger) → P top → P (chosen_by current k top challenger).chosen
     chosen_of Current.Nothing top challenger p = p
-    chosen_of (Current.Is m) top challenger p = kept_of (kept_at k m) top m challenger (kept-below k m) p
+    chosen_of (Current.Is m) top challenger p = kept_of (kept_at k m) top m challenger (kept_below k m) p
 
-    past_of : (x : Found) (choice : Choice) → IsBelow k.len x → P choice.chosen → P (pastBy x choice k).chosen
+    past_of : (x : Found) (choice : Choice) → IsBelow k.len x → P choice.chosen → P (past_by x choice k).chosen
     past_of Found.Nothing choice h p = p
     past_of (Found.At i) choice h p = all i h
 
-    past-node-of : (choice : Choice) → P choice.chosen → P (pastNode choice k).chosen
-    unfolding pastNode
-    past-node-of choice p =
+    past_node_of : (choice : Choice) → P choice.chosen → P (past_node choice k).chosen
+    unfolding past_node
+    past_node_of choice p =
         cond_of choice.chosen.at_node _ _
-        (past_of (leastOf k (Which.Past (add binary32 choice.chosen.cost (whole 2)))) choice (least-below k _) p) p
+        (past_of (least_of k (Which.Past (add binary32 choice.chosen.cost (whole 2)))) choice (least_below k _) p) p
 
     -- from the cheapest, number i
-    pub chosen-kept : (current : Current) (challenger : Challenger) (i : ℕ) → i < k.len
-        → P (pastNode (chosenBy current k (candidateIn k i) challenger) k).chosen
-    chosen-kept current challenger i h =
-        past-node-of (chosenBy current k (candidateIn k i) challenger) (chosen_of current (candidateIn k i) challenger (all i h))
+    pub chosen_kept : (current : Current) (challenger : Challenger) (i : ℕ) → i < k.len
+        → P (past_node (chosen_by current k (candidate_in k i) challenger) k).chosen
+    chosen_kept current challenger i h =
+        past_node_of (chosen_by current k (candidate_in k i) challenger) (chosen_of current (candidate_in k i) challenger (all i h))

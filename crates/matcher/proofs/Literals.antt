@@ -5,13 +5,13 @@ use mathlib.Core.Bool.{false}
 use lib.Ieee.{binary32, inf, of_bits, of_int, div}
 use Rattle.geo.specs.Flat.{whole}
 
-pub literal-2 : of_bits binary32 1073741824 ≡ whole 2
+pub literal_2 : of_bits binary32 1073741824 ≡ whole 2
 unfolding of_bits of_int
-literal-2 = refl
+literal_2 = refl
 
-pub literal-100 : of_bits binary32 1120403456 ≡ whole 100
+pub literal_100 : of_bits binary32 1120403456 ≡ whole 100
 unfolding of_bits of_int
-literal-100 = refl
+literal_100 = refl
 
 -- 1 / 0
 pub infinite : div binary32 (of_bits binary32 1065353216) (of_bits binary32 0) ≡ inf false

@@ -3,8 +3,8 @@
 use mathlib.Core.Path.{◌≡◌, refl}
 use lib.IntN.{pos}
 use lib.Ieee.{binary32, span, climb, size, odd, units, round, mul, div, of_int, to_signed, of_fields, of_bits}
-use Rattle.geo.specs.Flat.{latUm, millionth, whole}
+use Rattle.geo.specs.Flat.{lat_um, millionth, whole}
 
-pub reach-is : to_signed 31 (div binary32 (whole 40) (mul binary32 latUm millionth)) ≡ pos 359
+pub reach_is : to_signed 31 (div binary32 (whole 40) (mul binary32 lat_um millionth)) ≡ pos 359
 unfolding span climb size odd units round mul div of_int to_signed of_fields of_bits
-reach-is = refl
+reach_is = refl

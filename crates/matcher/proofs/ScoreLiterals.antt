@@ -3,30 +3,30 @@ use mathlib.Core.Path.{◌≡◌, refl}
 use lib.Ieee.{binary32, of_bits, of_int}
 use Rattle.geo.specs.Flat.{whole}
 
-pub literal-4 : of_bits binary32 1082130432 ≡ whole 4
+pub literal_4 : of_bits binary32 1082130432 ≡ whole 4
 unfolding of_bits of_int
-literal-4 = refl
+literal_4 = refl
 
-pub literal-15 : of_bits binary32 1097859072 ≡ whole 15
+pub literal_15 : of_bits binary32 1097859072 ≡ whole 15
 unfolding of_bits of_int
-literal-15 = refl
+literal_15 = refl
 
-pub literal-35 : of_bits binary32 1108082688 ≡ whole 35
+pub literal_35 : of_bits binary32 1108082688 ≡ whole 35
 unfolding of_bits of_int
-literal-35 = refl
+literal_35 = refl
 
-pub literal-40 : of_bits binary32 1109393408 ≡ whole 40
+pub literal_40 : of_bits binary32 1109393408 ≡ whole 40
 unfolding of_bits of_int
-literal-40 = refl
+literal_40 = refl
 
-pub literal-60 : of_bits binary32 1114636288 ≡ whole 60
+pub literal_60 : of_bits binary32 1114636288 ≡ whole 60
 unfolding of_bits of_int
-literal-60 = refl
+literal_60 = refl
 
-pub literal-90 : of_bits binary32 1119092736 ≡ whole 90
+pub literal_90 : of_bits binary32 1119092736 ≡ whole 90
 unfolding of_bits of_int
-literal-90 = refl
+literal_90 = refl
 
-pub literal-135 : of_bits binary32 1124532224 ≡ whole 135
+pub literal_135 : of_bits binary32 1124532224 ≡ whole 135
 unfolding of_bits of_int
-literal-135 = refl
+literal_135 = refl

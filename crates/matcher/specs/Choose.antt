@@ -2,14 +2,14 @@
 use Rattle.std.specs.Prelude.{ℕ, ◌+◌, Bool, true, ◌&&◌, ◌||◌, not, cond, eqb, ltb, Float}
 use Rattle.std.specs.Float.{binary32}
 use Rattle.std.specs.Float.Ieee.{add, le}
-use Rattle.num.specs.Order.{totalCmp}
+use Rattle.num.specs.Order.{total_cmp}
 use Rattle.geo.specs.Flat.{whole}
 use Rattle.cache.specs.declared.victim.Found.{Found}
 use Rattle.cache.specs.declared.victim.Found.TheVariants as Found
 use Rattle.cache.specs.Search.{lowest}
 use Rattle.num.specs.Fold.{up_to}
-use Rattle.matcher.specs.Keeping.{candidateIn, isLess}
-use Rattle.matcher.specs.Score.{sameId, isOn}
+use Rattle.matcher.specs.Keeping.{candidate_in, is_less}
+use Rattle.matcher.specs.Score.{same_id, is_on}
 use Rattle.matcher.specs.declared.Candidate.{Candidate}
 use Rattle.matcher.specs.declared.Kept.{Kept}
 use Rattle.matcher.specs.declared.Matched.{Matched}
@@ -30,80 +30,80 @@ counts Which.All c = true
 counts (Which.Past limit) c = c.joined && (not c.at_node && le c.cost limit)
 
 -- by `total_cmp`
-abbrev pub isCheaper : Float → Float → Bool
-isCheaper a b = isLess (totalCmp a b)
+abbrev pub is_cheaper : Float → Float → Bool
+is_cheaper a b = is_less (total_cmp a b)
 
-abbrev pub lesserBy : Found → Least → ℕ → Float → Least
-lesserBy Found.Nothing l i cost = record { at = Found.At i; cost = cost }
-lesserBy (Found.At j) l i cost = cond (isCheaper cost l.cost) (record { at = Found.At i; cost = cost }) l
+abbrev pub lesser_by : Found → Least → ℕ → Float → Least
+lesser_by Found.Nothing l i cost = record { at = Found.At i; cost = cost }
+lesser_by (Found.At j) l i cost = cond (is_cheaper cost l.cost) (record { at = Found.At i; cost = cost }) l
 
 -- candidate i in place of the cheapest so far, where it is cheaper: of equals the first
 abbrev pub lesser : Least → ℕ → Float → Least
-lesser l i cost = lesserBy l.at l i cost
+lesser l i cost = lesser_by l.at l i cost
 
 -- of the n that are kept
-abbrev pub leastStep : Least → ℕ → ℕ → Candidate → Which → Least
-leastStep l n i c which = cond (ltb i n && counts which c) (lesser l i c.cost) l
+abbrev pub least_step : Least → ℕ → ℕ → Candidate → Which → Least
+least_step l n i c which = cond (ltb i n && counts which c) (lesser l i c.cost) l
 
-unfoldable pub leastTo : Kept → Which → ℕ → Least
-leastTo k which n =
-    up_to (λ (l : Least) (i : ℕ). leastStep l k.len i (candidateIn k i) which) (record { at = Found.Nothing; cost = whole 0 }) n
+unfoldable pub least_to : Kept → Which → ℕ → Least
+least_to k which n =
+    up_to (λ (l : Least) (i : ℕ). least_step l k.len i (candidate_in k i) which) (record { at = Found.Nothing; cost = whole 0 }) n
 
-abbrev pub leastOf : Kept → Which → Found
-leastOf k which = (leastTo k which 8).at
+abbrev pub least_of : Kept → Which → Found
+least_of k which = (least_to k which 8).at
 
 -- ---- the edge already matched
 
 -- the candidate is the match's edge
-abbrev pub sameEdge : Candidate → Matched → Bool
-sameEdge c m = isOn c.found m.tile m.edge
+abbrev pub same_edge : Candidate → Matched → Bool
+same_edge c m = is_on c.found m.tile m.edge
 
 -- the first candidate on it
 unfoldable pub kept_at : Kept → Matched → Found
-kept_at k m = lowest (λ (i : ℕ). ltb i 8 && sameEdge (candidateIn k i) m) k.len
+kept_at k m = lowest (λ (i : ℕ). ltb i 8 && same_edge (candidate_in k i) m) k.len
 
 -- ---- hysteresis
 
-abbrev pub beatenBy : Bool → ℕ → ℕ
-beatenBy again count = cond again (cond (ltb count 255) (count + 1) 255) 1
+abbrev pub beaten_by : Bool → ℕ → ℕ
+beaten_by again count = cond again (cond (ltb count 255) (count + 1) 255) 1
 
 -- on how many fixes in a row the candidate has beaten the match, with this one
 abbrev pub beaten : Challenger → Candidate → ℕ
 beaten Challenger.Nothing top = 1
-beaten (Challenger.Is tile edge count) top = beatenBy (sameId tile top.found.tile && eqb edge top.found.edge) count
+beaten (Challenger.Is tile edge count) top = beaten_by (same_id tile top.found.tile && eqb edge top.found.edge) count
 
-abbrev pub contestedBy : ℕ → Candidate → Candidate → Choice
-contestedBy n top kept =
+abbrev pub contested_by : ℕ → Candidate → Candidate → Choice
+contested_by n top kept =
     cond (ltb n 2) (record { chosen = kept; challenger = Challenger.Is top.found.tile top.found.edge n })
     (record { chosen = top; challenger = Challenger.Nothing })
 
 -- another edge is clearly cheaper: SWITCH_FIXES is 2
 unfoldable pub contested : Candidate → Candidate → Challenger → Choice
-contested top kept challenger = contestedBy (beaten challenger top) top kept
+contested top kept challenger = contested_by (beaten challenger top) top kept
 
 -- the current edge is in reach: an edge joined to it takes over at once; it stays unless the cheapest beats it by more than SWITCH, 1
 unfoldable pub held : Candidate → Candidate → Matched → Challenger → Choice
 held top kept m challenger =
-    cond (top.joined && not (sameEdge top m)) (record { chosen = top; challenger = Challenger.Nothing })
-    (cond (sameEdge top m || le kept.cost (add binary32 top.cost (whole 1))) (record { chosen = kept; challenger = Challenger.Nothing })
+    cond (top.joined && not (same_edge top m)) (record { chosen = top; challenger = Challenger.Nothing })
+    (cond (same_edge top m || le kept.cost (add binary32 top.cost (whole 1))) (record { chosen = kept; challenger = Challenger.Nothing })
     (contested top kept challenger))
 
-abbrev pub keptBy : Found → Kept → Candidate → Matched → Challenger → Choice
-keptBy Found.Nothing k top m challenger = record { chosen = top; challenger = challenger }
-keptBy (Found.At i) k top m challenger = held top (candidateIn k i) m challenger
+abbrev pub kept_by : Found → Kept → Candidate → Matched → Challenger → Choice
+kept_by Found.Nothing k top m challenger = record { chosen = top; challenger = challenger }
+kept_by (Found.At i) k top m challenger = held top (candidate_in k i) m challenger
 
 -- the cheapest, or the edge already matched
-abbrev pub chosenBy : Current → Kept → Candidate → Challenger → Choice
-chosenBy Current.Nothing k top challenger = record { chosen = top; challenger = challenger }
-chosenBy (Current.Is m) k top challenger = keptBy (kept_at k m) k top m challenger
+abbrev pub chosen_by : Current → Kept → Candidate → Challenger → Choice
+chosen_by Current.Nothing k top challenger = record { chosen = top; challenger = challenger }
+chosen_by (Current.Is m) k top challenger = kept_by (kept_at k m) k top m challenger
 
 -- ---- past the end of the edge
 
-abbrev pub pastBy : Found → Choice → Kept → Choice
-pastBy Found.Nothing choice k = choice
-pastBy (Found.At i) choice k = record { chosen = candidateIn k i; challenger = Challenger.Nothing }
+abbrev pub past_by : Found → Choice → Kept → Choice
+past_by Found.Nothing choice k = choice
+past_by (Found.At i) choice k = record { chosen = candidate_in k i; challenger = Challenger.Nothing }
 
 -- the road goes on along an edge joined to it, if the rider is beside one and riding along it: PAST_NODE is 2
-unfoldable pub pastNode : Choice → Kept → Choice
-pastNode choice k =
-    cond choice.chosen.at_node (pastBy (leastOf k (Which.Past (add binary32 choice.chosen.cost (whole 2)))) choice k) choice
+unfoldable pub past_node : Choice → Kept → Choice
+past_node choice k =
+    cond choice.chosen.at_node (past_by (least_of k (Which.Past (add binary32 choice.chosen.cost (whole 2)))) choice k) choice

@@ -1,5 +1,5 @@
 -- A match over a lookup: `matcher.rs`, `update`. The tiles around the fix are looked up in order; each that is found is searched; one that is
--- not loaded ends the match with its key, and one that no longer passes with 12. `updateOver` knows no cache: the direct engine shares it.
+-- not loaded ends the match with its key, and one that no longer passes with 12. `update_over` knows no cache: the direct engine shares it.
 -- `updated` is it at the cache's look, with what the lookups did to clock and ages.
 use Rattle.std.specs.Prelude.{ℕ, ◌+◌, List, [], ◌∷◌, ◌++◌, get_or}
 use Rattle.pack.specs.declared.TileKey.{TileKey}
@@ -14,9 +14,9 @@ use Rattle.cache.specs.declared.Lookup.TheVariants as Lookup
 use Rattle.cache.specs.Ages.{bytes_of}
 use Rattle.cache.specs.Lookups.{landed, checked}
 use Rattle.cache.specs.Direct.{Look, ready, missing, absent, stale, look, looked}
-use Rattle.cache.specs.Uses.{usesOf, usedAt}
+use Rattle.cache.specs.Uses.{uses_of, used_at}
 use Rattle.num.specs.Fold.{up_to}
-use Rattle.matcher.specs.Keeping.{noneKept}
+use Rattle.matcher.specs.Keeping.{none_kept}
 use Rattle.matcher.specs.Tile.{search}
 use Rattle.matcher.specs.declared.Kept.{Kept}
 use Rattle.matcher.specs.declared.Query.{Query}
@@ -34,7 +34,7 @@ use Rattle.matcher.specs.declared.Searched.{Searched}
 use Rattle.matcher.specs.declared.Updated.{Updated}
 use Rattle.matcher.specs.declared.gather.Ending.{Ending}
 use Rattle.matcher.specs.declared.gather.Ending.TheVariants as Ending
-use Rattle.matcher.specs.Near.{key_at, nearOf}
+use Rattle.matcher.specs.Near.{key_at, near_of}
 use Rattle.matcher.specs.Settle.{matched}
 
 -- ---- over a lookup
@@ -45,28 +45,28 @@ pub record Run : Type 0 where
   pub found : List TileKey
   pub end : Ending
 
-abbrev pub lookStep : Look → Run → Query → TileKey → Run
-lookStep (ready bs) r q key = record { kept = search r.kept q bs; found = r.found ++ (key ∷ []); end = Ending.All }
-lookStep missing r q key = r
-lookStep absent r q key = record { kept = r.kept; found = r.found; end = Ending.Need key }
-lookStep stale r q key = record { kept = r.kept; found = r.found; end = Ending.Stale }
+abbrev pub look_step : Look → Run → Query → TileKey → Run
+look_step (ready bs) r q key = record { kept = search r.kept q bs; found = r.found ++ (key ∷ []); end = Ending.All }
+look_step missing r q key = r
+look_step absent r q key = record { kept = r.kept; found = r.found; end = Ending.Need key }
+look_step stale r q key = record { kept = r.kept; found = r.found; end = Ending.Stale }
 
-abbrev pub keyStep : MaybeKey → (TileKey → Look) → Run → Query → Run
-keyStep MaybeKey.Nothing at r q = r
-keyStep (MaybeKey.Key key) at r q = lookStep (at key) r q key
+abbrev pub key_step : MaybeKey → (TileKey → Look) → Run → Query → Run
+key_step MaybeKey.Nothing at r q = r
+key_step (MaybeKey.Key key) at r q = look_step (at key) r q key
 
 -- nothing more once they ended
-abbrev pub runStep : Ending → MaybeKey → (TileKey → Look) → Run → Query → Run
-runStep Ending.All m at r q = keyStep m at r q
-runStep (Ending.Need key) m at r q = r
-runStep Ending.Stale m at r q = r
+abbrev pub run_step : Ending → MaybeKey → (TileKey → Look) → Run → Query → Run
+run_step Ending.All m at r q = key_step m at r q
+run_step (Ending.Need key) m at r q = r
+run_step Ending.Stale m at r q = r
 
 abbrev pub no_run : Run
-no_run = record { kept = noneKept; found = []; end = Ending.All }
+no_run = record { kept = none_kept; found = []; end = Ending.All }
 
 -- the first n tiles around the fix
-unfoldable pub runTo : (TileKey → Look) → NearKeys → Query → ℕ → Run
-runTo at near q n = up_to (λ (r : Run) (i : ℕ). runStep r.end (key_at near i) at r q) no_run n
+unfoldable pub run_to : (TileKey → Look) → NearKeys → Query → ℕ → Run
+run_to at near q n = up_to (λ (r : Run) (i : ℕ). run_step r.end (key_at near i) at r q) no_run n
 
 abbrev pub outcome : Current → Outcome
 outcome Current.Nothing = Outcome.Nothing
@@ -77,34 +77,34 @@ pub record Matching : Type 0 where
   pub answer : Outcome
   pub matcher : Matcher
 
-abbrev pub matchingBy : Ending → Kept → Matcher → Heading → Matching
-matchingBy Ending.All k m heading = let next = matched m k heading in record { answer = outcome next.current; matcher = next }
-matchingBy (Ending.Need key) k m heading = record { answer = Outcome.Need key; matcher = m }
-matchingBy Ending.Stale k m heading = record { answer = Outcome.Refused 12; matcher = m }
+abbrev pub matching_by : Ending → Kept → Matcher → Heading → Matching
+matching_by Ending.All k m heading = let next = matched m k heading in record { answer = outcome next.current; matcher = next }
+matching_by (Ending.Need key) k m heading = record { answer = Outcome.Need key; matcher = m }
+matching_by Ending.Stale k m heading = record { answer = Outcome.Refused 12; matcher = m }
 
-abbrev pub queryOf : Matcher → Header → Point → Heading → Query
-queryOf m h fix heading = record { header = h; fix = fix; heading = heading; current = m.current }
+abbrev pub query_of : Matcher → Header → Point → Heading → Query
+query_of m h fix heading = record { header = h; fix = fix; heading = heading; current = m.current }
 
-abbrev pub runOver : (TileKey → Look) → Matcher → Header → Point → Heading → Run
-runOver at m h fix heading = runTo at (nearOf h fix) (queryOf m h fix heading) 4
+abbrev pub run_over : (TileKey → Look) → Matcher → Header → Point → Heading → Run
+run_over at m h fix heading = run_to at (near_of h fix) (query_of m h fix heading) 4
 
-unfoldable pub updateOver : (TileKey → Look) → Matcher → Header → Point → Heading → Matching
-updateOver at m h fix heading = let r = runOver at m h fix heading in matchingBy r.end r.kept m heading
+unfoldable pub update_over : (TileKey → Look) → Matcher → Header → Point → Heading → Matching
+update_over at m h fix heading = let r = run_over at m h fix heading in matching_by r.end r.kept m heading
 
 -- ---- at the cache's look
 
 -- on the late 12 the state is the one given
-abbrev pub cacheAfter : Ending → Cache → Cache → Cache
-cacheAfter Ending.All c d = d
-cacheAfter (Ending.Need key) c d = d
-cacheAfter Ending.Stale c d = c
+abbrev pub cache_after : Ending → Cache → Cache → Cache
+cache_after Ending.All c d = d
+cache_after (Ending.Need key) c d = d
+cache_after Ending.Stale c d = c
 
 unfoldable pub updated : Matcher → Cache → List ℕ → Header → Point → Heading → Updated
 updated m c arena h fix heading =
     let at = look c arena h.tile in
-    let r = runOver at m h fix heading in
-    let u = updateOver at m h fix heading in
-    record { answer = u.answer; matcher = u.matcher; cache = cacheAfter r.end c (looked c arena h.tile r.found) }
+    let r = run_over at m h fix heading in
+    let u = update_over at m h fix heading in
+    record { answer = u.answer; matcher = u.matcher; cache = cache_after r.end c (looked c arena h.tile r.found) }
 
 -- ---- the code's steps: this restates private code. A match is made from what the lookups of the tiles around the fix land on, which a caller that
 -- keeps the cache in a form of its own has found; what it does to clock and ages follows from how many of them it went through
@@ -123,66 +123,66 @@ unfoldable pub landings : Cache → NearKeys → Landings
 landings c near = record { v = land (key_at near 0) c ∷ land (key_at near 1) c ∷ land (key_at near 2) c ∷ land (key_at near 3) c ∷ [] }
 
 -- past the fourth stands the record of first variants, as the checker reads an array; no step asks there
-abbrev pub landedAt : Landings → ℕ → Lookup
-landedAt at i = (get_or at.v i (record { lookup = Lookup.Ready 0 0 })).lookup
+abbrev pub landed_at : Landings → ℕ → Lookup
+landed_at at i = (get_or at.v i (record { lookup = Lookup.Ready 0 0 })).lookup
 
 -- what was gathered while no lookup ended the match
-abbrev pub soFar : Kept → ℕ → Gathered
-soFar kept tiles = record { kept = kept; tiles = tiles; end = Ending.All }
+abbrev pub so_far : Kept → ℕ → Gathered
+so_far kept tiles = record { kept = kept; tiles = tiles; end = Ending.All }
 
-abbrev pub gatheredWith : Gathered → Lookup → List ℕ → Query → TileKey → Gathered
-gatheredWith g (Lookup.Ready first len) arena q key = soFar (search g.kept q (bytes_of arena first len)) (g.tiles + 1)
-gatheredWith g Lookup.Missing arena q key = soFar g.kept (g.tiles + 1)
-gatheredWith g Lookup.Absent arena q key = record { kept = g.kept; tiles = g.tiles; end = Ending.Need key }
-gatheredWith g (Lookup.Refused number) arena q key = record { kept = g.kept; tiles = g.tiles; end = Ending.Stale }
+abbrev pub gathered_with : Gathered → Lookup → List ℕ → Query → TileKey → Gathered
+gathered_with g (Lookup.Ready first len) arena q key = so_far (search g.kept q (bytes_of arena first len)) (g.tiles + 1)
+gathered_with g Lookup.Missing arena q key = so_far g.kept (g.tiles + 1)
+gathered_with g Lookup.Absent arena q key = record { kept = g.kept; tiles = g.tiles; end = Ending.Need key }
+gathered_with g (Lookup.Refused number) arena q key = record { kept = g.kept; tiles = g.tiles; end = Ending.Stale }
 
-abbrev pub gatherKey : MaybeKey → Lookup → Gathered → List ℕ → Query → Gathered
-gatherKey MaybeKey.Nothing l g arena q = soFar g.kept (g.tiles + 1)
-gatherKey (MaybeKey.Key key) l g arena q = gatheredWith g (checked l arena q.header.tile key) arena q key
+abbrev pub gather_key : MaybeKey → Lookup → Gathered → List ℕ → Query → Gathered
+gather_key MaybeKey.Nothing l g arena q = so_far g.kept (g.tiles + 1)
+gather_key (MaybeKey.Key key) l g arena q = gathered_with g (checked l arena q.header.tile key) arena q key
 
 -- nothing more once they ended
-abbrev pub gatherStep : Ending → MaybeKey → Lookup → Gathered → List ℕ → Query → Gathered
-gatherStep Ending.All k l g arena q = gatherKey k l g arena q
-gatherStep (Ending.Need key) k l g arena q = g
-gatherStep Ending.Stale k l g arena q = g
+abbrev pub gather_step : Ending → MaybeKey → Lookup → Gathered → List ℕ → Query → Gathered
+gather_step Ending.All k l g arena q = gather_key k l g arena q
+gather_step (Ending.Need key) k l g arena q = g
+gather_step Ending.Stale k l g arena q = g
 
 -- the first n tiles around the fix
-unfoldable pub gatheredTo : Landings → List ℕ → Query → NearKeys → ℕ → Gathered
-gatheredTo at arena q near n =
-    up_to (λ (g : Gathered) (i : ℕ). gatherStep g.end (key_at near i) (landedAt at i) g arena q) (soFar noneKept 0) n
+unfoldable pub gathered_to : Landings → List ℕ → Query → NearKeys → ℕ → Gathered
+gathered_to at arena q near n =
+    up_to (λ (g : Gathered) (i : ℕ). gather_step g.end (key_at near i) (landed_at at i) g arena q) (so_far none_kept 0) n
 
 unfoldable pub finished : Matcher → Kept → Heading → Searched
 finished m kept heading = let next = matched m kept heading in record { answer = outcome next.current; matcher = next; tiles = 4 }
 
 -- of the tiles gone through those that were found are used: all four; those before the one that is not loaded; none on the late 12
-abbrev pub endedBy : Ending → Matcher → Heading → Gathered → Searched
-endedBy Ending.All m heading g = finished m g.kept heading
-endedBy (Ending.Need key) m heading g = record { answer = Outcome.Need key; matcher = m; tiles = g.tiles }
-endedBy Ending.Stale m heading g = record { answer = Outcome.Refused 12; matcher = m; tiles = 0 }
+abbrev pub ended_by : Ending → Matcher → Heading → Gathered → Searched
+ended_by Ending.All m heading g = finished m g.kept heading
+ended_by (Ending.Need key) m heading g = record { answer = Outcome.Need key; matcher = m; tiles = g.tiles }
+ended_by Ending.Stale m heading g = record { answer = Outcome.Refused 12; matcher = m; tiles = 0 }
 
 -- what a match makes of what was gathered
 abbrev pub ended : Matcher → Heading → Gathered → Searched
-ended m heading g = endedBy g.end m heading g
+ended m heading g = ended_by g.end m heading g
 
 unfoldable pub searched : Matcher → Landings → List ℕ → Header → Point → Heading → NearKeys → Searched
-searched m at arena h fix heading near = ended m heading (gatheredTo at arena (queryOf m h fix heading) near 4)
+searched m at arena h fix heading near = ended m heading (gathered_to at arena (query_of m h fix heading) near 4)
 
 -- ---- clock and ages
 
 -- the run that a lookup landed on is the most recently used
-abbrev pub usedBy : Lookup → Aging → Aging
-usedBy (Lookup.Ready first len) a = usedAt a first
-usedBy Lookup.Missing a = a
-usedBy Lookup.Absent a = a
-usedBy (Lookup.Refused number) a = a
+abbrev pub used_by : Lookup → Aging → Aging
+used_by (Lookup.Ready first len) a = used_at a first
+used_by Lookup.Missing a = a
+used_by Lookup.Absent a = a
+used_by (Lookup.Refused number) a = a
 
 -- once the first n tiles were gone through; `from` has clock and ages before the first
-unfoldable pub usesAfter : Landings → Aging → ℕ → Aging
-usesAfter at from n = up_to (λ (a : Aging) (i : ℕ). usedBy (landedAt at i) a) from n
+unfoldable pub uses_after : Landings → Aging → ℕ → Aging
+uses_after at from n = up_to (λ (a : Aging) (i : ℕ). used_by (landed_at at i) a) from n
 
 -- a match with clock and ages in place of the cache
 abbrev pub made_of : Updated → Made
-made_of u = record { answer = u.answer; matcher = u.matcher; uses = usesOf u.cache }
+made_of u = record { answer = u.answer; matcher = u.matcher; uses = uses_of u.cache }
 
-abbrev pub madeBy : Landings → Aging → Searched → Made
-madeBy at from s = record { answer = s.answer; matcher = s.matcher; uses = usesAfter at from s.tiles }
+abbrev pub made_by : Landings → Aging → Searched → Made
+made_by at from s = record { answer = s.answer; matcher = s.matcher; uses = uses_after at from s.tiles }

@@ -2,7 +2,7 @@
 -- dropped"; the worst is the last of the dearest by `total_cmp`.
 use Rattle.std.specs.Prelude.{ℕ, ◌+◌, Bool, true, false, cond, ltb, pos, Float, get_or, set, replicate}
 use Rattle.std.specs.Float.Ieee.{lt}
-use Rattle.num.specs.Order.{totalCmp}
+use Rattle.num.specs.Order.{total_cmp}
 use Rattle.num.specs.declared.order.Ordering.{Ordering}
 use Rattle.num.specs.declared.order.Ordering.TheVariants.{Less, Equal, Greater}
 use Rattle.geo.specs.Flat.{whole}
@@ -13,8 +13,8 @@ use Rattle.matcher.specs.declared.keep.Dearest.{Dearest}
 use Rattle.num.specs.Fold.{up_to}
 
 -- what stands in a place that is free
-abbrev pub noCandidate : Candidate
-noCandidate = record {
+abbrev pub no_candidate : Candidate
+no_candidate = record {
   found = record {
     tile = record { key = record { row = 0; col = 0 }; crc = 0; edges = 0 };
     edge = 0;
@@ -34,27 +34,27 @@ noCandidate = record {
   along_m = whole 0;
 }
 
-abbrev pub noneKept : Kept
-noneKept = record { v = replicate 8 noCandidate; len = 0 }
+abbrev pub none_kept : Kept
+none_kept = record { v = replicate 8 no_candidate; len = 0 }
 
-abbrev pub candidateIn : Kept → ℕ → Candidate
-candidateIn k i = get_or k.v i noCandidate
+abbrev pub candidate_in : Kept → ℕ → Candidate
+candidate_in k i = get_or k.v i no_candidate
 
-abbrev pub isLess : Ordering → Bool
-isLess Less = true
-isLess Equal = false
-isLess Greater = false
+abbrev pub is_less : Ordering → Bool
+is_less Less = true
+is_less Equal = false
+is_less Greater = false
 
 -- the one at i in place of the dearest so far, unless it is cheaper: of equals the last
 abbrev pub dearer : Dearest → ℕ → Float → Dearest
-dearer d i cost = cond (isLess (totalCmp cost d.cost)) d (record { at = i; cost = cost })
+dearer d i cost = cond (is_less (total_cmp cost d.cost)) d (record { at = i; cost = cost })
 
-unfoldable pub dearestOf : Kept → Dearest
-dearestOf k =
-    up_to (λ (d : Dearest) (i : ℕ). dearer d i (candidateIn k i).cost) (record { at = 0; cost = (candidateIn k 0).cost }) 8
+unfoldable pub dearest_of : Kept → Dearest
+dearest_of k =
+    up_to (λ (d : Dearest) (i : ℕ). dearer d i (candidate_in k i).cost) (record { at = 0; cost = (candidate_in k 0).cost }) 8
 
 abbrev pub replaced : Kept → Dearest → Candidate → Kept
 replaced k d c = cond (lt c.cost d.cost) (record { v = set k.v d.at c; len = k.len }) k
 
 unfoldable pub insert : Kept → Candidate → Kept
-insert k c = cond (ltb k.len 8) (record { v = set k.v k.len c; len = k.len + 1 }) (replaced k (dearestOf k) c)
+insert k c = cond (ltb k.len 8) (record { v = set k.v k.len c; len = k.len + 1 }) (replaced k (dearest_of k) c)

@@ -9,24 +9,24 @@ use Rattle.matcher.specs.declared.CurrentRead.TheVariants as CurrentRead
 use Rattle.matcher.specs.declared.Outcome.{Outcome}
 use Rattle.matcher.specs.declared.Outcome.TheVariants as Outcome
 
-abbrev pub numberOfAnswer : Answer → ℕ
-numberOfAnswer Answer.Accepted = 0
-numberOfAnswer (Answer.Refused number) = number
+abbrev pub number_of_answer : Answer → ℕ
+number_of_answer Answer.Accepted = 0
+number_of_answer (Answer.Refused number) = number
 
-abbrev pub numberOfCurrentRead : CurrentRead → ℕ
-numberOfCurrentRead CurrentRead.Nothing = 0
-numberOfCurrentRead (CurrentRead.Is found) = 0
-numberOfCurrentRead (CurrentRead.Refused number) = number
+abbrev pub number_of_current_read : CurrentRead → ℕ
+number_of_current_read CurrentRead.Nothing = 0
+number_of_current_read (CurrentRead.Is found) = 0
+number_of_current_read (CurrentRead.Refused number) = number
 
-abbrev pub numberOfOutcome : Outcome → ℕ
-numberOfOutcome (Outcome.Found found) = 0
-numberOfOutcome Outcome.Nothing = 0
-numberOfOutcome (Outcome.Need key) = 5
-numberOfOutcome (Outcome.Refused number) = number
+abbrev pub number_of_outcome : Outcome → ℕ
+number_of_outcome (Outcome.Found found) = 0
+number_of_outcome Outcome.Nothing = 0
+number_of_outcome (Outcome.Need key) = 5
+number_of_outcome (Outcome.Refused number) = number
 
 -- the key beside 5
-abbrev pub keyOfOutcome : Outcome → MaybeKey
-keyOfOutcome (Outcome.Found found) = MaybeKey.Nothing
-keyOfOutcome Outcome.Nothing = MaybeKey.Nothing
-keyOfOutcome (Outcome.Need key) = MaybeKey.Key key
-keyOfOutcome (Outcome.Refused number) = MaybeKey.Nothing
+abbrev pub key_of_outcome : Outcome → MaybeKey
+key_of_outcome (Outcome.Found found) = MaybeKey.Nothing
+key_of_outcome Outcome.Nothing = MaybeKey.Nothing
+key_of_outcome (Outcome.Need key) = MaybeKey.Key key
+key_of_outcome (Outcome.Refused number) = MaybeKey.Nothing

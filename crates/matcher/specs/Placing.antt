@@ -4,15 +4,15 @@ use Rattle.std.specs.Prelude.{ℕ, ◌+◌, cond, ltb, Float, set}
 use Rattle.std.specs.Float.Ieee.{lt}
 use Rattle.matcher.specs.declared.Candidate.{Candidate}
 use Rattle.matcher.specs.declared.Kept.{Kept}
-use Rattle.matcher.specs.Keeping.{dearestOf}
+use Rattle.matcher.specs.Keeping.{dearest_of}
 
 -- a free place, or that of the dearest, if the cost is less; 8 where there is none
 unfoldable pub place_of : Kept → Float → ℕ
-place_of k cost = cond (ltb k.len 8) k.len (cond (lt cost (dearestOf k).cost) (dearestOf k).at 8)
+place_of k cost = cond (ltb k.len 8) k.len (cond (lt cost (dearest_of k).cost) (dearest_of k).at 8)
 
-abbrev pub lenAfter : ℕ → ℕ
-lenAfter n = cond (ltb n 8) (n + 1) n
+abbrev pub len_after : ℕ → ℕ
+len_after n = cond (ltb n 8) (n + 1) n
 
 -- the candidate in a place
 abbrev pub written : Kept → ℕ → Candidate → Kept
-written k at c = record { v = set k.v at c; len = lenAfter k.len }
+written k at c = record { v = set k.v at c; len = len_after k.len }

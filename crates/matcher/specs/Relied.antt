@@ -1,6 +1,6 @@
 -- What is claimed of a match over a lookup.
 use Rattle.std.specs.Prelude.{ℕ, ◌≡◌, Bool, true, false, List, ◌⊎◌}
-use Rattle.pack.specs.Grid.{inGrid}
+use Rattle.pack.specs.Grid.{in_grid}
 use Rattle.pack.specs.declared.TileKey.{TileKey}
 use Rattle.pack.specs.declared.Header.{Header}
 use Rattle.tile.specs.Parse.{accepts}
@@ -14,20 +14,20 @@ use Rattle.matcher.specs.declared.Matched.{Matched}
 use Rattle.matcher.specs.declared.Matcher.{Matcher}
 use Rattle.matcher.specs.declared.Outcome.{Outcome}
 use Rattle.matcher.specs.declared.Outcome.TheVariants as Outcome
-use Rattle.matcher.specs.Gather.{updateOver}
+use Rattle.matcher.specs.Gather.{update_over}
 
 -- ended with a match or with none (document 01: "a match (or finding none) is finished where working it out ends other than by 5, 12")
-abbrev pub isFinished : Outcome → Bool
-isFinished (Outcome.Found m) = true
-isFinished Outcome.Nothing = true
-isFinished (Outcome.Need key) = false
-isFinished (Outcome.Refused number) = false
+abbrev pub is_finished : Outcome → Bool
+is_finished (Outcome.Found m) = true
+is_finished Outcome.Nothing = true
+is_finished (Outcome.Need key) = false
+is_finished (Outcome.Refused number) = false
 
 -- where it finishes at one look, it gives the same answer and matcher at every look that agrees with it
 abbrev pub UpdateAgrees : Type 0
 UpdateAgrees =
     (one two : TileKey → Look) → Agree one two → (m : Matcher) (h : Header) (fix : Point) (heading : Heading) →
-    isFinished (updateOver one m h fix heading).answer ≡ true → updateOver two m h fix heading ≡ updateOver one m h fix heading
+    is_finished (update_over one m h fix heading).answer ≡ true → update_over two m h fix heading ≡ update_over one m h fix heading
 
 -- what a look answers passes `Tile::parse` for its key
 abbrev pub Accepted : (TileKey → Look) → Header → Type 0
@@ -38,10 +38,10 @@ pub record FoundIn (at : TileKey → Look) (h : Header) (f : Matched) : Type 0 w
   pub bytes : List ℕ
   pub looked : at f.tile.key ≡ ready bytes
   pub within : Within bytes f
-  pub grid : inGrid h f.tile.key ≡ true
+  pub grid : in_grid h f.tile.key ≡ true
 
 -- the match found is one found at this look, or the one that was there before
 abbrev pub UpdateWithin : Type 0
 UpdateWithin =
     (at : TileKey → Look) (m : Matcher) (h : Header) → Accepted at h → (fix : Point) (heading : Heading) (f : Matched) →
-    (updateOver at m h fix heading).answer ≡ Outcome.Found f → FoundIn at h f ⊎ (m.current ≡ Current.Is f)
+    (update_over at m h fix heading).answer ≡ Outcome.Found f → FoundIn at h f ⊎ (m.current ≡ Current.Is f)

@@ -10,7 +10,7 @@ use Rattle.tile.specs.declared.Edge.{Edge}
 use Rattle.geo.specs.declared.Point.{Point}
 use Rattle.geo.specs.declared.Metres.{Metres}
 use Rattle.geo.specs.Points as Points
-use Rattle.geo.specs.Flat.{whole, metresOf, length_of, projectOf}
+use Rattle.geo.specs.Flat.{whole, metres_of, length_of, project_of}
 use Rattle.matcher.specs.declared.Nearest.{Nearest}
 use Rattle.matcher.specs.declared.scan.MaybeNearest.{MaybeNearest}
 use Rattle.matcher.specs.declared.scan.MaybeNearest.TheVariants as MaybeNearest
@@ -41,45 +41,45 @@ beats MaybeNearest.Nothing d = true
 beats (MaybeNearest.At n) d = lt d n.distance
 
 -- in reach, and closer than the closest so far: of equals the first
-abbrev pub isCloser : MaybeNearest → Float → Bool
-isCloser nearest d = le d radius && beats nearest d
+abbrev pub is_closer : MaybeNearest → Float → Bool
+is_closer nearest d = le d radius && beats nearest d
 
-abbrev pub nearestAfter : Scanned → Metres → ℕ → MaybeNearest
-nearestAfter s b i =
-    let p = projectOf origin s.at b in
-    cond (isCloser s.nearest p.distance)
+abbrev pub nearest_after : Scanned → Metres → ℕ → MaybeNearest
+nearest_after s b i =
+    let p = project_of origin s.at b in
+    cond (is_closer s.nearest p.distance)
     (MaybeNearest.At (record { segment = i; fraction = p.fraction; distance = p.distance; a = s.at; b = b }))
     s.nearest
 
 -- one segment more: the one number i, from the last point to b
-unfoldable pub segmentStep : Scanned → Metres → ℕ → Scanned
-segmentStep s b i = record { at = b; nearest = cond (rejected s.at b) s.nearest (nearestAfter s b i) }
+unfoldable pub segment_step : Scanned → Metres → ℕ → Scanned
+segment_step s b i = record { at = b; nearest = cond (rejected s.at b) s.nearest (nearest_after s b i) }
 
 -- all of them, in order: one more than the edge has vertices
 unfoldable pub scanned : Header → List ℕ → TileKey → Edge → Point → ℕ → ℕ → Scanned
-scanned h bs key e fix lonUm n =
-    up_to (λ (s : Scanned) (i : ℕ). segmentStep s (metresOf (point_of h bs key e (i + 1)) fix lonUm) i)
-    (record { at = metresOf (point_of h bs key e 0) fix lonUm; nearest = MaybeNearest.Nothing })
+scanned h bs key e fix lon_um n =
+    up_to (λ (s : Scanned) (i : ℕ). segment_step s (metres_of (point_of h bs key e (i + 1)) fix lon_um) i)
+    (record { at = metres_of (point_of h bs key e 0) fix lon_um; nearest = MaybeNearest.Nothing })
     n
 
 abbrev pub scan : Header → List ℕ → TileKey → Edge → Point → ℕ → MaybeNearest
-scan h bs key e fix lonUm = (scanned h bs key e fix lonUm (e.vertices + 1)).nearest
+scan h bs key e fix lon_um = (scanned h bs key e fix lon_um (e.vertices + 1)).nearest
 
 -- ---- along the edge
 
-unfoldable pub alongStep : Along → Point → ℕ → Along
-alongStep s b lonUm =
-    let m = metresOf b s.at lonUm in record { at = b; metres = add binary32 s.metres (length_of m.east m.north) }
+unfoldable pub along_step : Along → Point → ℕ → Along
+along_step s b lon_um =
+    let m = metres_of b s.at lon_um in record { at = b; metres = add binary32 s.metres (length_of m.east m.north) }
 
 -- the part of the segment up to the projected fix, then the n segments before it, one by one from the edge's start
-unfoldable pub alongTo : Header → List ℕ → TileKey → Edge → Nearest → ℕ → ℕ → Along
-alongTo h bs key e n lonUm count =
-    up_to (λ (s : Along) (i : ℕ). alongStep s (point_of h bs key e (i + 1)) lonUm)
+unfoldable pub along_to : Header → List ℕ → TileKey → Edge → Nearest → ℕ → ℕ → Along
+along_to h bs key e n lon_um count =
+    up_to (λ (s : Along) (i : ℕ). along_step s (point_of h bs key e (i + 1)) lon_um)
     (record {
       at = point_of h bs key e 0;
       metres = mul binary32 n.fraction (length_of (sub binary32 n.b.east n.a.east) (sub binary32 n.b.north n.a.north));
     })
     count
 
-abbrev pub alongOf : Header → List ℕ → TileKey → Edge → Nearest → ℕ → Float
-alongOf h bs key e n lonUm = (alongTo h bs key e n lonUm n.segment).metres
+abbrev pub along_of : Header → List ℕ → TileKey → Edge → Nearest → ℕ → Float
+along_of h bs key e n lon_um = (along_to h bs key e n lon_um n.segment).metres

@@ -10,8 +10,8 @@ use Rattle.tile.specs.Layout as Layout
 use Rattle.tile.specs.declared.Edge.{Edge}
 use Rattle.tile.specs.declared.TileId.{TileId}
 use Rattle.geo.specs.Points as Points
-use Rattle.geo.specs.Flat.{whole, turn_of, bearingOf}
-use Rattle.cache.specs.Keys.{sameKey}
+use Rattle.geo.specs.Flat.{whole, turn_of, bearing_of}
+use Rattle.cache.specs.Keys.{same_key}
 use Rattle.matcher.specs.declared.Heading.{Heading}
 use Rattle.matcher.specs.declared.Heading.TheVariants as Heading
 use Rattle.matcher.specs.declared.Forward.{Forward}
@@ -24,27 +24,27 @@ use Rattle.matcher.specs.declared.Candidate.{Candidate}
 use Rattle.matcher.specs.declared.Query.{Query}
 use Rattle.matcher.specs.declared.score.AimCost.{AimCost}
 use Rattle.matcher.specs.declared.score.BonusCost.{BonusCost}
-use Rattle.matcher.specs.Scan.{alongOf}
+use Rattle.matcher.specs.Scan.{along_of}
 
 -- ---- the same tile, the same edge
 
-abbrev pub sameId : TileId → TileId → Bool
-sameId a b = sameKey a.key b.key && (eqb a.crc b.crc && eqb a.edges b.edges)
+abbrev pub same_id : TileId → TileId → Bool
+same_id a b = same_key a.key b.key && (eqb a.crc b.crc && eqb a.edges b.edges)
 
-abbrev pub isOn : Matched → TileId → ℕ → Bool
-isOn m id edge = sameId m.tile id && eqb m.edge edge
+abbrev pub is_on : Matched → TileId → ℕ → Bool
+is_on m id edge = same_id m.tile id && eqb m.edge edge
 
 -- ---- the heading
 
 -- the direction held on the edge already matched
-abbrev pub heldOn : Current → TileId → ℕ → Forward
-heldOn Current.Nothing id edge = Forward.Unknown
-heldOn (Current.Is m) id edge = cond (isOn m id edge) m.forward Forward.Unknown
+abbrev pub held_on : Current → TileId → ℕ → Forward
+held_on Current.Nothing id edge = Forward.Unknown
+held_on (Current.Is m) id edge = cond (is_on m id edge) m.forward Forward.Unknown
 
 -- REVERSE_DEG is 135: near a hairpin a heading taken over the last 15 m cuts the corner by up to 90 degrees
-abbrev pub keepsForward : Forward → Float → Float → Bool
-keepsForward Forward.Unknown ahead back = le ahead back
-keepsForward (Forward.Is forward) ahead back = cond forward (le ahead (whole 135)) (lt (whole 135) back)
+abbrev pub keeps_forward : Forward → Float → Float → Bool
+keeps_forward Forward.Unknown ahead back = le ahead back
+keeps_forward (Forward.Is forward) ahead back = cond forward (le ahead (whole 135)) (lt (whole 135) back)
 
 -- HELD_DEG is 60
 abbrev pub limited : Forward → Float → Float
@@ -56,20 +56,20 @@ abbrev pub penalty : Bool → Float → Float
 penalty oneway ahead = cond (oneway && lt (whole 90) ahead) (whole 4) (whole 0)
 
 -- HEADING_DEG is 35
-abbrev pub headingCost : Float → Float → Float
-headingCost error extra = add binary32 (mul binary32 (div binary32 error (whole 35)) (div binary32 error (whole 35))) extra
+abbrev pub heading_cost : Float → Float → Float
+heading_cost error extra = add binary32 (mul binary32 (div binary32 error (whole 35)) (div binary32 error (whole 35))) extra
 
-abbrev pub aimedBy : Bool → Float → Float → Bool → Forward → Float → AimCost
-aimedBy forward ahead back oneway held cost =
+abbrev pub aimed_by : Bool → Float → Float → Bool → Forward → Float → AimCost
+aimed_by forward ahead back oneway held cost =
     cond forward
-    (record { cost = add binary32 cost (headingCost (limited held ahead) (penalty oneway ahead)); forward = Forward.Is true })
-    (record { cost = add binary32 cost (headingCost (limited held back) (whole 0)); forward = Forward.Is false })
+    (record { cost = add binary32 cost (heading_cost (limited held ahead) (penalty oneway ahead)); forward = Forward.Is true })
+    (record { cost = add binary32 cost (heading_cost (limited held back) (whole 0)); forward = Forward.Is false })
 
 unfoldable pub aimed : Float → Float → Bool → Forward → Float → AimCost
 aimed degrees bearing oneway held cost =
     let ahead = Order.fabsf (turn_of degrees bearing) in
     let back = sub binary32 (whole 180) ahead in
-    aimedBy (keepsForward held ahead back || oneway) ahead back oneway held cost
+    aimed_by (keeps_forward held ahead back || oneway) ahead back oneway held cost
 
 abbrev pub aim : Heading → Float → Bool → Forward → Float → AimCost
 aim Heading.Nothing bearing oneway held cost = record { cost = cost; forward = Forward.Unknown }
@@ -77,59 +77,59 @@ aim (Heading.Degrees d) bearing oneway held cost = aimed d bearing oneway held c
 
 -- ---- the bonus
 
-abbrev pub sharesNode : Edge → Edge → Bool
-sharesNode a b = eqb a.from b.from || (eqb a.from b.to || (eqb a.to b.from || eqb a.to b.to))
+abbrev pub shares_node : Edge → Edge → Bool
+shares_node a b = eqb a.from b.from || (eqb a.from b.to || (eqb a.to b.from || eqb a.to b.to))
 
 -- 0.5
 abbrev pub half : Float
 half = of_bits binary32 0x3f000000
 
 -- SAME_BONUS is 1, JOINED_BONUS 0.5
-unfoldable pub bonusOf : Matched → TileId → ℕ → List ℕ → Edge → Float → BonusCost
-bonusOf m id number bs e cost =
-    cond (sameId m.tile id)
+unfoldable pub bonus_of : Matched → TileId → ℕ → List ℕ → Edge → Float → BonusCost
+bonus_of m id number bs e cost =
+    cond (same_id m.tile id)
     (cond (eqb m.edge number) (record { cost = sub binary32 cost (whole 1); joined = false })
-    (cond (sharesNode (Layout.edge_of bs m.edge) e) (record { cost = sub binary32 cost half; joined = true }) (record { cost = cost; joined = false })))
+    (cond (shares_node (Layout.edge_of bs m.edge) e) (record { cost = sub binary32 cost half; joined = true }) (record { cost = cost; joined = false })))
     (record { cost = cost; joined = false })
 
 abbrev pub bonus : Current → TileId → ℕ → List ℕ → Edge → Float → BonusCost
 bonus Current.Nothing id number bs e cost = record { cost = cost; joined = false }
-bonus (Current.Is m) id number bs e cost = bonusOf m id number bs e cost
+bonus (Current.Is m) id number bs e cost = bonus_of m id number bs e cost
 
 -- ---- the candidate
 
 -- the nearest point is one of the edge's end nodes
-abbrev pub atNode : Nearest → ℕ → Bool
-atNode n vertices = (eqb n.segment 0 && le n.fraction (whole 0)) || (eqb n.segment vertices && le (whole 1) n.fraction)
+abbrev pub at_node : Nearest → ℕ → Bool
+at_node n vertices = (eqb n.segment 0 && le n.fraction (whole 0)) || (eqb n.segment vertices && le (whole 1) n.fraction)
 
 -- held to ±1,000,000, number 10's bound, which no height of a tile reaches: they lie from -5,000 to 126,070
-abbrev pub heldHeight : ℤ → ℤ
-heldHeight z = cond (lt_z z (negsuc 999999)) (negsuc 999999) (cond (lt_z (pos 1000000) z) (pos 1000000) z)
+abbrev pub held_height : ℤ → ℤ
+held_height z = cond (lt_z z (negsuc 999999)) (negsuc 999999) (cond (lt_z (pos 1000000) z) (pos 1000000) z)
 
 -- za, and the part of the way to zb cut toward zero
 unfoldable pub height : ℤ → ℤ → Float → ℤ
-height za zb fraction = heldHeight (za +ℤ to_signed 31 (mul binary32 (of_int binary32 (zb -ℤ za)) fraction))
+height za zb fraction = held_height (za +ℤ to_signed 31 (mul binary32 (of_int binary32 (zb -ℤ za)) fraction))
 
 -- the elevation of the projected point
-abbrev pub heightAt : List ℕ → Edge → Nearest → ℤ
-heightAt bs e n =
-    height (Points.zDm (Layout.point_of bs e n.segment)) (Points.zDm (Layout.point_of bs e (n.segment + 1))) n.fraction
+abbrev pub height_at : List ℕ → Edge → Nearest → ℤ
+height_at bs e n =
+    height (Points.z_dm (Layout.point_of bs e n.segment)) (Points.z_dm (Layout.point_of bs e (n.segment + 1))) n.fraction
 
 -- edges that may be ridden one way only
-abbrev pub isOneway : Edge → Bool
-isOneway e = not (eqb (bit_and e.flags 1) 0)
+abbrev pub is_oneway : Edge → Bool
+is_oneway e = not (eqb (bit_and e.flags 1) 0)
 
 -- DISTANCE_M is 15
-abbrev pub distanceCost : Float → Float
-distanceCost d = mul binary32 (div binary32 d (whole 15)) (div binary32 d (whole 15))
+abbrev pub distance_cost : Float → Float
+distance_cost d = mul binary32 (div binary32 d (whole 15)) (div binary32 d (whole 15))
 
-unfoldable pub aimAt : Query → TileId → ℕ → Edge → Nearest → AimCost
-aimAt q id number e n =
-    aim q.heading (bearingOf (sub binary32 n.b.east n.a.east) (sub binary32 n.b.north n.a.north))
-    (isOneway e) (heldOn q.current id number) (distanceCost n.distance)
+unfoldable pub aim_at : Query → TileId → ℕ → Edge → Nearest → AimCost
+aim_at q id number e n =
+    aim q.heading (bearing_of (sub binary32 n.b.east n.a.east) (sub binary32 n.b.north n.a.north))
+    (is_oneway e) (held_on q.current id number) (distance_cost n.distance)
 
-abbrev pub matchedAt : TileId → ℕ → Edge → Nearest → Forward → ℤ → Matched
-matchedAt id number e n forward z = record {
+abbrev pub matched_at : TileId → ℕ → Edge → Nearest → Forward → ℤ → Matched
+matched_at id number e n forward z = record {
   tile = id;
   edge = number;
   segment = n.segment;
@@ -143,18 +143,18 @@ matchedAt id number e n forward z = record {
   ridden_m = whole 0;
 }
 
-abbrev pub candidateBy : Query → TileId → ℕ → List ℕ → ℕ → Edge → Nearest → AimCost → BonusCost → Candidate
-candidateBy q id lonUm bs number e n aimed eased = record {
-  found = matchedAt id number e n aimed.forward (heightAt bs e n);
+abbrev pub candidate_by : Query → TileId → ℕ → List ℕ → ℕ → Edge → Nearest → AimCost → BonusCost → Candidate
+candidate_by q id lon_um bs number e n aimed eased = record {
+  found = matched_at id number e n aimed.forward (height_at bs e n);
   cost = eased.cost;
   joined = eased.joined;
-  at_node = atNode n e.vertices;
-  along_m = alongOf q.header bs id.key e n lonUm;
+  at_node = at_node n e.vertices;
+  along_m = along_of q.header bs id.key e n lon_um;
 }
 
 -- the candidate of an edge whose closest segment is n: its cost by distance, then heading, then bonus
-unfoldable pub candidateAt : Query → TileId → ℕ → List ℕ → ℕ → Nearest → Candidate
-candidateAt q id lonUm bs number n =
+unfoldable pub candidate_at : Query → TileId → ℕ → List ℕ → ℕ → Nearest → Candidate
+candidate_at q id lon_um bs number n =
     let e = Layout.edge_of bs number in
-    let aimed = aimAt q id number e n in
-    candidateBy q id lonUm bs number e n aimed (bonus q.current id number bs e aimed.cost)
+    let aimed = aim_at q id number e n in
+    candidate_by q id lon_um bs number e n aimed (bonus q.current id number bs e aimed.cost)

@@ -8,8 +8,8 @@ use Rattle.geo.specs.Flat.{whole}
 use Rattle.cache.specs.declared.victim.Found.{Found}
 use Rattle.cache.specs.declared.victim.Found.TheVariants as Found
 use Rattle.num.specs.Fold.{up_to}
-use Rattle.matcher.specs.Keeping.{candidateIn}
-use Rattle.matcher.specs.Score.{isOn}
+use Rattle.matcher.specs.Keeping.{candidate_in}
+use Rattle.matcher.specs.Score.{is_on}
 use Rattle.matcher.specs.declared.Candidate.{Candidate}
 use Rattle.matcher.specs.declared.Kept.{Kept}
 use Rattle.matcher.specs.declared.Matched.{Matched}
@@ -23,89 +23,89 @@ use Rattle.matcher.specs.declared.Challenger.TheVariants as Challenger
 use Rattle.matcher.specs.declared.Matcher.{Matcher}
 use Rattle.matcher.specs.declared.choose.Which.TheVariants as Which
 use Rattle.matcher.specs.declared.choose.Choice.{Choice}
-use Rattle.matcher.specs.Choose.{leastOf, sameEdge, chosenBy, pastNode}
+use Rattle.matcher.specs.Choose.{least_of, same_edge, chosen_by, past_node}
 
 -- ---- confidence
 
 -- the edge just left, where the match goes over to one joined to it
 abbrev pub left_of : Current → Candidate → Current
 left_of Current.Nothing chosen = Current.Nothing
-left_of (Current.Is p) chosen = cond (chosen.joined && not (sameEdge chosen p)) (Current.Is p) Current.Nothing
+left_of (Current.Is p) chosen = cond (chosen.joined && not (same_edge chosen p)) (Current.Is p) Current.Nothing
 
-abbrev pub notLeft : Current → Candidate → Bool
-notLeft Current.Nothing c = true
-notLeft (Current.Is p) c = not (sameEdge c p)
+abbrev pub not_left : Current → Candidate → Bool
+not_left Current.Nothing c = true
+not_left (Current.Is p) c = not (same_edge c p)
 
 -- another road beside the rider, and not the one just left
-abbrev pub isRival : Candidate → Matched → Current → Bool
-isRival c chosen left = not (sameEdge c chosen) && (not c.at_node && notLeft left c)
+abbrev pub is_rival : Candidate → Matched → Current → Bool
+is_rival c chosen left = not (same_edge c chosen) && (not c.at_node && not_left left c)
 
-abbrev pub rivalStep : Float → ℕ → ℕ → Candidate → Matched → Current → Float
-rivalStep least n i c chosen left = cond (ltb i n && isRival c chosen left) (Order.min least c.cost) least
+abbrev pub rival_step : Float → ℕ → ℕ → Candidate → Matched → Current → Float
+rival_step least n i c chosen left = cond (ltb i n && is_rival c chosen left) (Order.min least c.cost) least
 
-unfoldable pub runnerTo : Kept → Matched → Current → ℕ → Float
-runnerTo k chosen left n = up_to (λ (least : Float) (i : ℕ). rivalStep least k.len i (candidateIn k i) chosen left) (inf false) n
+unfoldable pub runner_to : Kept → Matched → Current → ℕ → Float
+runner_to k chosen left n = up_to (λ (least : Float) (i : ℕ). rival_step least k.len i (candidate_in k i) chosen left) (inf false) n
 
 -- the cost of the cheapest rival, infinite where there is none
-abbrev pub runnerUp : Kept → Matched → Current → Float
-runnerUp k chosen left = runnerTo k chosen left 8
+abbrev pub runner_up : Kept → Matched → Current → Float
+runner_up k chosen left = runner_to k chosen left 8
 
 -- 0.3 and 0.7
-abbrev pub threeTenths : Float
-threeTenths = of_bits binary32 0x3e99999a
+abbrev pub three_tenths : Float
+three_tenths = of_bits binary32 0x3e99999a
 
-abbrev pub sevenTenths : Float
-sevenTenths = of_bits binary32 0x3f333333
+abbrev pub seven_tenths : Float
+seven_tenths = of_bits binary32 0x3f333333
 
 abbrev pub steadiness : Heading → Float
-steadiness Heading.Nothing = sevenTenths
+steadiness Heading.Nothing = seven_tenths
 steadiness (Heading.Degrees d) = whole 1
 
 -- near the road, and clearly cheaper than any other: 0 to 100
 unfoldable pub confidence : Float → Float → Float → Heading → ℕ
 confidence offset cost runner heading =
     let near = Order.clamp (sub binary32 (whole 1) (div binary32 offset (whole 40))) (whole 0) (whole 1) in
-    let clear = Order.clamp (div binary32 (sub binary32 runner cost) (whole 2)) threeTenths (whole 1) in
+    let clear = Order.clamp (div binary32 (sub binary32 runner cost) (whole 2)) three_tenths (whole 1) in
     to_unsigned 8 (mul binary32 (mul binary32 (mul binary32 near clear) (steadiness heading)) (whole 100))
 
 -- ---- direction and ridden metres
 
-abbrev pub directionFrom : Current → Matched → Forward
-directionFrom Current.Nothing found = Forward.Unknown
-directionFrom (Current.Is p) found = cond (isOn p found.tile found.edge) p.forward Forward.Unknown
+abbrev pub direction_from : Current → Matched → Forward
+direction_from Current.Nothing found = Forward.Unknown
+direction_from (Current.Is p) found = cond (is_on p found.tile found.edge) p.forward Forward.Unknown
 
-abbrev pub directionBy : Forward → Matched → Current → Forward
-directionBy (Forward.Is b) found previous = Forward.Is b
-directionBy Forward.Unknown found previous = directionFrom previous found
+abbrev pub direction_by : Forward → Matched → Current → Forward
+direction_by (Forward.Is b) found previous = Forward.Is b
+direction_by Forward.Unknown found previous = direction_from previous found
 
 -- the candidate's own, or without one that of the match so far on the same edge
 abbrev pub direction : Matched → Current → Forward
-direction found previous = directionBy found.forward found previous
+direction found previous = direction_by found.forward found previous
 
-abbrev pub sameBool : Bool → Bool → Bool
-sameBool true b = b
-sameBool false b = not b
+abbrev pub same_bool : Bool → Bool → Bool
+same_bool true b = b
+same_bool false b = not b
 
 -- unknown before, or the same now
-abbrev pub goesOn : Forward → Forward → Bool
-goesOn Forward.Unknown forward = true
-goesOn (Forward.Is a) Forward.Unknown = false
-goesOn (Forward.Is a) (Forward.Is b) = sameBool a b
+abbrev pub goes_on : Forward → Forward → Bool
+goes_on Forward.Unknown forward = true
+goes_on (Forward.Is a) Forward.Unknown = false
+goes_on (Forward.Is a) (Forward.Is b) = same_bool a b
 
-abbrev pub sameRun : Current → Matched → Forward → Bool
-sameRun Current.Nothing found forward = false
-sameRun (Current.Is p) found forward = isOn p found.tile found.edge && goesOn p.forward forward
+abbrev pub same_run : Current → Matched → Forward → Bool
+same_run Current.Nothing found forward = false
+same_run (Current.Is p) found forward = is_on p found.tile found.edge && goes_on p.forward forward
 
 -- where the run along the edge began: here, unless it goes on
 abbrev pub run_from : Matcher → Candidate → Forward → Float
-run_from m chosen forward = cond (sameRun m.current chosen.found forward) m.run_from_m chosen.along_m
+run_from m chosen forward = cond (same_run m.current chosen.found forward) m.run_from_m chosen.along_m
 
 abbrev pub ridden : Forward → Float → Float → Float
 ridden Forward.Unknown along from = whole 0
 ridden (Forward.Is b) along from = Order.max (cond b (sub binary32 along from) (sub binary32 from along)) (whole 0)
 
-abbrev pub withFigures : Matched → Forward → ℕ → Float → Matched
-withFigures m forward sure gone = record {
+abbrev pub with_figures : Matched → Forward → ℕ → Float → Matched
+with_figures m forward sure gone = record {
   tile = m.tile;
   edge = m.edge;
   segment = m.segment;
@@ -121,12 +121,12 @@ withFigures m forward sure gone = record {
 
 -- ---- the matcher afterwards
 
-abbrev pub settledWith : Matcher → Kept → Choice → Heading → Forward → Float → Matcher
-settledWith m k choice heading forward from =
+abbrev pub settled_with : Matcher → Kept → Choice → Heading → Forward → Float → Matcher
+settled_with m k choice heading forward from =
     let chosen = choice.chosen in record {
       current = Current.Is
-          (withFigures chosen.found forward
-          (confidence chosen.found.offset_m chosen.cost (runnerUp k chosen.found (left_of m.current chosen)) heading)
+          (with_figures chosen.found forward
+          (confidence chosen.found.offset_m chosen.cost (runner_up k chosen.found (left_of m.current chosen)) heading)
           (ridden forward chosen.along_m from));
       challenger = choice.challenger;
       misses = 0;
@@ -135,7 +135,7 @@ settledWith m k choice heading forward from =
 
 unfoldable pub settled : Matcher → Kept → Choice → Heading → Matcher
 settled m k choice heading =
-    let forward = direction choice.chosen.found m.current in settledWith m k choice heading forward (run_from m choice.chosen forward)
+    let forward = direction choice.chosen.found m.current in settled_with m k choice heading forward (run_from m choice.chosen forward)
 
 abbrev pub more : ℕ → ℕ
 more n = cond (ltb n 255) (n + 1) 255
@@ -149,10 +149,10 @@ missed m = record {
   run_from_m = m.run_from_m;
 }
 
-abbrev pub matchedBy : Found → Matcher → Kept → Heading → Matcher
-matchedBy Found.Nothing m k heading = missed m
-matchedBy (Found.At i) m k heading = settled m k (pastNode (chosenBy m.current k (candidateIn k i) m.challenger) k) heading
+abbrev pub matched_by : Found → Matcher → Kept → Heading → Matcher
+matched_by Found.Nothing m k heading = missed m
+matched_by (Found.At i) m k heading = settled m k (past_node (chosen_by m.current k (candidate_in k i) m.challenger) k) heading
 
 -- the matcher after a search that kept these candidates
 unfoldable pub matched : Matcher → Kept → Heading → Matcher
-matched m k heading = matchedBy (leastOf k Which.All) m k heading
+matched m k heading = matched_by (least_of k Which.All) m k heading

@@ -8,19 +8,19 @@ use Rattle.matcher.specs.declared.scan.MaybeNearest.{MaybeNearest}
 use Rattle.matcher.specs.declared.scan.MaybeNearest.TheVariants as MaybeNearest
 use Rattle.num.specs.Fold.{up_to}
 use Rattle.matcher.specs.Scan.{scan}
-use Rattle.matcher.specs.Score.{candidateAt}
+use Rattle.matcher.specs.Score.{candidate_at}
 use Rattle.matcher.specs.Keeping.{insert}
 
-abbrev pub keptWith : MaybeNearest → Kept → Query → TileId → ℕ → List ℕ → ℕ → Kept
-keptWith MaybeNearest.Nothing k q id lonUm bs number = k
-keptWith (MaybeNearest.At n) k q id lonUm bs number = insert k (candidateAt q id lonUm bs number n)
+abbrev pub kept_with : MaybeNearest → Kept → Query → TileId → ℕ → List ℕ → ℕ → Kept
+kept_with MaybeNearest.Nothing k q id lon_um bs number = k
+kept_with (MaybeNearest.At n) k q id lon_um bs number = insert k (candidate_at q id lon_um bs number n)
 
 -- one edge more: a candidate, if it is in reach
-unfoldable pub edgeStep : Kept → Query → TileId → ℕ → List ℕ → ℕ → Kept
-edgeStep k q id lonUm bs number =
-    keptWith (scan q.header bs id.key (Layout.edge_of bs number) q.fix lonUm) k q id lonUm bs number
+unfoldable pub edge_step : Kept → Query → TileId → ℕ → List ℕ → ℕ → Kept
+edge_step k q id lon_um bs number =
+    kept_with (scan q.header bs id.key (Layout.edge_of bs number) q.fix lon_um) k q id lon_um bs number
 
 -- the tile's edges, in order
 unfoldable pub search : Kept → Query → List ℕ → Kept
 search k q bs =
-    up_to (λ (d : Kept) (number : ℕ). edgeStep d q (Layout.id_of bs) (Layout.head_of bs).lon_um bs number) k (Layout.edgesOf bs)
+    up_to (λ (d : Kept) (number : ℕ). edge_step d q (Layout.id_of bs) (Layout.head_of bs).lon_um bs number) k (Layout.edges_of bs)

@@ -46,7 +46,7 @@ fn counts(which: Which, c: Candidate) -> bool
 }
 
 fn is_less(a: f32, b: f32) -> bool
-    ensures { result ≡ Choose.isCheaper a b }
+    ensures { result ≡ Choose.is_cheaper a b }
 {
     match num::order::total_cmp(a, b) {
         Ordering::Less => true,
@@ -78,7 +78,7 @@ fn lesser(l: Least, i: usize, cost: f32) -> Least
 }
 
 fn least_step(l: Least, n: usize, i: usize, c: Candidate, which: Which) -> Least
-    ensures { result ≡ Choose.leastStep l n i c which }
+    ensures { result ≡ Choose.least_step l n i c which }
 {
     if n <= i {
         return l;
@@ -91,7 +91,7 @@ fn least_step(l: Least, n: usize, i: usize, c: Candidate, which: Which) -> Least
 
 // The cheapest of those looked at. The places are named one by one, so that what is kept is read where it stands.
 pub(crate) fn least_of(k: Kept, which: Which) -> Found
-    ensures { result ≡ Choose.leastOf k which }
+    ensures { result ≡ Choose.least_of k which }
 {
     let n = k.len;
     let mut l = Least {
@@ -111,7 +111,7 @@ pub(crate) fn least_of(k: Kept, which: Which) -> Found
 
 // The candidate number `i`. The places are named one by one here too.
 pub(crate) fn candidate_in(k: Kept, i: usize) -> Candidate
-    ensures { result ≡ Keeping.candidateIn k i }
+    ensures { result ≡ Keeping.candidate_in k i }
 {
     if i < 1 {
         return k.v[0];
@@ -142,7 +142,7 @@ pub(crate) fn candidate_in(k: Kept, i: usize) -> Candidate
 
 // Whether a candidate is the edge of a match.
 pub(crate) fn same_edge(c: Candidate, m: Matched) -> bool
-    ensures { result ≡ Choose.sameEdge c m }
+    ensures { result ≡ Choose.same_edge c m }
 {
     crate::score::is_on(c.found, m.tile, m.edge)
 }
@@ -235,7 +235,7 @@ fn held(top: Candidate, kept: Candidate, m: Matched, challenger: Challenger) -> 
 
 // The cheapest, or the edge already matched.
 pub(crate) fn chosen_by(current: Current, k: Kept, top: Candidate, challenger: Challenger) -> Choice
-    ensures { result ≡ Choose.chosenBy current k top challenger }
+    ensures { result ≡ Choose.chosen_by current k top challenger }
 {
     match current {
         Current::Nothing => Choice {
@@ -254,7 +254,7 @@ pub(crate) fn chosen_by(current: Current, k: Kept, top: Candidate, challenger: C
 
 // Past the end of the edge the road goes on along one joined to it, if the rider is beside one and riding along it.
 pub(crate) fn past_node(choice: Choice, k: Kept) -> Choice
-    ensures { result ≡ Choose.pastNode choice k }
+    ensures { result ≡ Choose.past_node choice k }
 {
     let chosen = choice.chosen;
     if !chosen.at_node {

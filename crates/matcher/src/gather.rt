@@ -72,7 +72,7 @@ fn landings(c: Cache, near: NearKeys) -> Landings
 // The match over the tiles around a fix, from what their lookups land on. A tile that is not loaded ends the match with its key, a run that no
 // longer passes with 12 and no tile gone through.
 fn gather(m: Matcher, at: Landings, arena: &[u8], q: Query, near: NearKeys) -> Searched
-    ensures { result ≡ Gather.ended m q.heading (Gather.gatheredTo at arena.now q near 4) }
+    ensures { result ≡ Gather.ended m q.heading (Gather.gathered_to at arena.now q near 4) }
 {
     let header = q.header;
     let mut kept = crate::keep::none_kept();
@@ -139,7 +139,7 @@ pub fn searched(
 
 // Clock and ages with the run that a lookup landed on as the most recently used.
 fn used_by(lookup: Lookup, a: Aging) -> Aging
-    ensures { result ≡ Gather.usedBy lookup a }
+    ensures { result ≡ Gather.used_by lookup a }
 {
     match lookup {
         Lookup::Missing => a,
@@ -152,7 +152,7 @@ fn used_by(lookup: Lookup, a: Aging) -> Aging
 // Clock and ages once the first `n` tiles were gone through.
 fn uses_after(at: Landings, from: Aging, n: usize) -> Aging
     requires { n ≤ 4 }
-    ensures { result ≡ Gather.usesAfter at from n }
+    ensures { result ≡ Gather.uses_after at from n }
 {
     let mut a = from;
     let mut i = 0;
@@ -221,7 +221,7 @@ pub(crate) fn updated(
     fix: Point,
     heading: Heading,
 ) -> Updated
-    ensures { result ≡ Calls.updateTested m c arena.now header fix heading }
+    ensures { result ≡ Calls.update_tested m c arena.now header fix heading }
 {
     if !pack::grid::is_point(fix.lat, fix.lon) {
         return crate::state::refused(m, c, 8);

@@ -9,7 +9,7 @@ use pack::TileKey;
 use tile::TileId;
 
 pub(crate) fn no_candidate() -> Candidate
-    ensures { result ≡ Keeping.noCandidate }
+    ensures { result ≡ Keeping.no_candidate }
 {
     let tile = TileId {
         key: TileKey { row: 0, col: 0 },
@@ -39,7 +39,7 @@ pub(crate) fn no_candidate() -> Candidate
 }
 
 pub(crate) fn none_kept() -> Kept
-    ensures { result ≡ Keeping.noneKept }
+    ensures { result ≡ Keeping.none_kept }
 {
     let c = no_candidate();
     let v = [c; 8];
@@ -66,7 +66,7 @@ fn dearer(d: Dearest, i: usize, cost: f32) -> Dearest
 
 // The dearest of all eight.
 fn dearest_of(k: Kept) -> Dearest
-    ensures { result ≡ Keeping.dearestOf k }
+    ensures { result ≡ Keeping.dearest_of k }
 {
     let first = k.v[0];
     let mut d = Dearest {
@@ -98,7 +98,7 @@ pub(crate) fn place_of(k: Kept, cost: f32) -> usize
 
 // How many are kept once one more is.
 pub(crate) fn len_after(len: usize) -> usize
-    ensures { result ≡ Placing.lenAfter len }
+    ensures { result ≡ Placing.len_after len }
 {
     if len < 8 {
         return len + 1;

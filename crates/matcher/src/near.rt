@@ -8,7 +8,7 @@ use geo::Point;
 use pack::{Header, Keyed, TileKey};
 
 pub fn no_keys() -> NearKeys
-    ensures { result ≡ Near.noKeys }
+    ensures { result ≡ Near.no_keys }
 {
     let none = NearKey {
         key: MaybeKey::Nothing,
@@ -96,7 +96,7 @@ fn around(header: Header, fix: Point, key: TileKey) -> NearKeys
 
 // The tiles around a point, none where it lies off the grid.
 pub fn near_of(header: Header, fix: Point) -> NearKeys
-    ensures { result ≡ Near.nearOf header fix }
+    ensures { result ≡ Near.near_of header fix }
 {
     match pack::grid::key_of(header, fix.lat, fix.lon) {
         Keyed::In(k) => around(header, fix, k),

@@ -45,7 +45,7 @@ pub(crate) fn point_of(
 
 // Where the first vertex of an edge stands: it is worked out once for all of them.
 fn vertices_at(bytes: &[u8], edge: Edge) -> usize
-    ensures value { result ≡ Layout.vertexStart bytes.now edge.first_vertex }
+    ensures value { result ≡ Layout.vertex_start bytes.now edge.first_vertex }
     ensures upper_bound { result < 2 ^ 40 }
 {
     let nodes = pack::bytes::u16_at(bytes, 8) as usize;
@@ -68,7 +68,7 @@ fn next_at(base: usize, edge: Edge, i: u16) -> usize
 // The x and y that stand at `at`, with no elevation: out of a slice of their own where the four bytes are there, so that one test is made for both numbers.
 fn xy_at(bytes: &[u8], at: usize) -> Node
     requires { at < 2 ^ 41 }
-    ensures { result ≡ Standing.xyAt bytes.now at }
+    ensures { result ≡ Standing.xy_at bytes.now at }
 {
     if bytes.len() < at + 4 {
         return Node {
@@ -87,7 +87,7 @@ fn xy_at(bytes: &[u8], at: usize) -> Node
 
 // The point behind segment `i` of an edge. Its elevation is not read.
 fn next_point(header: Header, bytes: &[u8], key: TileKey, edge: Edge, base: usize, i: u16) -> Point
-    requires base_value { base ≡ Layout.vertexStart bytes.now edge.first_vertex }
+    requires base_value { base ≡ Layout.vertex_start bytes.now edge.first_vertex }
     requires base_bound { base < 2 ^ 40 }
     ensures { result ≡ Scan.point_of header bytes.now key edge (i + 1) }
 {
@@ -117,7 +117,7 @@ fn rejected(a: Metres, b: Metres) -> bool
 
 // Whether a distance is in reach and less than the closest so far.
 fn is_closer(nearest: MaybeNearest, distance: f32) -> bool
-    ensures { result ≡ Scan.isCloser nearest distance }
+    ensures { result ≡ Scan.is_closer nearest distance }
 {
     if distance <= 40.0 {
         return match nearest {
@@ -130,7 +130,7 @@ fn is_closer(nearest: MaybeNearest, distance: f32) -> bool
 
 // One segment more: the one number `i`, from the last point to `b`.
 fn segment_step(s: Scanned, b: Metres, i: u16) -> Scanned
-    ensures { result ≡ Scan.segmentStep s b i }
+    ensures { result ≡ Scan.segment_step s b i }
 {
     let a = s.at;
     let nearest = s.nearest;
@@ -190,7 +190,7 @@ pub(crate) fn scan(
 
 // One point more along the edge.
 fn along_step(s: Along, b: Point, lon_um: u32) -> Along
-    ensures { result ≡ Scan.alongStep s b lon_um }
+    ensures { result ≡ Scan.along_step s b lon_um }
 {
     let a = s.at;
     let m = geo::flat::metres(b, a, lon_um);
@@ -209,7 +209,7 @@ pub(crate) fn along_to(
     n: Nearest,
     lon_um: u32,
 ) -> f32
-    ensures { result ≡ Scan.alongOf header bytes.now key edge n lon_um }
+    ensures { result ≡ Scan.along_of header bytes.now key edge n lon_um }
 {
     let a = n.a;
     let b = n.b;

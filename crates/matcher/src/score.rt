@@ -20,7 +20,7 @@ pub(crate) struct BonusCost {
 }
 
 pub fn same_id(a: TileId, b: TileId) -> bool
-    ensures { result ≡ Score.sameId a b }
+    ensures { result ≡ Score.same_id a b }
 {
     if !cache::keys::same_key(a.key, b.key) {
         return false;
@@ -33,7 +33,7 @@ pub fn same_id(a: TileId, b: TileId) -> bool
 
 // Whether a match is on this edge of this tile.
 pub fn is_on(m: Matched, id: TileId, edge: u16) -> bool
-    ensures { result ≡ Score.isOn m id edge }
+    ensures { result ≡ Score.is_on m id edge }
 {
     if same_id(m.tile, id) {
         return m.edge == edge;
@@ -43,7 +43,7 @@ pub fn is_on(m: Matched, id: TileId, edge: u16) -> bool
 
 // The direction held on the edge already matched; unknown on any other.
 fn held_on(current: Current, id: TileId, edge: u16) -> Forward
-    ensures { result ≡ Score.heldOn current id edge }
+    ensures { result ≡ Score.held_on current id edge }
 {
     match current {
         Current::Nothing => Forward::Unknown,
@@ -59,7 +59,7 @@ fn held_on(current: Current, id: TileId, edge: u16) -> Forward
 
 // Whether the edge's own direction is kept: a held one unless the heading clearly reverses, else the closer.
 fn keeps_forward(held: Forward, ahead: f32, back: f32) -> bool
-    ensures { result ≡ Score.keepsForward held ahead back }
+    ensures { result ≡ Score.keeps_forward held ahead back }
 {
     match held {
         Forward::Unknown => ahead <= back,
@@ -93,7 +93,7 @@ fn penalty(oneway: bool, ahead: f32) -> f32
 }
 
 fn heading_cost(error: f32, extra: f32) -> f32
-    ensures { result ≡ Score.headingCost error extra }
+    ensures { result ≡ Score.heading_cost error extra }
 {
     (error / 35.0) * (error / 35.0) + extra
 }
@@ -133,7 +133,7 @@ fn aim(heading: Heading, bearing: f32, oneway: bool, held: Forward, cost: f32) -
 
 // Whether two edges share a node.
 fn shares_node(a: Edge, b: Edge) -> bool
-    ensures { result ≡ Score.sharesNode a b }
+    ensures { result ≡ Score.shares_node a b }
 {
     if a.from == b.from {
         return true;
@@ -149,7 +149,7 @@ fn shares_node(a: Edge, b: Edge) -> bool
 
 // The bonus of the edge already matched, or of one joined to it.
 fn bonus_of(m: Matched, id: TileId, number: u16, bytes: &[u8], edge: Edge, cost: f32) -> BonusCost
-    ensures { result ≡ Score.bonusOf m id number bytes.now edge cost }
+    ensures { result ≡ Score.bonus_of m id number bytes.now edge cost }
 {
     if !same_id(m.tile, id) {
         return BonusCost {
@@ -197,7 +197,7 @@ fn bonus(
 
 // Whether the projected point is one of the edge's end nodes.
 fn at_node(n: Nearest, vertices: u16) -> bool
-    ensures { result ≡ Score.atNode n vertices }
+    ensures { result ≡ Score.at_node n vertices }
 {
     if n.segment == 0 && n.fraction <= 0.0 {
         return true;
@@ -225,7 +225,7 @@ fn height(za: i32, zb: i32, fraction: f32) -> i32
 
 // The elevation of the projected point.
 fn height_at(bytes: &[u8], edge: Edge, n: Nearest) -> i32
-    ensures { result ≡ Score.heightAt bytes.now edge n }
+    ensures { result ≡ Score.height_at bytes.now edge n }
 {
     let from = n.segment as usize;
     let a = tile::raw::point(bytes, edge, from);
@@ -235,7 +235,7 @@ fn height_at(bytes: &[u8], edge: Edge, n: Nearest) -> i32
 
 // The cost of a segment by its distance and the heading along it.
 fn aim_at(q: Query, id: TileId, number: u16, edge: Edge, n: Nearest) -> AimCost
-    ensures { result ≡ Score.aimAt q id number edge n }
+    ensures { result ≡ Score.aim_at q id number edge n }
 {
     let a = n.a;
     let b = n.b;
@@ -256,7 +256,7 @@ fn matched_at(
     forward: Forward,
     z_dm: i32,
 ) -> Matched
-    ensures { result ≡ Score.matchedAt id number edge n forward z_dm }
+    ensures { result ≡ Score.matched_at id number edge n forward z_dm }
 {
     Matched {
         tile: id,
@@ -282,7 +282,7 @@ pub(crate) fn candidate_at(
     number: u16,
     n: Nearest,
 ) -> Candidate
-    ensures { result ≡ Score.candidateAt q id lon_um bytes.now number n }
+    ensures { result ≡ Score.candidate_at q id lon_um bytes.now number n }
 {
     let edge = tile::raw::edge(bytes, number);
     let header = q.header;

@@ -26,7 +26,7 @@ fn left_of(previous: Current, chosen: Candidate) -> Current
 
 // Whether a candidate is not on the edge just left.
 fn not_left(left: Current, c: Candidate) -> bool
-    ensures { result ≡ Settle.notLeft left c }
+    ensures { result ≡ Settle.not_left left c }
 {
     match left {
         Current::Nothing => true,
@@ -36,7 +36,7 @@ fn not_left(left: Current, c: Candidate) -> bool
 
 // Whether a candidate is another road beside the rider: roads that only start at a node near by say nothing about which one it is.
 fn is_rival(c: Candidate, chosen: Matched, left: Current) -> bool
-    ensures { result ≡ Settle.isRival c chosen left }
+    ensures { result ≡ Settle.is_rival c chosen left }
 {
     if crate::choose::same_edge(c, chosen) {
         return false;
@@ -48,7 +48,7 @@ fn is_rival(c: Candidate, chosen: Matched, left: Current) -> bool
 }
 
 fn rival_step(least: f32, n: usize, i: usize, c: Candidate, chosen: Matched, left: Current) -> f32
-    ensures { result ≡ Settle.rivalStep least n i c chosen left }
+    ensures { result ≡ Settle.rival_step least n i c chosen left }
 {
     if n <= i {
         return least;
@@ -61,7 +61,7 @@ fn rival_step(least: f32, n: usize, i: usize, c: Candidate, chosen: Matched, lef
 
 // The cost of the cheapest other road, infinite where there is none. The places are named one by one, so that what is kept is read where it stands.
 fn runner_up(k: Kept, chosen: Matched, left: Current) -> f32
-    ensures { result ≡ Settle.runnerUp k chosen left }
+    ensures { result ≡ Settle.runner_up k chosen left }
 {
     let n = k.len;
     let mut least: f32 = 1.0 / 0.0;
@@ -117,7 +117,7 @@ fn direction(found: Matched, previous: Current) -> Forward
 
 // Whether a direction was unknown, or is the same now.
 fn goes_on(was: Forward, forward: Forward) -> bool
-    ensures { result ≡ Settle.goesOn was forward }
+    ensures { result ≡ Settle.goes_on was forward }
 {
     match was {
         Forward::Unknown => true,
@@ -130,7 +130,7 @@ fn goes_on(was: Forward, forward: Forward) -> bool
 
 // Whether the match stays on its edge in its direction.
 fn same_run(previous: Current, found: Matched, forward: Forward) -> bool
-    ensures { result ≡ Settle.sameRun previous found forward }
+    ensures { result ≡ Settle.same_run previous found forward }
 {
     match previous {
         Current::Nothing => false,
@@ -160,7 +160,7 @@ fn ridden(forward: Forward, along_m: f32, from_m: f32) -> f32
 }
 
 fn with_figures(m: Matched, forward: Forward, confidence: u8, ridden_m: f32) -> Matched
-    ensures { result ≡ Settle.withFigures m forward confidence ridden_m }
+    ensures { result ≡ Settle.with_figures m forward confidence ridden_m }
 {
     let tile = m.tile;
     Matched {

@@ -8,7 +8,7 @@ use pack::Header;
 
 // Whether the matched edge is one of its tile's.
 fn edge_ok(current: Current) -> bool
-    ensures { result ≡ State.edgeOk current }
+    ensures { result ≡ State.edge_ok current }
 {
     match current {
         Current::Nothing => true,
@@ -21,7 +21,7 @@ fn edge_ok(current: Current) -> bool
 
 // Whether the challenger has beaten the match once at most, and its edge is one of its tile's.
 fn challenger_ok(challenger: Challenger) -> bool
-    ensures { result ≡ State.challengerOk challenger }
+    ensures { result ≡ State.challenger_ok challenger }
 {
     match challenger {
         Challenger::Nothing => true,
@@ -36,7 +36,7 @@ fn challenger_ok(challenger: Challenger) -> bool
 
 // The causes of number 12 in the matcher alone.
 pub fn counts_ok(m: Matcher) -> bool
-    ensures { result ≡ State.countsOk m }
+    ensures { result ≡ State.counts_ok m }
 {
     let current = m.current;
     if !edge_ok(current) {
@@ -48,7 +48,7 @@ pub fn counts_ok(m: Matcher) -> bool
 
 // Whether the matched tile lies in the grid.
 fn key_ok(current: Current, header: Header) -> bool
-    ensures { result ≡ State.keyOk current header }
+    ensures { result ≡ State.key_ok current header }
 {
     match current {
         Current::Nothing => true,
@@ -61,7 +61,7 @@ fn key_ok(current: Current, header: Header) -> bool
 
 // The causes of number 12 in the matcher of a call that is given a header.
 pub fn matcher_ok(m: Matcher, header: Header) -> bool
-    ensures { result ≡ State.matcherOk m header }
+    ensures { result ≡ State.matcher_ok m header }
 {
     if !counts_ok(m) {
         return false;
@@ -72,7 +72,7 @@ pub fn matcher_ok(m: Matcher, header: Header) -> bool
 
 // The causes of number 12 in a call that is given matcher, cache, header and an arena of `size` bytes.
 pub(crate) fn call_ok(m: Matcher, c: Cache, header: Header, size: usize) -> bool
-    ensures { result ≡ State.callOk m c header size }
+    ensures { result ≡ State.call_ok m c header size }
 {
     if !cache::state::cache_ok(c, header, size) {
         return false;
@@ -82,7 +82,7 @@ pub(crate) fn call_ok(m: Matcher, c: Cache, header: Header, size: usize) -> bool
 
 // Whether a heading is none, or a number within 360 degrees either way.
 pub fn heading_ok(heading: Heading) -> bool
-    ensures { result ≡ State.headingOk heading }
+    ensures { result ≡ State.heading_ok heading }
 {
     match heading {
         Heading::Nothing => true,

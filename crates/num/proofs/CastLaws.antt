@@ -1,7 +1,7 @@
--- Laws of the casts, those of a float for any width. A float past an end of the range is cast to that end (`signed_above`, `signed_below`, `unsigned-above`, `unsigned-below`), and one that no test places is cast to 0 (`signed-none`).
--- So a clamp to the range before the cast changes nothing (`signed-clamped`).
--- A cast to fewer bits is the cast to more, held to the smaller range (`signed-held`, `unsigned-held`; of an i64 that the code read, `signed-narrowed`, `unsigned-narrowed`).
--- Then whole numbers by their sign (`as-pos`, `as-neg`), the complement -1 - z (`flip-neg`, `flip-pos`), and the size of `low_bits`.
+-- Laws of the casts, those of a float for any width. A float past an end of the range is cast to that end (`signed_above`, `signed_below`, `unsigned_above`, `unsigned_below`), and one that no test places is cast to 0 (`signed_none`).
+-- So a clamp to the range before the cast changes nothing (`signed_clamped`).
+-- A cast to fewer bits is the cast to more, held to the smaller range (`signed_held`, `unsigned_held`; of an i64 that the code read, `signed_narrowed`, `unsigned_narrowed`).
+-- Then whole numbers by their sign (`as_pos`, `as_neg`), the complement -1 - z (`flip_neg`, `flip_pos`), and the size of `low_bits`.
 use Rattle.std.proofs.Common.{◌≡◌, ℕ, zero, suc, ◌+◌, ◌-◌, ◌*◌, ◌/◌, ◌^◌, ◌<◌, ◌≤◌, min, Bool, true, false, cond, ◌||◌, ltb, ℤ, pos, negsuc, ◌-ℤ◌, neg_ℤ, sym, refl, ap, ◌∙◌, true≢false, mul-pos, le-div_iff_mul-le, div-le_self, arith, pow_pos, pow_mono, to_z-of_z, w64, to_z, of_z, ltb-false, ltb-true, le-ltb, leb-false}
 use lib.Signed.{mag, lt_z, le_z}
 use lib.Ieee.{Float, nan, inf, fin, up, down, lt, le, to_signed, to_unsigned}
@@ -43,29 +43,29 @@ signed_below h (inf false) p q = absurd (true≢false (sym q))
 signed_below h (fin true m e) p q = minus_is (2 ^ h) (pow_pos h) ∙ ap (λ n. neg_ℤ (pos n)) {x = 2 ^ h} {y = min (m * up e / down e) (2 ^ h)} (omega (arith, reaches h m e (or_left _ _ p)))
 signed_below h (fin false m e) p q = absurd (omega (arith, ltb-true (m * up e * 1) (0 * 1 * down e) q))
 
-pub signed-none : (h : ℕ) (x : Float) → le (fin true 1 (pos h)) x ≡ false → lt x (fin false 0 (pos 0)) ≡ false → pos 0 ≡ to_signed h x
+pub signed_none : (h : ℕ) (x : Float) → le (fin true 1 (pos h)) x ≡ false → lt x (fin false 0 (pos 0)) ≡ false → pos 0 ≡ to_signed h x
 unfolding le lt to_signed
-signed-none h nan p q = refl
-signed-none h (inf true) p q = absurd (true≢false q)
-signed-none h (inf false) p q = absurd (true≢false p)
-signed-none h (fin true m e) p q = absurd (omega (arith, reaches h m e (or_left _ _ p), ltb-false 0 (m * up e * 1 + 0 * 1 * down e) q, div-le_self (m * up e) (down e), pow_pos h))
-signed-none h (fin false m e) p q = absurd (omega (arith, ltb-false 0 (1 * 2 ^ h * down e + m * up e * 1) (or_left _ _ p), mul-pos (pow_pos h) (down_pos e)))
+signed_none h nan p q = refl
+signed_none h (inf true) p q = absurd (true≢false q)
+signed_none h (inf false) p q = absurd (true≢false p)
+signed_none h (fin true m e) p q = absurd (omega (arith, reaches h m e (or_left _ _ p), ltb-false 0 (m * up e * 1 + 0 * 1 * down e) q, div-le_self (m * up e) (down e), pow_pos h))
+signed_none h (fin false m e) p q = absurd (omega (arith, ltb-false 0 (1 * 2 ^ h * down e + m * up e * 1) (or_left _ _ p), mul-pos (pow_pos h) (down_pos e)))
 
-pub unsigned-above : (w : ℕ) (x : Float) → lt (fin true 1 (pos 0)) x ≡ true → lt x (fin false 1 (pos w)) ≡ false → 2 ^ w - 1 ≡ to_unsigned w x
+pub unsigned_above : (w : ℕ) (x : Float) → lt (fin true 1 (pos 0)) x ≡ true → lt x (fin false 1 (pos w)) ≡ false → 2 ^ w - 1 ≡ to_unsigned w x
 unfolding lt to_unsigned
-unsigned-above w nan p q = absurd (true≢false (sym p))
-unsigned-above w (inf true) p q = absurd (true≢false q)
-unsigned-above w (inf false) p q = refl
-unsigned-above w (fin true m e) p q = absurd (omega (arith, ltb-false 0 (m * up e * 1 + 1 * 2 ^ w * down e) q, mul-pos (pow_pos w) (down_pos e)))
-unsigned-above w (fin false m e) p q = omega (arith, reaches w m e q)
+unsigned_above w nan p q = absurd (true≢false (sym p))
+unsigned_above w (inf true) p q = absurd (true≢false q)
+unsigned_above w (inf false) p q = refl
+unsigned_above w (fin true m e) p q = absurd (omega (arith, ltb-false 0 (m * up e * 1 + 1 * 2 ^ w * down e) q, mul-pos (pow_pos w) (down_pos e)))
+unsigned_above w (fin false m e) p q = omega (arith, reaches w m e q)
 
-pub unsigned-below : (w : ℕ) (x : Float) → lt (fin true 1 (pos 0)) x ≡ false → 0 ≡ to_unsigned w x
+pub unsigned_below : (w : ℕ) (x : Float) → lt (fin true 1 (pos 0)) x ≡ false → 0 ≡ to_unsigned w x
 unfolding lt to_unsigned
-unsigned-below w nan p = refl
-unsigned-below w (inf true) p = refl
-unsigned-below w (inf false) p = absurd (true≢false p)
-unsigned-below w (fin true m e) p = refl
-unsigned-below w (fin false m e) p = absurd (omega (arith, ltb-false 0 (1 * 1 * down e + m * up e * 1) p, down_pos e))
+unsigned_below w nan p = refl
+unsigned_below w (inf true) p = refl
+unsigned_below w (inf false) p = absurd (true≢false p)
+unsigned_below w (fin true m e) p = refl
+unsigned_below w (fin false m e) p = absurd (omega (arith, ltb-false 0 (1 * 1 * down e + m * up e * 1) p, down_pos e))
 
 -- ---- a float held to the range before the cast, which holds it by itself
 
@@ -97,8 +97,8 @@ module _ (h : ℕ) where
       let far : 2 ^ h - 1 ≤ m * up e / down e = past (2 ^ h - 1) m e (omega (arith, ltb-true ((2 ^ h - 1) * 1 * down e) (m * up e * 1) l)) in
       ap pos {x = min ((2 ^ h - 1) * 1 / 1) (2 ^ h - 1)} {y = min (m * up e / down e) (2 ^ h - 1)} (omega arith)
 
-  pub signed-clamped : (x : Float) → to_signed h (clamp x least most) ≡ to_signed h x
-  signed-clamped x = go (lt x least) (lt most x) refl refl
+  pub signed_clamped : (x : Float) → to_signed h (clamp x least most) ≡ to_signed h x
+  signed_clamped x = go (lt x least) (lt most x) refl refl
     where
       go : (low high : Bool) → lt x least ≡ low → lt most x ≡ high → to_signed h (cond low least (cond high most x)) ≡ to_signed h x
       go true high l g = under x l
@@ -136,51 +136,51 @@ held_none q zero = held_up (pos 0) q 0 0 refl (omega arith)
 held_none q (suc n) = refl
 
 module _ {k h : ℕ} (less : h ≤ k) where
-  pub signed-held : (x : Float) → held (negsuc (2 ^ h - 1)) (pos (2 ^ h - 1)) (to_signed k x) ≡ to_signed h x
+  pub signed_held : (x : Float) → held (negsuc (2 ^ h - 1)) (pos (2 ^ h - 1)) (to_signed k x) ≡ to_signed h x
   unfolding to_signed
-  signed-held nan = held_up (negsuc (2 ^ h - 1)) (2 ^ h - 1) 0 0 refl (omega arith)
-  signed-held (inf true) = held_down (2 ^ h - 1) (2 ^ k) (2 ^ h) (omega (arith, pow_pos h, pow_mono less))
-  signed-held (inf false) = held_up (negsuc (2 ^ h - 1)) (2 ^ h - 1) (2 ^ k - 1) (2 ^ h - 1) refl (omega (arith, pow_mono less))
-  signed-held (fin true m e) = held_down (2 ^ h - 1) (min (m * up e / down e) (2 ^ k)) (min (m * up e / down e) (2 ^ h)) (omega (arith, pow_pos h, pow_mono less))
-  signed-held (fin false m e) = held_up (negsuc (2 ^ h - 1)) (2 ^ h - 1) (min (m * up e / down e) (2 ^ k - 1)) (min (m * up e / down e) (2 ^ h - 1)) refl (omega (arith, pow_mono less))
+  signed_held nan = held_up (negsuc (2 ^ h - 1)) (2 ^ h - 1) 0 0 refl (omega arith)
+  signed_held (inf true) = held_down (2 ^ h - 1) (2 ^ k) (2 ^ h) (omega (arith, pow_pos h, pow_mono less))
+  signed_held (inf false) = held_up (negsuc (2 ^ h - 1)) (2 ^ h - 1) (2 ^ k - 1) (2 ^ h - 1) refl (omega (arith, pow_mono less))
+  signed_held (fin true m e) = held_down (2 ^ h - 1) (min (m * up e / down e) (2 ^ k)) (min (m * up e / down e) (2 ^ h)) (omega (arith, pow_pos h, pow_mono less))
+  signed_held (fin false m e) = held_up (negsuc (2 ^ h - 1)) (2 ^ h - 1) (min (m * up e / down e) (2 ^ k - 1)) (min (m * up e / down e) (2 ^ h - 1)) refl (omega (arith, pow_mono less))
 
-  pub unsigned-held : (x : Float) → held (pos 0) (pos (2 ^ h - 1)) (to_signed k x) ≡ pos (to_unsigned h x)
+  pub unsigned_held : (x : Float) → held (pos 0) (pos (2 ^ h - 1)) (to_signed k x) ≡ pos (to_unsigned h x)
   unfolding to_signed to_unsigned
-  unsigned-held nan = held_up (pos 0) (2 ^ h - 1) 0 0 refl (omega arith)
-  unsigned-held (inf true) = held_none (2 ^ h - 1) (2 ^ k)
-  unsigned-held (inf false) = held_up (pos 0) (2 ^ h - 1) (2 ^ k - 1) (2 ^ h - 1) (none_below (2 ^ k - 1)) (omega (arith, pow_mono less))
-  unsigned-held (fin true m e) = held_none (2 ^ h - 1) (min (m * up e / down e) (2 ^ k))
-  unsigned-held (fin false m e) = held_up (pos 0) (2 ^ h - 1) (min (m * up e / down e) (2 ^ k - 1)) (min (m * up e / down e) (2 ^ h - 1)) (none_below (min (m * up e / down e) (2 ^ k - 1))) (omega (arith, pow_mono less))
+  unsigned_held nan = held_up (pos 0) (2 ^ h - 1) 0 0 refl (omega arith)
+  unsigned_held (inf true) = held_none (2 ^ h - 1) (2 ^ k)
+  unsigned_held (inf false) = held_up (pos 0) (2 ^ h - 1) (2 ^ k - 1) (2 ^ h - 1) (none_below (2 ^ k - 1)) (omega (arith, pow_mono less))
+  unsigned_held (fin true m e) = held_none (2 ^ h - 1) (min (m * up e / down e) (2 ^ k))
+  unsigned_held (fin false m e) = held_up (pos 0) (2 ^ h - 1) (min (m * up e / down e) (2 ^ k - 1)) (min (m * up e / down e) (2 ^ h - 1)) (none_below (min (m * up e / down e) (2 ^ k - 1))) (omega (arith, pow_mono less))
 
 -- the same of the cast to 63 bits and a sign, read back from an i64
 module _ (h : ℕ) (less : h ≤ 63) (x : Float) (t : ℤ) (is : t ≡ to_signed 63 x) where
   read_back : to_z w64 (of_z w64 t) ≡ to_signed 63 x
   read_back = rw is (to_z-of_z {w = w64} (record { sfits = to_signed_in 63 x }))
 
-  pub signed-narrowed : held (negsuc (2 ^ h - 1)) (pos (2 ^ h - 1)) (to_z w64 (of_z w64 t)) ≡ to_signed h x
-  signed-narrowed = rw read_back (signed-held less x)
+  pub signed_narrowed : held (negsuc (2 ^ h - 1)) (pos (2 ^ h - 1)) (to_z w64 (of_z w64 t)) ≡ to_signed h x
+  signed_narrowed = rw read_back (signed_held less x)
 
-  pub unsigned-narrowed : held (pos 0) (pos (2 ^ h - 1)) (to_z w64 (of_z w64 t)) ≡ pos (to_unsigned h x)
-  unsigned-narrowed = rw read_back (unsigned-held less x)
+  pub unsigned_narrowed : held (pos 0) (pos (2 ^ h - 1)) (to_z w64 (of_z w64 t)) ≡ pos (to_unsigned h x)
+  unsigned_narrowed = rw read_back (unsigned_held less x)
 
 -- ---- the low bits of a whole number
 
-pub as-pos : (z : ℤ) → le_z (pos 0) z ≡ true → z ≡ pos (mag z)
-as-pos (pos n) e = refl
-as-pos (negsuc n) e = absurd (true≢false (sym e))
+pub as_pos : (z : ℤ) → le_z (pos 0) z ≡ true → z ≡ pos (mag z)
+as_pos (pos n) e = refl
+as_pos (negsuc n) e = absurd (true≢false (sym e))
 
-pub as-neg : (z : ℤ) → le_z (pos 0) z ≡ false → z ≡ negsuc (mag z)
-as-neg (pos n) e = absurd (omega (arith, leb-false 0 n e))
-as-neg (negsuc n) e = refl
+pub as_neg : (z : ℤ) → le_z (pos 0) z ≡ false → z ≡ negsuc (mag z)
+as_neg (pos n) e = absurd (omega (arith, leb-false 0 n e))
+as_neg (negsuc n) e = refl
 
 -- -1 - z, the complement of the bits
-pub flip-neg : (n : ℕ) → negsuc 0 -ℤ negsuc n ≡ pos n
-flip-neg n = rw (le-ltb (suc n) 1 (omega arith)) (ap pos (omega arith))
+pub flip_neg : (n : ℕ) → negsuc 0 -ℤ negsuc n ≡ pos n
+flip_neg n = rw (le-ltb (suc n) 1 (omega arith)) (ap pos (omega arith))
 
-pub flip-pos : (n : ℕ) → negsuc 0 -ℤ pos n ≡ negsuc n
-flip-pos zero = refl
-flip-pos (suc n) = ap negsuc (omega arith)
+pub flip_pos : (n : ℕ) → negsuc 0 -ℤ pos n ≡ negsuc n
+flip_pos zero = refl
+flip_pos (suc n) = ap negsuc (omega arith)
 
-pub low-bits-lt : (z : ℤ) → low_bits z < 65536
-low-bits-lt (pos n) = omega arith
-low-bits-lt (negsuc n) = omega arith
+pub low_bits-lt : (z : ℤ) → low_bits z < 65536
+low_bits-lt (pos n) = omega arith
+low_bits-lt (negsuc n) = omega arith

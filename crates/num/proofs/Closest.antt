@@ -16,11 +16,11 @@ compare-lt zero (suc b) h = compare.zero-suc b
 compare-lt (suc a) zero h = absurd (omega arith)
 compare-lt (suc a) (suc b) h = compare.suc-suc a b ∙ compare-lt a b (omega arith)
 
-pub compare-gt : (a b : ℕ) → b < a → compare a b ≡ Ordering.gt
-compare-gt zero zero h = absurd (omega arith)
-compare-gt zero (suc b) h = absurd (omega arith)
-compare-gt (suc a) zero h = compare.suc-zero a
-compare-gt (suc a) (suc b) h = compare.suc-suc a b ∙ compare-gt a b (omega arith)
+pub compare_gt : (a b : ℕ) → b < a → compare a b ≡ Ordering.gt
+compare_gt zero zero h = absurd (omega arith)
+compare_gt zero (suc b) h = absurd (omega arith)
+compare_gt (suc a) zero h = compare.suc-zero a
+compare_gt (suc a) (suc b) h = compare.suc-suc a b ∙ compare_gt a b (omega arith)
 
 pub compare_same : (a b : ℕ) → a ≡ b → compare a b ≡ Ordering.eq
 compare_same zero zero h = compare.zero-zero
@@ -40,25 +40,25 @@ module _ (m c cut : ℕ) (next : cut ≡ suc c) where
   rest : m % 2 ^ cut ≡ m / 2 ^ c % 2 * 2 ^ c + m % 2 ^ c
   rest = ap (λ (k : ℕ). m % 2 ^ k) (omega (arith, next)) ∙ mod-pow-add m 1 c
 
-  pub closest-below : m / 2 ^ c % 2 ≡ 0 → m / 2 ^ c / 2 ≡ closest m (2 ^ cut)
-  closest-below h =
+  pub closest_below : m / 2 ^ c % 2 ≡ 0 → m / 2 ^ c / 2 ≡ closest m (2 ^ cut)
+  closest_below h =
       sym (ap₂ nearest whole (compare-lt (m % 2 ^ cut * 2) (2 ^ cut) (omega (arith, unit, rw h at rest, mod-lt m (pow_pos c)))))
 
-  pub closest-above : m / 2 ^ c % 2 ≡ 1 → 0 < m % 2 ^ c → m / 2 ^ c / 2 + 1 ≡ closest m (2 ^ cut)
-  closest-above h l = add-one (m / 2 ^ c / 2) ∙ sym (ap₂ nearest whole (compare-gt (m % 2 ^ cut * 2) (2 ^ cut) (omega (arith, unit, rw h at rest))))
+  pub closest_above : m / 2 ^ c % 2 ≡ 1 → 0 < m % 2 ^ c → m / 2 ^ c / 2 + 1 ≡ closest m (2 ^ cut)
+  closest_above h l = add-one (m / 2 ^ c / 2) ∙ sym (ap₂ nearest whole (compare_gt (m % 2 ^ cut * 2) (2 ^ cut) (omega (arith, unit, rw h at rest))))
 
-  pub closest-tie : m / 2 ^ c % 2 ≡ 1 → m % 2 ^ c ≡ 0 → m / 2 ^ c / 2 + m / 2 ^ c / 2 % 2 ≡ closest m (2 ^ cut)
-  closest-tie h l = sym (ap₂ nearest whole (compare_same (m % 2 ^ cut * 2) (2 ^ cut) (omega (arith, unit, rw h at rest))))
+  pub closest_tie : m / 2 ^ c % 2 ≡ 1 → m % 2 ^ c ≡ 0 → m / 2 ^ c / 2 + m / 2 ^ c / 2 % 2 ≡ closest m (2 ^ cut)
+  closest_tie h l = sym (ap₂ nearest whole (compare_same (m % 2 ^ cut * 2) (2 ^ cut) (omega (arith, unit, rw h at rest))))
 
 -- ---- how large it is
 
-pub closest-none : (m b : ℕ) → m * 2 < b → closest m b ≡ 0
-closest-none m b h =
+pub closest_none : (m b : ℕ) → m * 2 < b → closest m b ≡ 0
+closest_none m b h =
     let l : m < b = omega arith in
     ap₂ nearest (div-eq_of_lt l) (ap (λ (x : ℕ). compare (x * 2) b) (mod-eq_of_lt l) ∙ compare-lt (m * 2) b h)
 
-pub closest-ge : (m b q : ℕ) → q ≤ m / b → q ≤ closest m b
-closest-ge m b q h = omega (arith, nearest-ge (m / b) (compare (m % b * 2) b))
+pub closest_ge : (m b q : ℕ) → q ≤ m / b → q ≤ closest m b
+closest_ge m b q h = omega (arith, nearest-ge (m / b) (compare (m % b * 2) b))
 
 pub closest-le : (m b q : ℕ) → m / b < q → closest m b ≤ q
 closest-le m b q h = omega (arith, nearest-le (m / b) (compare (m % b * 2) b))

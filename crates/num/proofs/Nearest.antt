@@ -1,4 +1,4 @@
--- `nearestTo n i`, the single float nearest to n * 2 ^ i / 2 ^ 1074, from n's 64 leading digits: m = n * 2 ^ z, where z is the count of n's leading zeros, and
+-- `nearest_to n i`, the single float nearest to n * 2 ^ i / 2 ^ 1074, from n's 64 leading digits: m = n * 2 ^ z, where z is the count of n's leading zeros, and
 -- t = 64 - z + i, the number of digits of n * 2 ^ i. Of these the float keeps 24 and drops t - 949, or keeps fewer where its exponent is the least.
 use Rattle.std.proofs.Common.{◌≡◌, ℕ, zero, suc, ◌+◌, ◌-◌, ◌*◌, ◌/◌, ◌^◌, ◌<◌, ◌≤◌, Bool, true, false, cond, not, ltb, pos, negsuc, sym, refl, ap, ◌∙◌, ap₂, lt_of_lt_of_le, mul-le-mul_right, mul_assoc, div-lt_iff_lt-mul, mul-le-mul, mul-lt-mul_of_pos_right, mul-pos, pow-suc, le-div_iff_mul-le, zero-mul, mul-one, add-one, arith, pow_pos, pow_mono, pow-add, shl_lt, ltb-false, ltb-true}
 use lib.Count.{count_leading_zeros, leading_top}
@@ -7,9 +7,9 @@ use lib.Ieee.Digits.{size-le}
 use lib.Ieee.Fits.{round_is}
 use lib.Ieee.Nearest.{closest, closest_same, div_same}
 use lib.Ieee.Scale.{round_same}
-use Rattle.num.specs.Convert.{nearestTo}
-use Rattle.num.proofs.Closest.{closest-none, closest-ge, closest-le}
-use Rattle.num.proofs.Pattern.{size_exact, units-over, infinity, pattern, pattern-small}
+use Rattle.num.specs.Convert.{nearest_to}
+use Rattle.num.proofs.Closest.{closest_none, closest_ge, closest-le}
+use Rattle.num.proofs.Pattern.{size_exact, units_over, infinity, pattern, pattern_small}
 
 -- ---- powers of two
 
@@ -22,8 +22,8 @@ joined m a b c d e h =
     ∙ sym (mul_assoc m (2 ^ d) (2 ^ e))
 
 -- a number of 64 bits without its leading zeros
-pub leading-up : (n : ℕ) → 0 < n → n < 2 ^ 64 → (count_leading_zeros 64 n < 64) × ((2 ^ 63 ≤ n * 2 ^ count_leading_zeros 64 n) × (n * 2 ^ count_leading_zeros 64 n < 2 ^ 64))
-leading-up n h l =
+pub leading_up : (n : ℕ) → 0 < n → n < 2 ^ 64 → (count_leading_zeros 64 n < 64) × ((2 ^ 63 ≤ n * 2 ^ count_leading_zeros 64 n) × (n * 2 ^ count_leading_zeros 64 n < 2 ^ 64))
+leading_up n h l =
     let z : ℕ = count_leading_zeros 64 n in
     let d = leading_top 64 n h l in
     let e : d.0 + z ≡ 63 = omega (arith, d.1) in
@@ -74,9 +74,9 @@ cut : (t : ℕ) → t + 149 + (40 + (949 - t)) ≡ 1138 + (t - 949)
 cut t = omega arith
 
 module _ (n i z t : ℕ) (e : z + t ≡ 64 + i) (lo : 2 ^ 63 ≤ n * 2 ^ z) (hi : n * 2 ^ z < 2 ^ 64) where
-  pub nearest-units : nearestTo n i ≡ units binary32 false (closest (n * 2 ^ z) (2 ^ (40 + (949 - t)))) (t - 949)
-  unfolding nearestTo
-  nearest-units =
+  pub nearest_units : nearest_to n i ≡ units binary32 false (closest (n * 2 ^ z) (2 ^ (40 + (949 - t)))) (t - 949)
+  unfolding nearest_to
+  nearest_units =
       let m : ℕ = n * 2 ^ z in
       let k : ℕ = t - 949 in
       let c : ℕ = 40 + (949 - t) in
@@ -89,24 +89,24 @@ module _ (n i z t : ℕ) (e : z + t ≡ 64 + i) (lo : 2 ^ 63 ≤ n * 2 ^ z) (hi 
 
   -- from 2 ^ 23 of the smallest floats on
 
-  pub kept-normal : (2 ^ 23 ≤ closest (n * 2 ^ z) (2 ^ 40)) × (closest (n * 2 ^ z) (2 ^ 40) ≤ 2 ^ 24)
-  kept-normal = (closest-ge (n * 2 ^ z) (2 ^ 40) (2 ^ 23) (omega arith), closest-le (n * 2 ^ z) (2 ^ 40) (2 ^ 24) (omega arith))
+  pub kept_normal : (2 ^ 23 ≤ closest (n * 2 ^ z) (2 ^ 40)) × (closest (n * 2 ^ z) (2 ^ 40) ≤ 2 ^ 24)
+  kept_normal = (closest_ge (n * 2 ^ z) (2 ^ 40) (2 ^ 23) (omega arith), closest-le (n * 2 ^ z) (2 ^ 40) (2 ^ 24) (omega arith))
 
-  units-normal : 949 ≤ t → units binary32 false (closest (n * 2 ^ z) (2 ^ 40)) (t - 949) ≡ nearestTo n i
-  units-normal h =
+  units_normal : 949 ≤ t → units binary32 false (closest (n * 2 ^ z) (2 ^ 40)) (t - 949) ≡ nearest_to n i
+  units_normal h =
       let c : 40 ≡ 40 + (949 - t) = omega arith in
-      ap (λ (x : ℕ). units binary32 false (closest (n * 2 ^ z) (2 ^ x)) (t - 949)) c ∙ sym nearest-units
+      ap (λ (x : ℕ). units binary32 false (closest (n * 2 ^ z) (2 ^ x)) (t - 949)) c ∙ sym nearest_units
 
-  pub bits-normal : 949 ≤ t → t < 1203 → of_bits binary32 ((t - 949) * 8388608 + closest (n * 2 ^ z) (2 ^ 40)) ≡ nearestTo n i
-  bits-normal h l =
+  pub bits_normal : 949 ≤ t → t < 1203 → of_bits binary32 ((t - 949) * 8388608 + closest (n * 2 ^ z) (2 ^ 40)) ≡ nearest_to n i
+  bits_normal h l =
       let k : t - 949 < 254 = omega arith in
-      pattern (closest (n * 2 ^ z) (2 ^ 40)) (t - 949) kept-normal.0 kept-normal.1 k ∙ units-normal h
+      pattern (closest (n * 2 ^ z) (2 ^ 40)) (t - 949) kept_normal.0 kept_normal.1 k ∙ units_normal h
 
-  pub bits_above : 1203 ≤ t → of_bits binary32 2139095040 ≡ nearestTo n i
+  pub bits_above : 1203 ≤ t → of_bits binary32 2139095040 ≡ nearest_to n i
   bits_above h =
       let l : 949 ≤ t = omega arith in
       let k : 254 ≤ t - 949 = omega arith in
-      infinity ∙ sym (units-over (closest (n * 2 ^ z) (2 ^ 40)) (t - 949) (mul-le-mul kept-normal.0 (pow_mono k))) ∙ units-normal l
+      infinity ∙ sym (units_over (closest (n * 2 ^ z) (2 ^ 40)) (t - 949) (mul-le-mul kept_normal.0 (pow_mono k))) ∙ units_normal l
 
   -- and below
 
@@ -115,30 +115,30 @@ module _ (n i z t : ℕ) (e : z + t ≡ 64 + i) (lo : 2 ^ 63 ≤ n * 2 ^ z) (hi 
       let p : 2 ^ 41 ≤ 2 ^ (989 - t) = pow_mono {i = 41} (omega arith) in
       closest-le (n * 2 ^ z) (2 ^ (989 - t)) (2 ^ 23) ((div-lt_iff_lt-mul (pow_pos (989 - t))).1 (omega arith))
 
-  pub bits_small : t < 949 → of_bits binary32 (closest (n * 2 ^ z) (2 ^ (989 - t))) ≡ nearestTo n i
+  pub bits_small : t < 949 → of_bits binary32 (closest (n * 2 ^ z) (2 ^ (989 - t))) ≡ nearest_to n i
   bits_small h =
       let c : 989 - t ≡ 40 + (949 - t) = omega arith in
       let k : 0 ≡ t - 949 = omega arith in
-      pattern-small (closest (n * 2 ^ z) (2 ^ (989 - t))) (omega (arith, kept_small h))
+      pattern_small (closest (n * 2 ^ z) (2 ^ (989 - t))) (omega (arith, kept_small h))
       ∙ ap₂ (λ (x k : ℕ). units binary32 false (closest (n * 2 ^ z) (2 ^ x)) k) c k
-      ∙ sym nearest-units
+      ∙ sym nearest_units
 
-  pub bits_none : t < 925 → of_bits binary32 0 ≡ nearestTo n i
+  pub bits_none : t < 925 → of_bits binary32 0 ≡ nearest_to n i
   bits_none h =
       let p : 2 ^ 65 ≤ 2 ^ (989 - t) = pow_mono {i = 65} (omega arith) in
       let l : t < 949 = omega arith in
-      ap (of_bits binary32) (sym (closest-none (n * 2 ^ z) (2 ^ (989 - t)) (omega arith))) ∙ bits_small l
+      ap (of_bits binary32) (sym (closest_none (n * 2 ^ z) (2 ^ (989 - t)) (omega arith))) ∙ bits_small l
 
-pub nearest_zero : (i : ℕ) → of_bits binary32 0 ≡ nearestTo 0 i
-unfolding nearestTo of_bits
+pub nearest_zero : (i : ℕ) → of_bits binary32 0 ≡ nearest_to 0 i
+unfolding nearest_to of_bits
 nearest_zero i =
     sym (ap (λ (x : ℕ). round binary32 false x (2 ^ 1074)) (zero-mul (2 ^ i)) ∙ round_same binary32 false 0 (2 ^ 1074) 0 1 (pow_pos 1074) (pow_pos 0) refl ∙ (unfold round in refl))
 
 -- ---- whole numbers
 
-pub nearest-whole : (n : ℕ) → nearestTo n 1074 ≡ of_int binary32 (pos n)
-unfolding nearestTo of_int
-nearest-whole n = round_same binary32 false (n * 2 ^ 1074) (2 ^ 1074) n 1 (pow_pos 1074) (pow_pos 0) (mul-one (n * 2 ^ 1074))
+pub nearest_whole : (n : ℕ) → nearest_to n 1074 ≡ of_int binary32 (pos n)
+unfolding nearest_to of_int
+nearest_whole n = round_same binary32 false (n * 2 ^ 1074) (2 ^ 1074) n 1 (pow_pos 1074) (pow_pos 0) (mul-one (n * 2 ^ 1074))
 
 -- ---- the sign goes through the rounding
 
@@ -160,6 +160,6 @@ round-neg f s a b =
     let k : ℕ = size (a * 2 ^ low f / b) - prec f in
     ap neg (round_is f s a b) ∙ neg-units f s (closest (a * 2 ^ low f) (b * 2 ^ k)) k ∙ sym (round_is f (not s) a b)
 
-pub nearest_negative : (k : ℕ) → neg (nearestTo (k + 1) 1074) ≡ of_int binary32 (negsuc k)
+pub nearest_negative : (k : ℕ) → neg (nearest_to (k + 1) 1074) ≡ of_int binary32 (negsuc k)
 nearest_negative k =
-    ap (λ (n : ℕ). neg (nearestTo n 1074)) (add-one k) ∙ ap neg (nearest-whole (suc k)) ∙ (unfold of_int in round-neg binary32 false (suc k) 1)
+    ap (λ (n : ℕ). neg (nearest_to n 1074)) (add-one k) ∙ ap neg (nearest_whole (suc k)) ∙ (unfold of_int in round-neg binary32 false (suc k) 1)

@@ -1,5 +1,5 @@
--- A part of a float, from none of it to all of it, is no larger than the float (`part-no-larger`), and is cast to a whole number no larger than any that bounds the float (`part-cast`).
--- The idea: a fraction that is no larger than a value of the format rounds to a value that is no larger either, whatever the signs are (`round-within`); a product
+-- A part of a float, from none of it to all of it, is no larger than the float (`part_no_larger`), and is cast to a whole number no larger than any that bounds the float (`part_cast`).
+-- The idea: a fraction that is no larger than a value of the format rounds to a value that is no larger either, whatever the signs are (`round_within`); a product
 -- by a part is such a fraction.
 use Rattle.std.proofs.Common.{◌≡◌, ℕ, zero, suc, ◌+◌, ◌-◌, ◌*◌, ◌/◌, ◌%◌, ◌^◌, ◌<◌, ◌≤◌, min, Bool, true, false, cond, ◌&&◌, ◌||◌, T, eqb, ltb, leb, ◌⊎◌, ℤ, pos, negsuc, neg_ℤ, nat_abs, sym, refl, ap, ◌∙◌, subst, ⊎_elim, true≢false, le_trans, le_of_eq, lt_of_lt_of_le, lt_of_le_of_lt, lt_irrefl, mul-le-mul_right, mul_assoc, mul_comm, div-lt_iff_lt-mul, mul-le-mul, mul-lt-mul_of_pos_right, mul-pos, zero-mul, mul-one, mul_right_comm, not-le_of_lt, le_of_mul-le-mul_right, mul-div_cancel, arith, ltb→lt, leb→le, pow_pos, pow_mono, pow-add, shl_lt, ltb-true, eqb-true, leb-false, leb-true}
 use Prim.Native.Nat.compare
@@ -17,15 +17,15 @@ use lib.Ieee.Scale.{grid, overflow, finite}
 
 -- ---- a fraction of at most q * 2 ^ j units rounds to at most as many
 
-below-any : (u : ℕ) → 0 < u → compare 0 u ≡ Ordering.lt
-below-any zero h = absurd (lt_irrefl 0 h)
-below-any (suc u) h = compare.zero-suc u
+below_any : (u : ℕ) → 0 < u → compare 0 u ≡ Ordering.lt
+below_any zero h = absurd (lt_irrefl 0 h)
+below_any (suc u) h = compare.zero-suc u
 
-closest-whole : (w u : ℕ) → 0 < u → closest (w * u) u ≡ w
-closest-whole w u U =
+closest_whole : (w u : ℕ) → 0 < u → closest (w * u) u ≡ w
+closest_whole w u U =
     ap (λ (x : ℕ). nearest x (compare (w * u % u * 2) u)) (mul-div_cancel w U)
     ∙ ap (λ (x : ℕ). nearest w (compare (x * 2) u)) (mul-mod_left w u)
-    ∙ ap (λ (o : Ordering). nearest w o) (below-any u U)
+    ∙ ap (λ (o : Ordering). nearest w o) (below_any u U)
 
 spare : (z p j : ℕ) → z ≤ p + j → z - p ≤ j
 spare z p j h = omega arith
@@ -59,10 +59,10 @@ module _ (f : Format) (a c q j : ℕ) (C : 0 < c) (small : q < 2 ^ prec f) (boun
   kept-le : kept (prec f) scaled c ≤ whole
   kept-le =
       le_trans (closest_mono scaled (c * 2 ^ dropped) (whole * 2 ^ dropped) (2 ^ dropped) (mul-pos C (pow_pos dropped)) (pow_pos dropped) cross)
-      (le_of_eq (closest-whole whole (2 ^ dropped) (pow_pos dropped)))
+      (le_of_eq (closest_whole whole (2 ^ dropped) (pow_pos dropped)))
 
-  grid-below : grid f a c ≤ q * 2 ^ j
-  grid-below = le_trans (mul-le-mul_right (2 ^ dropped) kept-le) (le_of_eq whole_is)
+  grid_below : grid f a c ≤ q * 2 ^ j
+  grid_below = le_trans (mul-le-mul_right (2 ^ dropped) kept-le) (le_of_eq whole_is)
 
 -- ---- a float of at most v units in size
 
@@ -70,13 +70,13 @@ pub record Within (f : Format) (v : ℕ) (x : Float) : Type 0 where
   pub is_finite : T (finite x)
   pub size : num x * 2 ^ low f ≤ v * den x
 
-of-value : (f : Format) (s : Bool) (g v : ℕ) (x : Float) → HasValue x s g (2 ^ low f) → g ≤ v → Within f v x
-of-value f s g v nan h l = absurd h
-of-value f s g v (inf t) h l = absurd h
-of-value f s g v (fin t m e) h l = record { is_finite = tt; size = le_trans (le_of_eq h.1) (mul-le-mul_right (down e) l) }
+of_value : (f : Format) (s : Bool) (g v : ℕ) (x : Float) → HasValue x s g (2 ^ low f) → g ≤ v → Within f v x
+of_value f s g v nan h l = absurd h
+of_value f s g v (inf t) h l = absurd h
+of_value f s g v (fin t m e) h l = record { is_finite = tt; size = le_trans (le_of_eq h.1) (mul-le-mul_right (down e) l) }
 
-round-value : (f : Format) (s : Bool) (a c : ℕ) → grid f a c < overflow f → HasValue (round f s a c) s (grid f a c) (2 ^ low f)
-round-value f s a c h =
+round_value : (f : Format) (s : Bool) (a c : ℕ) → grid f a c < overflow f → HasValue (round f s a c) s (grid f a c) (2 ^ low f)
+round_value f s a c h =
     subst (λ (z : Float). HasValue z s (grid f a c) (2 ^ low f)) (sym (round_is f s a c))
     (units_val f s (kept (prec f) (a * 2 ^ low f) c) (drop (prec f) (a * 2 ^ low f) c) h)
 
@@ -85,15 +85,15 @@ pub record Value (f : Format) (q j : ℕ) : Type 0 where
   pub digits : q < 2 ^ prec f
   pub below : q * 2 ^ j < overflow f
 
-pub round-within : (f : Format) (s : Bool) (a c q j : ℕ) → 0 < c → Value f q j → a * 2 ^ low f ≤ q * 2 ^ j * c → Within f (q * 2 ^ j) (round f s a c)
-round-within f s a c q j C value bound =
-    let few : grid f a c ≤ q * 2 ^ j = grid-below f a c q j C value.digits bound in
-    of-value f s (grid f a c) (q * 2 ^ j) (round f s a c) (round-value f s a c (lt_of_le_of_lt few value.below)) few
+pub round_within : (f : Format) (s : Bool) (a c q j : ℕ) → 0 < c → Value f q j → a * 2 ^ low f ≤ q * 2 ^ j * c → Within f (q * 2 ^ j) (round f s a c)
+round_within f s a c q j C value bound =
+    let few : grid f a c ≤ q * 2 ^ j = grid_below f a c q j C value.digits bound in
+    of_value f s (grid f a c) (q * 2 ^ j) (round f s a c) (round_value f s a c (lt_of_le_of_lt few value.below)) few
 
-pub int-within : (f : Format) (z : ℤ) (q j : ℕ) → Value f q j → nat_abs z * 2 ^ low f ≤ q * 2 ^ j → Within f (q * 2 ^ j) (of_int f z)
+pub int_within : (f : Format) (z : ℤ) (q j : ℕ) → Value f q j → nat_abs z * 2 ^ low f ≤ q * 2 ^ j → Within f (q * 2 ^ j) (of_int f z)
 unfolding of_int
-int-within f (pos n) q j value bound = round-within f false n 1 q j (pow_pos 0) value (le_trans bound (le_of_eq (sym (mul-one (q * 2 ^ j)))))
-int-within f (negsuc n) q j value bound = round-within f true (suc n) 1 q j (pow_pos 0) value (le_trans bound (le_of_eq (sym (mul-one (q * 2 ^ j)))))
+int_within f (pos n) q j value bound = round_within f false n 1 q j (pow_pos 0) value (le_trans bound (le_of_eq (sym (mul-one (q * 2 ^ j)))))
+int_within f (negsuc n) q j value bound = round_within f true (suc n) 1 q j (pow_pos 0) value (le_trans bound (le_of_eq (sym (mul-one (q * 2 ^ j)))))
 
 -- ---- a part: from 0 to 1
 
@@ -103,14 +103,14 @@ pub record Part (t : Float) : Type 0 where
   pub size : num t ≤ den t
 
 -- the sign of a product
-abbrev mul-sign : Float → Float → Bool
-mul-sign nan y = false
-mul-sign (inf s) y = false
-mul-sign (fin s m e) nan = false
-mul-sign (fin s m e) (inf t) = false
-mul-sign (fin s m e) (fin t n d) = unlike s t
+abbrev mul_sign : Float → Float → Bool
+mul_sign nan y = false
+mul_sign (inf s) y = false
+mul_sign (fin s m e) nan = false
+mul_sign (fin s m e) (inf t) = false
+mul_sign (fin s m e) (fin t n d) = unlike s t
 
-mul-round : (f : Format) (x t : Float) → T (finite x) → T (finite t) → mul f x t ≡ round f (mul-sign x t) (num x * num t) (den x * den t)
+mul-round : (f : Format) (x t : Float) → T (finite x) → T (finite t) → mul f x t ≡ round f (mul_sign x t) (num x * num t) (den x * den t)
 unfolding mul
 mul-round f nan t p q = absurd p
 mul-round f (inf s) t p q = absurd p
@@ -118,10 +118,10 @@ mul-round f (fin s m e) nan p q = absurd q
 mul-round f (fin s m e) (inf t) p q = absurd q
 mul-round f (fin s m e) (fin t n d) p q = refl
 
-pub part-within : (f : Format) (x t : Float) (q j : ℕ) → Value f q j → Within f (q * 2 ^ j) x → Part t → Within f (q * 2 ^ j) (mul f x t)
-part-within f x t q j value within part =
+pub part_within : (f : Format) (x t : Float) (q j : ℕ) → Value f q j → Within f (q * 2 ^ j) x → Part t → Within f (q * 2 ^ j) (mul f x t)
+part_within f x t q j value within part =
     subst (λ (y : Float). Within f (q * 2 ^ j) y) (sym (mul-round f x t within.is_finite part.is_finite))
-    (round-within f (mul-sign x t) (num x * num t) (den x * den t) q j (mul-pos (den_pos x) (den_pos t)) value
+    (round_within f (mul_sign x t) (num x * num t) (den x * den t) q j (mul-pos (den_pos x) (den_pos t)) value
     (le_trans (le_of_eq (mul_right_comm (num x) (num t) (2 ^ low f)))
     (le_trans (mul-le-mul within.size part.size) (le_of_eq (mul_assoc (q * 2 ^ j) (den x) (den t))))))
 
@@ -131,9 +131,9 @@ zero_is : of_int binary32 (pos 0) ≡ fin false 0 (pos 0)
 unfolding of_int
 zero_is = refl
 
-one-is : of_int binary32 (pos 1) ≡ fin false 1 (pos 0)
+one_is : of_int binary32 (pos 1) ≡ fin false 1 (pos 0)
 unfolding of_int
-one-is = refl
+one_is = refl
 
 -- ±a / 1 at most 1 / 1, by the test or by being nothing
 at_most : (a b : ℕ) (x y : Bool) → (ltb a b || (eqb a b && (x || y))) ≡ true → a ≤ b
@@ -164,31 +164,31 @@ abbrev pub IsPart : Float → Type 0
 IsPart t = (t ≡ nan) ⊎ ((le (of_int binary32 (pos 0)) t ≡ true) × (le t (of_int binary32 (pos 1)) ≡ true))
 
 pub part_of : (t : Float) → le (of_int binary32 (pos 0)) t ≡ true → le t (of_int binary32 (pos 1)) ≡ true → Part t
-part_of t p q = tested t (rw zero_is at p) (rw one-is at q)
+part_of t p q = tested t (rw zero_is at p) (rw one_is at q)
 
 -- ---- the cast of a float within a whole number
 
-suc-above : (n : ℕ) → n < suc n
-suc-above n = omega arith
+suc_above : (n : ℕ) → n < suc n
+suc_above n = omega arith
 
-le-of-lt-suc : {a n : ℕ} → a < suc n → a ≤ n
-le-of-lt-suc h = omega arith
+le_of_lt_suc : {a n : ℕ} → a < suc n → a ≤ n
+le_of_lt_suc h = omega arith
 
-either-small : (s : Bool) (a b n : ℕ) → a ≤ n → b ≤ n → nat_abs (cond s (neg_ℤ (pos a)) (pos b)) ≤ n
-either-small true zero b n p q = omega arith
-either-small true (suc a) b n p q = p
-either-small false a b n p q = q
+either_small : (s : Bool) (a b n : ℕ) → a ≤ n → b ≤ n → nat_abs (cond s (neg_ℤ (pos a)) (pos b)) ≤ n
+either_small true zero b n p q = omega arith
+either_small true (suc a) b n p q = p
+either_small false a b n p q = q
 
-pub cast-within : (f : Format) (h n : ℕ) (x : Float) → Within f (n * 2 ^ low f) x → nat_abs (to_signed h x) ≤ n
+pub cast_within : (f : Format) (h n : ℕ) (x : Float) → Within f (n * 2 ^ low f) x → nat_abs (to_signed h x) ≤ n
 unfolding to_signed
-cast-within f h n nan w = absurd w.is_finite
-cast-within f h n (inf s) w = absurd w.is_finite
-cast-within f h n (fin s m e) w =
+cast_within f h n nan w = absurd w.is_finite
+cast_within f h n (inf s) w = absurd w.is_finite
+cast_within f h n (fin s m e) w =
     let whole : m * up e ≤ n * down e
     = le_of_mul-le-mul_right (le_trans w.size (le_of_eq (mul_right_comm n (2 ^ low f) (down e)))) (pow_pos (low f)) in
     let cut : m * up e / down e ≤ n
-    = le-of-lt-suc ((div-lt_iff_lt-mul (down_pos e)).1 (lt_of_le_of_lt whole (mul-lt-mul_of_pos_right (suc-above n) (down_pos e)))) in
-    either-small s (min (m * up e / down e) (2 ^ h)) (min (m * up e / down e) (2 ^ h - 1)) n (omega arith) (omega arith)
+    = le_of_lt_suc ((div-lt_iff_lt-mul (down_pos e)).1 (lt_of_le_of_lt whole (mul-lt-mul_of_pos_right (suc_above n) (down_pos e)))) in
+    either_small s (min (m * up e / down e) (2 ^ h)) (min (m * up e / down e) (2 ^ h - 1)) n (omega arith) (omega arith)
 
 mul-nan : (f : Format) (x : Float) → mul f x nan ≡ nan
 unfolding mul
@@ -196,16 +196,16 @@ mul-nan f nan = refl
 mul-nan f (inf s) = refl
 mul-nan f (fin s m e) = refl
 
-cast-nan : (h n : ℕ) → nat_abs (to_signed h nan) ≤ n
+cast_nan : (h n : ℕ) → nat_abs (to_signed h nan) ≤ n
 unfolding to_signed
-cast-nan h n = omega arith
+cast_nan h n = omega arith
 
 -- q * 2 ^ i as units: a whole number of the format, for an i that leaves it finite
-as-units : (f : Format) (q i : ℕ) → q * 2 ^ i * 2 ^ low f ≡ q * 2 ^ (i + low f)
-as-units f q i = mul_assoc q (2 ^ i) (2 ^ low f) ∙ ap (λ (x : ℕ). q * x) (sym (pow-add 2 i (low f)))
+as_units : (f : Format) (q i : ℕ) → q * 2 ^ i * 2 ^ low f ≡ q * 2 ^ (i + low f)
+as_units f q i = mul_assoc q (2 ^ i) (2 ^ low f) ∙ ap (λ (x : ℕ). q * x) (sym (pow-add 2 i (low f)))
 
-whole-value : (f : Format) (q i : ℕ) → q < 2 ^ prec f → prec f + i ≤ suc (emax f) → Value f q (i + low f)
-whole-value f q i digits room = record {
+whole_value : (f : Format) (q i : ℕ) → q < 2 ^ prec f → prec f + i ≤ suc (emax f) → Value f q (i + low f)
+whole_value f q i digits room = record {
   digits = digits;
   below = lt_of_lt_of_le (shl_lt (prec f) (i + low f) digits) (pow_mono (fits_in (prec f) i (low f) (suc (emax f)) room));
 }
@@ -214,19 +214,19 @@ whole-value f q i digits room = record {
     fits_in p k l m h = omega arith
 
 module _ (z : ℤ) (t : Float) (q i : ℕ) (digits : q < 2 ^ 24) (room : 24 + i ≤ 128) (bound : nat_abs z ≤ q * 2 ^ i) where
-  int-bound : Within binary32 (q * 2 ^ (i + low binary32)) (of_int binary32 z)
-  int-bound =
-      int-within binary32 z q (i + low binary32) (whole-value binary32 q i digits room)
-      (le_trans (mul-le-mul_right (2 ^ low binary32) bound) (le_of_eq (as-units binary32 q i)))
+  int_bound : Within binary32 (q * 2 ^ (i + low binary32)) (of_int binary32 z)
+  int_bound =
+      int_within binary32 z q (i + low binary32) (whole_value binary32 q i digits room)
+      (le_trans (mul-le-mul_right (2 ^ low binary32) bound) (le_of_eq (as_units binary32 q i)))
 
   -- document 01's heights and places part of the way: a whole number within q * 2 ^ i as a float, a part of it, cut toward zero, is within that too
-  pub part-cast : IsPart t → nat_abs (to_signed 31 (mul binary32 (of_int binary32 z) t)) ≤ q * 2 ^ i
-  part-cast part =
-      ⊎_elim (λ (e : t ≡ nan). rw (e, mul-nan binary32 (of_int binary32 z)) (cast-nan 31 (q * 2 ^ i)))
+  pub part_cast : IsPart t → nat_abs (to_signed 31 (mul binary32 (of_int binary32 z) t)) ≤ q * 2 ^ i
+  part_cast part =
+      ⊎_elim (λ (e : t ≡ nan). rw (e, mul-nan binary32 (of_int binary32 z)) (cast_nan 31 (q * 2 ^ i)))
       (λ (e : (le (of_int binary32 (pos 0)) t ≡ true) × (le t (of_int binary32 (pos 1)) ≡ true)).
-      cast-within binary32 31 (q * 2 ^ i) (mul binary32 (of_int binary32 z) t)
-      (rw (as-units binary32 q i)
-      (part-within binary32 (of_int binary32 z) t q (i + low binary32) (whole-value binary32 q i digits room) int-bound (part_of t e.0 e.1))))
+      cast_within binary32 31 (q * 2 ^ i) (mul binary32 (of_int binary32 z) t)
+      (rw (as_units binary32 q i)
+      (part_within binary32 (of_int binary32 z) t q (i + low binary32) (whole_value binary32 q i digits room) int_bound (part_of t e.0 e.1))))
       part
 
 -- ---- the law itself: a float that its format holds, and any part of it
@@ -261,11 +261,11 @@ some f s m (pos k) digits fine below = record {
   value = record {
     digits = digits;
     below =
-        subst (λ (x : ℕ). x < overflow f) (as-units f m k)
+        subst (λ (x : ℕ). x < overflow f) (as_units f m k)
         (lt_of_lt_of_le (mul-lt-mul_of_pos_right (lt_of_lt_of_le below (le_of_eq (mul-one (2 ^ suc (emax f))))) (pow_pos (low f)))
         (le_of_eq (mul_comm (2 ^ suc (emax f)) (2 ^ low f) ∙ sym (pow-add 2 (low f) (suc (emax f))))));
   };
-  is = as-units f m k ∙ sym (mul-one (m * 2 ^ (k + low f)));
+  is = as_units f m k ∙ sym (mul-one (m * 2 ^ (k + low f)));
 }
 some f s m (negsuc k) digits fine below =
     let room : suc k ≤ low f = exponent (suc k) (low f) fine in record {
@@ -295,13 +295,13 @@ own f (fin s (suc m) e) p h =
     (ltb→lt (suc m * up e) (2 ^ suc (emax f) * down e) (and_r (o && a && b) c h))
 
 -- for a finite x and a t from 0 to 1, x * t is finite and at most x in size
-pub part-no-larger : (f : Format) (x t : Float) → T (finite x) → T (fits f x) → Part t
+pub part_no_larger : (f : Format) (x t : Float) → T (finite x) → T (fits f x) → Part t
     → T (finite (mul f x t)) × (num (mul f x t) * den x ≤ num x * den (mul f x t))
-part-no-larger f x t p h part =
+part_no_larger f x t p h part =
     let o = own f x p h in
     let v : ℕ = o.q * 2 ^ o.j in
     let y : Float = mul f x t in
-    let w : Within f v y = part-within f x t o.q o.j o.value (record { is_finite = p; size = le_of_eq o.is }) part in (
+    let w : Within f v y = part_within f x t o.q o.j o.value (record { is_finite = p; size = le_of_eq o.is }) part in (
       w.is_finite,
       le_of_mul-le-mul_right
           (le_trans (le_of_eq (mul_right_comm (num y) (den x) (2 ^ low f)))

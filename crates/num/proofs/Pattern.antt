@@ -35,19 +35,19 @@ dropped q k lo hi =
     let b : q * 2 ^ k < 2 ^ suc (23 + k) = omega (arith, pow-suc 2 (23 + k), pow-add 2 23 k, mul-lt-mul_of_pos_right hi (pow_pos k)) in
     omega (arith, size_exact (23 + k) (q * 2 ^ k) a b)
 
-units-fit : (q k : ℕ) → q ≤ 2 ^ 24 → q * 2 ^ k < 2 ^ 277 → T (fits binary32 (units binary32 false q k))
+units_fit : (q k : ℕ) → q ≤ 2 ^ 24 → q * 2 ^ k < 2 ^ 277 → T (fits binary32 (units binary32 false q k))
 unfolding units
-units-fit q k h l =
+units_fit q k h l =
     cond-fits binary32 (ltb (q * 2 ^ k) (2 ^ 277)) (odd 25 false q k 149) (inf false) (odd-fits binary32 25 false q k (omega arith) h l) (inf-fits binary32 false)
 
 own : (q k b : ℕ) → q ≤ 2 ^ 24 → q * 2 ^ k < 2 ^ 277 → to_bits binary32 (units binary32 false q k) ≡ b → of_bits binary32 b ≡ units binary32 false q k
-own q k b h l e = ap (of_bits binary32) (sym e) ∙ of_bits-to_bits binary32 (units binary32 false q k) (units-fit q k h l)
+own q k b h l e = ap (of_bits binary32) (sym e) ∙ of_bits-to_bits binary32 (units binary32 false q k) (units_fit q k h l)
 
 -- ---- from 2 ^ 128 on
 
-pub units-over : (q k : ℕ) → 2 ^ 277 ≤ q * 2 ^ k → units binary32 false q k ≡ inf false
+pub units_over : (q k : ℕ) → 2 ^ 277 ≤ q * 2 ^ k → units binary32 false q k ≡ inf false
 unfolding units
-units-over q k h = ap (λ (b : Bool). cond b (odd 25 false q k 149) (inf false)) (le-ltb (q * 2 ^ k) (2 ^ 277) h)
+units_over q k h = ap (λ (b : Bool). cond b (odd 25 false q k 149) (inf false)) (le-ltb (q * 2 ^ k) (2 ^ 277) h)
 
 pub infinity : of_bits binary32 2139095040 ≡ inf false
 unfolding of_bits
@@ -55,8 +55,8 @@ infinity = refl
 
 -- ---- the patterns
 
-pub pattern-small : (q : ℕ) → q < 2 ^ 24 → of_bits binary32 q ≡ units binary32 false q 0
-pattern-small q h =
+pub pattern_small : (q : ℕ) → q < 2 ^ 24 → of_bits binary32 q ≡ units binary32 false q 0
+pattern_small q h =
     let e : q * 2 ^ 0 ≡ q = mul-one q in
     let l : q * 2 ^ 0 < 2 ^ 277 = lt_of_lt_of_le (shl_lt 24 0 h) (pow_mono {i = 24} {j = 277} (omega arith)) in
     own q 0 q (omega arith) l (bits_at (units binary32 false q 0) (q * 2 ^ 0) q 0 (units_val binary32 false q 0 l) refl (omega (arith, size-le (q * 2 ^ 0) 24 (shl_lt 24 0 h))) ∙ omega arith)
@@ -86,7 +86,7 @@ pattern q k lo hi g =
     last : of_bits binary32 (k * 8388608 + 2 ^ 24) ≡ units binary32 false (2 ^ 24) k
     last =
         elim (eq-or-lt_of_le {n = k} {m = 253} (omega arith)) [
-          | inl e ↦ subst (λ (x : ℕ). of_bits binary32 (x * 8388608 + 2 ^ 24) ≡ units binary32 false (2 ^ 24) x) (sym e) (infinity ∙ sym (units-over (2 ^ 24) 253 (le_refl (2 ^ 277))))
+          | inl e ↦ subst (λ (x : ℕ). of_bits binary32 (x * 8388608 + 2 ^ 24) ≡ units binary32 false (2 ^ 24) x) (sym e) (infinity ∙ sym (units_over (2 ^ 24) 253 (le_refl (2 ^ 277))))
           | inr l ↦ carried k l
         ]
 

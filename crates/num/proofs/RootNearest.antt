@@ -4,7 +4,7 @@ use Prim.Native.Nat.{compare, Ordering}
 use native.Mathlib.Nat.{lt-mul-div-succ}
 use lib.Dec.{is_le, compare_is_eq}
 use lib.Ieee.{Format, prec, size, nearest, units}
-use Rattle.num.specs.Root.{square, wholeRoot, nearRoot}
+use Rattle.num.specs.Root.{square, whole_root, near_root}
 use Rattle.num.proofs.RootLaws.{IsRoot, root_is}
 
 -- four times n lies between the squares of twice a unit's half below and above x, in units of p
@@ -56,17 +56,17 @@ module _ (n r p : ℕ) (h : 0 < p) (w : IsRoot n r) where
       go Ordering.eq e = tie (q % 2) (omega arith) (eqb-true (4 * n) mid (ap compare_is_eq e))
       go Ordering.gt e = high (le_of_lt (leb-false (4 * n) mid (ap is_le e)))
 
--- what `nearRoot` takes of the root of n: so many digits are dropped, and this significand is kept, in units of 2 ^ dropped
+-- what `near_root` takes of the root of n: so many digits are dropped, and this significand is kept, in units of 2 ^ dropped
 abbrev pub dropped : Format → ℕ → ℕ
-dropped f n = size (wholeRoot n) - prec f
+dropped f n = size (whole_root n) - prec f
 
 abbrev pub kept : Format → ℕ → ℕ
 kept f n =
     let p = 2 ^ dropped f n in
-    let q = wholeRoot n / p in
+    let q = whole_root n / p in
     nearest q (compare (4 * n) (square ((2 * q + 1) * p)))
 
 -- the root lies within half a unit of the significand that is kept
-pub root-nearest : (f : Format) (n : ℕ) → (nearRoot f n ≡ units f false (kept f n) (dropped f n)) × Near n (2 ^ dropped f n) (kept f n)
-unfolding nearRoot
-root-nearest f n = (refl, near n (wholeRoot n) (2 ^ dropped f n) (pow_pos (dropped f n)) (root_is n))
+pub root_nearest : (f : Format) (n : ℕ) → (near_root f n ≡ units f false (kept f n) (dropped f n)) × Near n (2 ^ dropped f n) (kept f n)
+unfolding near_root
+root_nearest f n = (refl, near n (whole_root n) (2 ^ dropped f n) (pow_pos (dropped f n)) (root_is n))

@@ -1,5 +1,5 @@
 -- Rust's `min`, `max`, `clamp`, `total_cmp`, sign and finiteness of floats, and libm's `fabsf`.
--- Where document 01 leaves something open it is fixed here: of two zeros, `min` and `max` give the first argument; not-a-number has no sign, and comes last in `totalCmp`.
+-- Where document 01 leaves something open it is fixed here: of two zeros, `min` and `max` give the first argument; not-a-number has no sign, and comes last in `total_cmp`.
 use Rattle.std.specs.Prelude.{Bool, true, false, cond, is_nan, Float}
 use Rattle.std.specs.Float.{nan, inf, fin}
 use Rattle.std.specs.Float.Ieee.{lt, eq}
@@ -29,10 +29,10 @@ is_finite nan = false
 is_finite (inf s) = false
 is_finite (fin s m e) = true
 
-abbrev pub isSignNegative : Float → Bool
-isSignNegative nan = false
-isSignNegative (inf s) = s
-isSignNegative (fin s m e) = s
+abbrev pub is_sign_negative : Float → Bool
+is_sign_negative nan = false
+is_sign_negative (inf s) = s
+is_sign_negative (fin s m e) = s
 
 -- of two equal values: only the two zeros differ in sign, and -0 comes first
 abbrev pub by_sign : Bool → Bool → Ordering
@@ -42,11 +42,11 @@ by_sign false true = Greater
 by_sign false false = Equal
 
 -- where one at least is not-a-number: the flags say which
-abbrev pub byNan : Bool → Bool → Ordering
-byNan true true = Equal
-byNan true false = Greater
-byNan false b = Less
+abbrev pub by_nan : Bool → Bool → Ordering
+by_nan true true = Equal
+by_nan true false = Greater
+by_nan false b = Less
 
 -- IEEE 754, 5.10, totalOrder
-abbrev pub totalCmp : Float → Float → Ordering
-totalCmp a b = cond (lt a b) Less (cond (lt b a) Greater (cond (eq a b) (by_sign (isSignNegative a) (isSignNegative b)) (byNan (is_nan a) (is_nan b))))
+abbrev pub total_cmp : Float → Float → Ordering
+total_cmp a b = cond (lt a b) Less (cond (lt b a) Greater (cond (eq a b) (by_sign (is_sign_negative a) (is_sign_negative b)) (by_nan (is_nan a) (is_nan b))))

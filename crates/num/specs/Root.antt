@@ -11,29 +11,29 @@ square r = r * r
 abbrev pub digit : ℕ → ℕ → ℕ
 digit n r = cond (nat_le (square (2 * r + 1)) n) (2 * r + 1) (2 * r)
 
-unfoldable pub rootIn : ℕ → ℕ → ℕ
-rootIn zero n = 0
-rootIn (suc d) n = digit n (rootIn d (n / 4))
+unfoldable pub root_in : ℕ → ℕ → ℕ
+root_in zero n = 0
+root_in (suc d) n = digit n (root_in d (n / 4))
 
--- the largest r whose square is no more than n (`root-low`, `root-high`)
-unfoldable pub wholeRoot : ℕ → ℕ
-wholeRoot n = rootIn (size n) n
+-- the largest r whose square is no more than n (`root_low`, `root_high`)
+unfoldable pub whole_root : ℕ → ℕ
+whole_root n = root_in (size n) n
 
 -- The value of the format nearest to the root of n, where n counts squares of the format's smallest value.
 -- Of the whole root r the format keeps the `prec` leading digits, q, and drops k. The root is nearer to q + 1 than to q, in units of 2 ^ k,
 -- where its square n is more than that of q + 1/2; and at a tie the even one is taken.
-unfoldable pub nearRoot : Format → ℕ → Float
-nearRoot f n =
-    let r = wholeRoot n in
+unfoldable pub near_root : Format → ℕ → Float
+near_root f n =
+    let r = whole_root n in
     let k = size r - prec f in
     let q = r / 2 ^ k in
     units f false (nearest q (compare (4 * n) (square ((2 * q + 1) * 2 ^ k)))) k
 
 -- IEEE 754, squareRoot: of -0 it is -0, and of what is below 0 it is not a number
-unfoldable pub squareRoot : Format → Float → Float
-squareRoot f nan = nan
-squareRoot f (inf false) = inf false
-squareRoot f (inf true) = nan
-squareRoot f (fin s zero e) = fin s zero e
-squareRoot f (fin true (suc m) e) = nan
-squareRoot f (fin false (suc m) e) = nearRoot f (suc m * up e * 2 ^ (2 * low f) / down e)
+unfoldable pub square_root : Format → Float → Float
+square_root f nan = nan
+square_root f (inf false) = inf false
+square_root f (inf true) = nan
+square_root f (fin s zero e) = fin s zero e
+square_root f (fin true (suc m) e) = nan
+square_root f (fin false (suc m) e) = near_root f (suc m * up e * 2 ^ (2 * low f) / down e)

@@ -3,7 +3,7 @@ ghost use Rattle.std.specs.Prelude.{◌≡◌, ◌^◌, ◌<◌, ◌≤◌, pos,
 ghost use Rattle.std.specs.Float.{binary32, binary64};
 ghost use Rattle.std.specs.Float.Ieee.{of_int};
 ghost use Rattle.std.specs.Float.Ieee.Nearest.{closest};
-ghost use Rattle.num.specs.Convert.{nearestTo, narrow};
+ghost use Rattle.num.specs.Convert.{nearest_to, narrow};
 
 // m without its `cut` low binary digits, rounded to nearest, ties to even. One digit more than is kept tells the halves apart, and what lies below it a tie.
 fn kept(m: u64, cut: u64) -> u64
@@ -25,7 +25,7 @@ fn kept(m: u64, cut: u64) -> u64
 // A float's digits are 24, fewer where its exponent is the least; from 2 ^ 128 on it is the infinity.
 fn nearest_bits(n: u64, i: u64) -> u32
     requires { (0 < n) × (i < 2 ^ 32) }
-    ensures { (from_bits binary32 result ≡ nearestTo n i) × (result ≤ 2139095040) }
+    ensures { (from_bits binary32 result ≡ nearest_to n i) × (result ≤ 2139095040) }
 {
     let zeros = u64::leading_zeros(n) as u64;
     let top = 64 - zeros + i;
@@ -44,7 +44,7 @@ fn nearest_bits(n: u64, i: u64) -> u32
 
 // The single float nearest to n * 2 ^ i / 2 ^ 1074: every whole number of 64 bits, scaled by any power of two that a double has.
 pub fn nearest(n: u64, i: u32) -> f32
-    ensures { result ≡ nearestTo n i }
+    ensures { result ≡ nearest_to n i }
 {
     if n == 0 {
         return 0.0;

@@ -45,7 +45,7 @@ pub fn clamp(x: f32, lo: f32, hi: f32) -> f32
 
 // Rust's `x.is_sign_negative()`.
 pub fn is_sign_negative(x: f32) -> bool
-    ensures { result ≡ Order.isSignNegative x }
+    ensures { result ≡ Order.is_sign_negative x }
 {
     if x != x {
         return false;
@@ -75,7 +75,7 @@ pub fn is_finite(x: f32) -> bool
 
 // Of two equal values: -0 before +0.
 fn by_sign(a: f32, b: f32) -> Ordering
-    ensures { result ≡ Order.by_sign (Order.isSignNegative a) (Order.isSignNegative b) }
+    ensures { result ≡ Order.by_sign (Order.is_sign_negative a) (Order.is_sign_negative b) }
 {
     if is_sign_negative(a) {
         if is_sign_negative(b) {
@@ -91,7 +91,7 @@ fn by_sign(a: f32, b: f32) -> Ordering
 
 // Rust's `a.total_cmp(&b)`.
 pub fn total_cmp(a: f32, b: f32) -> Ordering
-    ensures { result ≡ Order.totalCmp a b }
+    ensures { result ≡ Order.total_cmp a b }
 {
     if a < b {
         return Ordering::Less;

@@ -2,7 +2,7 @@
 // value's digits so far are carried, never the value. Each digit of the root takes two of the value's.
 ghost use Rattle.std.specs.Prelude.{◌≡◌, ◌+◌, ◌*◌, ◌^◌, ◌<◌, ◌≤◌, ◌⊎◌, from_bits};
 ghost use Rattle.std.specs.Float.{binary32};
-ghost use Rattle.num.specs.Root.{square, wholeRoot, nearRoot, squareRoot};
+ghost use Rattle.num.specs.Root.{square, whole_root, near_root, square_root};
 
 // A whole root, and the remainder: what its number has above the root's square, at most twice the root.
 #[derive(Drop)]
@@ -54,7 +54,7 @@ fn longer(p: Parts, b: u32, high: u32, low: u32) -> Parts
 // The whole root, of 25 digits, of x * 2 ^ 24, of which no number holds the 49 or 50 digits: 4, 3, 6 and 12 of the root's, for 8, 6, 12 and 24 of them.
 fn root_of(x: u32) -> u32
     requires { (16777216 ≤ x) × (x < 67108864) }
-    ensures { result ≡ wholeRoot (x * 16777216) }
+    ensures { result ≡ whole_root (x * 16777216) }
 {
     let four = first(x / 0x4_0000);
     let seven = longer(four, 8, x / 0x8000 % 8, x / 0x1000 % 8);
@@ -67,7 +67,7 @@ fn root_of(x: u32) -> u32
 // and no tie can occur, since the square of a midpoint is odd.
 fn rounded(m: u32, s: u32) -> u32
     requires { (0 < m) × ((m < 16777216) × (s ≤ 253)) }
-    ensures { (from_bits binary32 result ≡ nearRoot binary32 (m * 2 ^ s * 2 ^ 149)) × (result < 2139095040) }
+    ensures { (from_bits binary32 result ≡ near_root binary32 (m * 2 ^ s * 2 ^ 149)) × (result < 2139095040) }
 {
     let digits = 32 - u32::leading_zeros(m);
     let t = s + digits;
@@ -78,7 +78,7 @@ fn rounded(m: u32, s: u32) -> u32
 // The pattern of the root, of the pattern of a positive finite value.
 fn root_bits(b: u32) -> u32
     requires { (0 < b) × (b < 2139095040) }
-    ensures { (from_bits binary32 result ≡ squareRoot binary32 (from_bits binary32 b)) × (result < 2139095040) }
+    ensures { (from_bits binary32 result ≡ square_root binary32 (from_bits binary32 b)) × (result < 2139095040) }
 {
     let field = b / 0x80_0000;
     let low = b % 0x80_0000;
@@ -90,7 +90,7 @@ fn root_bits(b: u32) -> u32
 
 // libm's sqrtf.
 pub fn sqrt(x: f32) -> f32
-    ensures { result ≡ squareRoot binary32 x }
+    ensures { result ≡ square_root binary32 x }
 {
     if x != x {
         return x;

@@ -13,9 +13,9 @@ use lib.ListN.{length, take, drop, get_or, get_or-eq_default}
 use lib.Seq.{get_or-take, get_or-drop}
 use lib.Signed.{le_z, lt_z}
 use borrow.Author.Tests.{ltb-true, leb-true, eqb-true, eqb-false}
-use Rattle.pack.specs.Bytes.{u16At, u32_at, u64At}
-use Rattle.pack.specs.Sector.{all_of, header_at, isMagic, isVersion, isSum, spans, rulesOf, rules, refused, parse}
-use Rattle.pack.specs.Grid.{inGrid, within, natural, floorOf, checkedOf, key_of, cornerOf, entry_of, locateOf, read}
+use Rattle.pack.specs.Bytes.{u16_at, u32_at, u64_at}
+use Rattle.pack.specs.Sector.{all_of, header_at, is_magic, is_version, is_sum, spans, rules_of, rules, refused, parse}
+use Rattle.pack.specs.Grid.{in_grid, within, natural, floor_of, checked_of, key_of, corner_of, entry_of, locate_of, read}
 use Rattle.pack.specs.declared.Header.{Header}
 use Rattle.pack.specs.declared.TileKey.{TileKey}
 use Rattle.pack.specs.declared.Parsed.{Parsed}
@@ -27,51 +27,51 @@ use Rattle.pack.proofs.Signed.{add, le-true, le_yes, lt_no}
 
 -- ---- numbers past the end
 
-pub u16-past : (bs : List ℕ) (at : ℕ) → length bs ≤ at → u16At bs at ≡ 0
-unfolding u16At
-u16-past bs at h =
+pub u16_past : (bs : List ℕ) (at : ℕ) → length bs ≤ at → u16_at bs at ≡ 0
+unfolding u16_at
+u16_past bs at h =
     let h2 : length bs ≤ at + 1 = omega arith in
     rw (get_or-eq_default bs 0 h, get_or-eq_default bs 0 h2)
 
-pub u32-past : (bs : List ℕ) (at : ℕ) → length bs ≤ at → u32_at bs at ≡ 0
+pub u32_past : (bs : List ℕ) (at : ℕ) → length bs ≤ at → u32_at bs at ≡ 0
 unfolding u32_at
-u32-past bs at h =
+u32_past bs at h =
     let h2 : length bs ≤ at + 2 = omega arith in
-    rw (u16-past bs at h, u16-past bs (at + 2) h2)
+    rw (u16_past bs at h, u16_past bs (at + 2) h2)
 
-pub u64-past : (bs : List ℕ) (at : ℕ) → length bs ≤ at → u64At bs at ≡ 0
-unfolding u64At
-u64-past bs at h =
+pub u64_past : (bs : List ℕ) (at : ℕ) → length bs ≤ at → u64_at bs at ≡ 0
+unfolding u64_at
+u64_past bs at h =
     let h2 : length bs ≤ at + 4 = omega arith in
-    rw (u32-past bs at h, u32-past bs (at + 4) h2)
+    rw (u32_past bs at h, u32_past bs (at + 4) h2)
 
 -- ---- and their size, of bytes below 256
 
 module _ (bs : List ℕ) (bytes : (i : ℕ) → get_or bs i 0 < 256) where
-  pub u16-below : (at : ℕ) → u16At bs at < 65536
-  unfolding u16At
-  u16-below at = omega (arith, bytes at, bytes (at + 1))
+  pub u16_below : (at : ℕ) → u16_at bs at < 65536
+  unfolding u16_at
+  u16_below at = omega (arith, bytes at, bytes (at + 1))
 
-  pub u32-below : (at : ℕ) → u32_at bs at < 2 ^ 32
+  pub u32_below : (at : ℕ) → u32_at bs at < 2 ^ 32
   unfolding u32_at
-  u32-below at = omega (arith, u16-below at, u16-below (at + 2))
+  u32_below at = omega (arith, u16_below at, u16_below (at + 2))
 
-  pub u64-below : (at : ℕ) → u64At bs at < 2 ^ 64
-  unfolding u64At
-  u64-below at = omega (arith, u32-below at, u32-below (at + 4))
+  pub u64_below : (at : ℕ) → u64_at bs at < 2 ^ 64
+  unfolding u64_at
+  u64_below at = omega (arith, u32_below at, u32_below (at + 4))
 
 -- ---- a number read out of n bytes from `at` on stands in all of them that much further
 
-byte-slice : (bs : List ℕ) (at n i k : ℕ) → i < n → at + i ≡ k → get_or (take n (drop at bs)) i 0 ≡ get_or bs k 0
-byte-slice bs at n i k h e = get_or-take n (drop at bs) i 0 h ∙ get_or-drop at bs i 0 ∙ ap (λ (j : ℕ). get_or bs j 0) e
+byte_slice : (bs : List ℕ) (at n i k : ℕ) → i < n → at + i ≡ k → get_or (take n (drop at bs)) i 0 ≡ get_or bs k 0
+byte_slice bs at n i k h e = get_or-take n (drop at bs) i 0 h ∙ get_or-drop at bs i 0 ∙ ap (λ (j : ℕ). get_or bs j 0) e
 
-pub u16-slice : (bs : List ℕ) (at n i k : ℕ) → i + 2 ≤ n → at + i ≡ k → u16At (take n (drop at bs)) i ≡ u16At bs k
-unfolding u16At
-u16-slice bs at n i k h e = rw (byte-slice bs at n i k (omega arith) e, byte-slice bs at n (i + 1) (k + 1) (omega arith) (omega arith))
+pub u16_slice : (bs : List ℕ) (at n i k : ℕ) → i + 2 ≤ n → at + i ≡ k → u16_at (take n (drop at bs)) i ≡ u16_at bs k
+unfolding u16_at
+u16_slice bs at n i k h e = rw (byte_slice bs at n i k (omega arith) e, byte_slice bs at n (i + 1) (k + 1) (omega arith) (omega arith))
 
-pub u32-slice : (bs : List ℕ) (at n i k : ℕ) → i + 4 ≤ n → at + i ≡ k → u32_at (take n (drop at bs)) i ≡ u32_at bs k
+pub u32_slice : (bs : List ℕ) (at n i k : ℕ) → i + 4 ≤ n → at + i ≡ k → u32_at (take n (drop at bs)) i ≡ u32_at bs k
 unfolding u32_at
-u32-slice bs at n i k h e = rw (u16-slice bs at n i k (omega arith) e, u16-slice bs at n (i + 2) (k + 2) (omega arith) (omega arith))
+u32_slice bs at n i k h e = rw (u16_slice bs at n i k (omega arith) e, u16_slice bs at n (i + 2) (k + 2) (omega arith) (omega arith))
 
 -- ---- a list of clauses
 
@@ -83,9 +83,9 @@ pub and_right : (a b : Bool) → (a && b) ≡ true → b ≡ true
 and_right true b e = e
 and_right false b e = absurd (true≢false (sym e))
 
-pub and-not : (a b : Bool) → b ≡ false → (a && b) ≡ false
-and-not true b e = e
-and-not false b e = refl
+pub and_not : (a b : Bool) → b ≡ false → (a && b) ≡ false
+and_not true b e = e
+and_not false b e = refl
 
 -- the clause at k of a list that holds
 pub clause : (k : ℕ) (bs : List Bool) → all_of bs ≡ true → get_or bs k true ≡ true
@@ -97,43 +97,43 @@ clause (suc k) (b ∷ bs) e = clause k bs (and_right b (all_of bs) e)
 pub broken : (k : ℕ) (bs : List Bool) → get_or bs k true ≡ false → all_of bs ≡ false
 broken k [] e = absurd (true≢false e)
 broken zero (b ∷ bs) e = rw e
-broken (suc k) (b ∷ bs) e = and-not b (all_of bs) (broken k bs e)
+broken (suc k) (b ∷ bs) e = and_not b (all_of bs) (broken k bs e)
 
 -- ---- a header within its rules, or not
 
 -- by the rule at k that it breaks
-pub rule-broken : (h : Header) (k : ℕ) → get_or (rulesOf h) k true ≡ false → rules h ≡ false
+pub rule_broken : (h : Header) (k : ℕ) → get_or (rules_of h) k true ≡ false → rules h ≡ false
 unfolding rules
-rule-broken h k e = broken k (rulesOf h) e
+rule_broken h k e = broken k (rules_of h) e
 
 module _ (h : Header) (ok : rules h ≡ true) where
-  rule : (k : ℕ) → get_or (rulesOf h) k true ≡ true
+  rule : (k : ℕ) → get_or (rules_of h) k true ≡ true
   unfolding rules
-  rule k = clause k (rulesOf h) ok
+  rule k = clause k (rules_of h) ok
 
-  pub rule-tile : (1 ≤ h.tile) × (h.tile ≤ 65535)
-  rule-tile = (
+  pub rule_tile : (1 ≤ h.tile) × (h.tile ≤ 65535)
+  rule_tile = (
     leb-true 1 h.tile (and_left (leb 1 h.tile) (leb h.tile 65535) (rule 0)),
     leb-true h.tile 65535 (and_right (leb 1 h.tile) (leb h.tile 65535) (rule 0)),
   )
 
-  pub rule-rows : 0 < h.rows
-  rule-rows = ltb-true 0 h.rows (rule 1)
+  pub rule_rows : 0 < h.rows
+  rule_rows = ltb-true 0 h.rows (rule 1)
 
-  pub rule-cols : 0 < h.cols
-  rule-cols = ltb-true 0 h.cols (rule 2)
+  pub rule_cols : 0 < h.cols
+  rule_cols = ltb-true 0 h.cols (rule 2)
 
-  pub rule-south : spans h.south h.rows h.tile ≡ true
-  rule-south = rule 3
+  pub rule_south : spans h.south h.rows h.tile ≡ true
+  rule_south = rule 3
 
-  pub rule-west : spans h.west h.cols h.tile ≡ true
-  rule-west = rule 4
+  pub rule_west : spans h.west h.cols h.tile ≡ true
+  rule_west = rule 4
 
-  pub rule-directory : h.directory + h.rows * h.cols * 8 ≡ h.«data»
-  rule-directory = eqb-true (h.directory + h.rows * h.cols * 8) h.«data» (rule 5)
+  pub rule_directory : h.directory + h.rows * h.cols * 8 ≡ h.«data»
+  rule_directory = eqb-true (h.directory + h.rows * h.cols * 8) h.«data» (rule 5)
 
-  pub rule-data : h.«data» ≤ h.total
-  rule-data = leb-true h.«data» h.total (rule 6)
+  pub rule_data : h.«data» ≤ h.total
+  rule_data = leb-true h.«data» h.total (rule 6)
 
 -- ---- corners and directory entries of its tiles
 
@@ -145,97 +145,97 @@ module _ (from : ℤ) (tiles size n : ℕ) (s : spans from tiles size ≡ true) 
   high : le_z (from +ℤ pos (tiles * size)) (pos 360000000) ≡ true
   high = and_right (le_z (negsuc 359999999) from) (le_z (from +ℤ pos (tiles * size)) (pos 360000000)) s
 
-  pub side-within : (le_z (negsuc 359999999) (from +ℤ pos (n * size)) ≡ true) × (le_z (from +ℤ pos (n * size)) (pos 360000000) ≡ true)
-  side-within =
+  pub side_within : (le_z (negsuc 359999999) (from +ℤ pos (n * size)) ≡ true) × (le_z (from +ℤ pos (n * size)) (pos 360000000) ≡ true)
+  side_within =
       let sum = add from (pos (n * size)) in (
         le_yes (negsuc 359999999) (from +ℤ pos (n * size)) (omega (arith, le-true (negsuc 359999999) from low)),
         le_yes (from +ℤ pos (n * size)) (pos 360000000)
             (omega (arith, le-true (from +ℤ pos (tiles * size)) (pos 360000000) high, add from (pos (tiles * size)), mul-le-mul_right size few)),
       )
 
-  pub side-exact : lt_z (pos 2147483647) (from +ℤ pos (n * size)) ≡ false
-  side-exact =
+  pub side_exact : lt_z (pos 2147483647) (from +ℤ pos (n * size)) ≡ false
+  side_exact =
       lt_no (pos 2147483647) (from +ℤ pos (n * size))
-      (omega (arith, le-true (from +ℤ pos (n * size)) (pos 360000000) side-within.1))
+      (omega (arith, le-true (from +ℤ pos (n * size)) (pos 360000000) side_within.1))
 
-pub row_below : (h : Header) (k : TileKey) → inGrid h k ≡ true → k.row < h.rows
+pub row_below : (h : Header) (k : TileKey) → in_grid h k ≡ true → k.row < h.rows
 row_below h k e = ltb-true k.row h.rows (and_left (ltb k.row h.rows) (ltb k.col h.cols) e)
 
-pub col-below : (h : Header) (k : TileKey) → inGrid h k ≡ true → k.col < h.cols
-col-below h k e = ltb-true k.col h.cols (and_right (ltb k.row h.rows) (ltb k.col h.cols) e)
+pub col_below : (h : Header) (k : TileKey) → in_grid h k ≡ true → k.col < h.cols
+col_below h k e = ltb-true k.col h.cols (and_right (ltb k.row h.rows) (ltb k.col h.cols) e)
 
-module _ (h : Header) (k : TileKey) (ok : rules h ≡ true) (in-grid : inGrid h k ≡ true) where
+module _ (h : Header) (k : TileKey) (ok : rules h ≡ true) (is_in_grid : in_grid h k ≡ true) where
   rows_left : k.row ≤ h.rows
-  rows_left = omega (arith, row_below h k in-grid)
+  rows_left = omega (arith, row_below h k is_in_grid)
 
-  cols-left : k.col ≤ h.cols
-  cols-left = omega (arith, col-below h k in-grid)
+  cols_left : k.col ≤ h.cols
+  cols_left = omega (arith, col_below h k is_in_grid)
 
   -- nothing is held back
-  pub corner-exact : cornerOf h k ≡ record { south = h.south +ℤ pos (k.row * h.tile); west = h.west +ℤ pos (k.col * h.tile) }
-  unfolding cornerOf
-  corner-exact =
+  pub corner_exact : corner_of h k ≡ record { south = h.south +ℤ pos (k.row * h.tile); west = h.west +ℤ pos (k.col * h.tile) }
+  unfolding corner_of
+  corner_exact =
       rw (
-        side-exact h.south h.rows h.tile k.row (rule-south h ok) rows_left,
-        side-exact h.west h.cols h.tile k.col (rule-west h ok) cols-left,
+        side_exact h.south h.rows h.tile k.row (rule_south h ok) rows_left,
+        side_exact h.west h.cols h.tile k.col (rule_west h ok) cols_left,
       )
 
-  pub corner-south : (le_z (negsuc 359999999) (cornerOf h k).south ≡ true) × (le_z (cornerOf h k).south (pos 360000000) ≡ true)
-  corner-south = rw corner-exact (side-within h.south h.rows h.tile k.row (rule-south h ok) rows_left)
+  pub corner_south : (le_z (negsuc 359999999) (corner_of h k).south ≡ true) × (le_z (corner_of h k).south (pos 360000000) ≡ true)
+  corner_south = rw corner_exact (side_within h.south h.rows h.tile k.row (rule_south h ok) rows_left)
 
-  pub corner-west : (le_z (negsuc 359999999) (cornerOf h k).west ≡ true) × (le_z (cornerOf h k).west (pos 360000000) ≡ true)
-  corner-west = rw corner-exact (side-within h.west h.cols h.tile k.col (rule-west h ok) cols-left)
+  pub corner_west : (le_z (negsuc 359999999) (corner_of h k).west ≡ true) × (le_z (corner_of h k).west (pos 360000000) ≡ true)
+  corner_west = rw corner_exact (side_within h.west h.cols h.tile k.col (rule_west h ok) cols_left)
 
   -- an entry lies within the directory
-  pub entry-within : (h.directory ≤ entry_of h k) × (entry_of h k + 8 ≤ h.«data»)
+  pub entry_within : (h.directory ≤ entry_of h k) × (entry_of h k + 8 ≤ h.«data»)
   unfolding entry_of
-  entry-within =
-      let next : k.row + 1 ≤ h.rows = omega (arith, row_below h k in-grid) in
+  entry_within =
+      let next : k.row + 1 ≤ h.rows = omega (arith, row_below h k is_in_grid) in
       let rows = mul-le-mul_right h.cols next in
-      (omega arith, omega (arith, rule-directory h ok, col-below h k in-grid))
+      (omega arith, omega (arith, rule_directory h ok, col_below h k is_in_grid))
 
 -- ---- keys lie in the grid
 
-within-below : (z : ℤ) (n : ℕ) → within z n ≡ true → ltb (natural z) n ≡ true
-within-below (pos a) n e = and_right (le_z (pos 0) (pos a)) (ltb a n) e
-within-below (negsuc a) n e = absurd (true≢false (sym e))
+within_below : (z : ℤ) (n : ℕ) → within z n ≡ true → ltb (natural z) n ≡ true
+within_below (pos a) n e = and_right (le_z (pos 0) (pos a)) (ltb a n) e
+within_below (negsuc a) n e = absurd (true≢false (sym e))
 
-pub checked-in-grid : (h : Header) (row col : ℤ) {k : TileKey} → checkedOf h row col ≡ Keyed.In k → inGrid h k ≡ true
-unfolding checkedOf
-checked-in-grid h row col {k} e = go (within row h.rows && within col h.cols) refl e
+pub checked_in_grid : (h : Header) (row col : ℤ) {k : TileKey} → checked_of h row col ≡ Keyed.In k → in_grid h k ≡ true
+unfolding checked_of
+checked_in_grid h row col {k} e = go (within row h.rows && within col h.cols) refl e
   where
     found : TileKey
     found = record { row = natural row; col = natural col }
 
-    go : (t : Bool) → (within row h.rows && within col h.cols) ≡ t → cond t (Keyed.In found) Keyed.Outside ≡ Keyed.In k → inGrid h k ≡ true
+    go : (t : Bool) → (within row h.rows && within col h.cols) ≡ t → cond t (Keyed.In found) Keyed.Outside ≡ Keyed.In k → in_grid h k ≡ true
     go true q r =
         let same : found ≡ k = cc in
-        rw (← same, within-below row h.rows (and_left (within row h.rows) (within col h.cols) q))
-        (within-below col h.cols (and_right (within row h.rows) (within col h.cols) q))
+        rw (← same, within_below row h.rows (and_left (within row h.rows) (within col h.cols) q))
+        (within_below col h.cols (and_right (within row h.rows) (within col h.cols) q))
     go false q r = let z : ◌≡◌ {A = ℕ} 0 1 = cc in absurd (omega arith)
 
-pub key-in-grid : (h : Header) (lat lon : ℤ) {k : TileKey} → key_of h lat lon ≡ Keyed.In k → inGrid h k ≡ true
+pub key_in_grid : (h : Header) (lat lon : ℤ) {k : TileKey} → key_of h lat lon ≡ Keyed.In k → in_grid h k ≡ true
 unfolding key_of
-key-in-grid h lat lon {k} e = go (eqb h.tile 0) e
+key_in_grid h lat lon {k} e = go (eqb h.tile 0) e
   where
     row : ℤ
-    row = floorOf (lat -ℤ h.south) h.tile
+    row = floor_of (lat -ℤ h.south) h.tile
 
     col : ℤ
-    col = floorOf (lon -ℤ h.west) h.tile
+    col = floor_of (lon -ℤ h.west) h.tile
 
-    go : (t : Bool) → cond t Keyed.Outside (checkedOf h row col) ≡ Keyed.In k → inGrid h k ≡ true
+    go : (t : Bool) → cond t Keyed.Outside (checked_of h row col) ≡ Keyed.In k → in_grid h k ≡ true
     go true r = let z : ◌≡◌ {A = ℕ} 0 1 = cc in absurd (omega arith)
-    go false r = checked-in-grid h row col r
+    go false r = checked_in_grid h row col r
 
 -- ---- an accepted sector
 
-pub parse-accepted : (s : List ℕ) → (parse s).answer ≡ Answer.Accepted → (rules (parse s).header ≡ true) × ((parse s).header ≡ header_at s)
+pub parse_accepted : (s : List ℕ) → (parse s).answer ≡ Answer.Accepted → (rules (parse s).header ≡ true) × ((parse s).header ≡ header_at s)
 unfolding parse
-parse-accepted s e = go (isSum s) (all_of rest) refl e
+parse_accepted s e = go (is_sum s) (all_of rest) refl e
   where
     rest : List Bool
-    rest = isMagic s ∷ isVersion s ∷ rules (header_at s) ∷ []
+    rest = is_magic s ∷ is_version s ∷ rules (header_at s) ∷ []
 
     taken : Bool → Bool → Parsed
     taken sum t = cond sum (cond t (record { answer = Answer.Accepted; header = header_at s }) (refused 3)) (refused 4)
@@ -247,8 +247,8 @@ parse-accepted s e = go (isSum s) (all_of rest) refl e
 
 -- ---- a located tile
 
-pub located : (h : Header) (e : List ℕ) {o l : ℕ} → locateOf h e ≡ Located.Tile o l → (0 < l) × ((h.«data» ≤ o) × (o + l ≤ h.total))
-unfolding locateOf
+pub located : (h : Header) (e : List ℕ) {o l : ℕ} → locate_of h e ≡ Located.Tile o l → (0 < l) × ((h.«data» ≤ o) × (o + l ≤ h.total))
+unfolding locate_of
 located h e {o} {l} r = go (eqb length' 0) (leb h.«data» offset && leb (offset + length') h.total) refl refl r
   where
     offset : ℕ

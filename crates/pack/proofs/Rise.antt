@@ -17,15 +17,15 @@ module _ {count size : ℕ} (f : Fits w16 count) (g : Fits w32 size) where
       let k : size ≤ 4294967295 = omega arith in
       omega (arith, mul-le-mul h k)
 
-  pub rise-is : to_z w64 (count * size) ≡ pos (count * size)
-  rise-is = to_z_pos w64 {n = count * size} (omega (arith, small))
+  pub rise_is : to_z w64 (count * size) ≡ pos (count * size)
+  rise_is = to_z_pos w64 {n = count * size} (omega (arith, small))
 
   pub sum_fits : {z : ℤ} → SFits w32 z → SFits w64 (z +ℤ pos (count * size))
   sum_fits {z} s = fits w64 (z +ℤ pos (count * size)) (omega (arith, range s, small, add z (pos (count * size))))
 
   -- the code's sum, read back
   pub sum_is : {z : ℤ} → SFits w32 z → to_z w64 (of_z w64 (to_z w64 (of_z w64 (to_z w32 (of_z w32 z))) +ℤ to_z w64 (count * size))) ≡ z +ℤ pos (count * size)
-  sum_is s = rw (wide s, rise-is) (to_z-of_z (sum_fits s))
+  sum_is s = rw (wide s, rise_is) (to_z-of_z (sum_fits s))
 
 -- a product of two u16
 pub square : {a b : ℕ} → Fits w16 a → Fits w16 b → a * b < 2 ^ 32

@@ -61,11 +61,11 @@ lt-true (pos a) (negsuc b) e = absurd (true≢false (sym e))
 lt-true (negsuc a) (pos b) e = omega arith
 lt-true (negsuc a) (negsuc b) e = omega (arith, ltb-true b a e)
 
-pub lt-false : (a b : ℤ) → lt_z a b ≡ false → up b + dn a ≤ up a + dn b
-lt-false (pos a) (pos b) e = omega (arith, ltb-false a b e)
-lt-false (pos a) (negsuc b) e = omega arith
-lt-false (negsuc a) (pos b) e = absurd (true≢false e)
-lt-false (negsuc a) (negsuc b) e = omega (arith, ltb-false b a e)
+pub lt_false : (a b : ℤ) → lt_z a b ≡ false → up b + dn a ≤ up a + dn b
+lt_false (pos a) (pos b) e = omega (arith, ltb-false a b e)
+lt_false (pos a) (negsuc b) e = omega arith
+lt_false (negsuc a) (pos b) e = absurd (true≢false e)
+lt_false (negsuc a) (negsuc b) e = omega (arith, ltb-false b a e)
 
 pub le-true : (a b : ℤ) → le_z a b ≡ true → up a + dn b ≤ up b + dn a
 le-true (pos a) (pos b) e = omega (arith, leb-true a b e)
@@ -73,11 +73,11 @@ le-true (pos a) (negsuc b) e = absurd (true≢false (sym e))
 le-true (negsuc a) (pos b) e = omega arith
 le-true (negsuc a) (negsuc b) e = omega (arith, leb-true b a e)
 
-pub le-false : (a b : ℤ) → le_z a b ≡ false → up b + dn a < up a + dn b
-le-false (pos a) (pos b) e = omega (arith, leb-false a b e)
-le-false (pos a) (negsuc b) e = omega arith
-le-false (negsuc a) (pos b) e = absurd (true≢false e)
-le-false (negsuc a) (negsuc b) e = omega (arith, leb-false b a e)
+pub le_false : (a b : ℤ) → le_z a b ≡ false → up b + dn a < up a + dn b
+le_false (pos a) (pos b) e = omega (arith, leb-false a b e)
+le_false (pos a) (negsuc b) e = omega arith
+le_false (negsuc a) (pos b) e = absurd (true≢false e)
+le_false (negsuc a) (negsuc b) e = omega (arith, leb-false b a e)
 
 pub lt_yes : (a b : ℤ) → up a + dn b < up b + dn a → lt_z a b ≡ true
 lt_yes (pos a) (pos b) h = lt-ltb a b (omega arith)
@@ -97,11 +97,11 @@ le_yes (pos a) (negsuc b) h = absurd (omega arith)
 le_yes (negsuc a) (pos b) h = refl
 le_yes (negsuc a) (negsuc b) h = le-leb b a (omega arith)
 
-pub le-no : (a b : ℤ) → up b + dn a < up a + dn b → le_z a b ≡ false
-le-no (pos a) (pos b) h = lt-leb a b (omega arith)
-le-no (pos a) (negsuc b) h = refl
-le-no (negsuc a) (pos b) h = absurd (omega arith)
-le-no (negsuc a) (negsuc b) h = lt-leb b a (omega arith)
+pub le_no : (a b : ℤ) → up b + dn a < up a + dn b → le_z a b ≡ false
+le_no (pos a) (pos b) h = lt-leb a b (omega arith)
+le_no (pos a) (negsuc b) h = refl
+le_no (negsuc a) (pos b) h = absurd (omega arith)
+le_no (negsuc a) (negsuc b) h = lt-leb b a (omega arith)
 
 -- ---- in and out
 
@@ -125,14 +125,14 @@ same (pos a) (negsuc b) h = absurd (omega arith)
 same (negsuc a) (pos b) h = absurd (omega arith)
 same (negsuc a) (negsuc b) h = ap negsuc (omega arith)
 
--- by its sign: `rw (as-pos z h)` and `rw (as-neg z h)` let a definition by cases on z compute
-pub as-pos : (z : ℤ) → dn z ≤ up z → z ≡ pos (nat_abs z)
-as-pos (pos n) h = refl
-as-pos (negsuc n) h = absurd (omega arith)
+-- by its sign: `rw (as_pos z h)` and `rw (as_neg z h)` let a definition by cases on z compute
+pub as_pos : (z : ℤ) → dn z ≤ up z → z ≡ pos (nat_abs z)
+as_pos (pos n) h = refl
+as_pos (negsuc n) h = absurd (omega arith)
 
-pub as-neg : (z : ℤ) → up z < dn z → z ≡ negsuc (dn z - 1)
-as-neg (pos n) h = absurd (omega arith)
-as-neg (negsuc n) h = ap negsuc (omega arith)
+pub as_neg : (z : ℤ) → up z < dn z → z ≡ negsuc (dn z - 1)
+as_neg (pos n) h = absurd (omega arith)
+as_neg (negsuc n) h = ap negsuc (omega arith)
 
 -- from a bound alone, as a callee's `.ok`, a struct's `.struct_told` and a variant's `.known-told` have it
 pub sf : (w : Width) (z : ℤ) → mag z < 2 ^ hbits w → SFits w z
@@ -155,20 +155,20 @@ quot (pos a) k = (refl, sym (zero-div k))
 quot (negsuc a) k = ((neg (pos (suc a / k))).0 ∙ sym (zero-div k), (neg (pos (suc a / k))).1)
 
 -- the code's -z is 0 - z
-pub zero-sub : (z : ℤ) → pos 0 -ℤ z ≡ neg_ℤ z
-zero-sub z = +ℤ_idl (neg_ℤ z)
+pub zero_sub : (z : ℤ) → pos 0 -ℤ z ≡ neg_ℤ z
+zero_sub z = +ℤ_idl (neg_ℤ z)
 
 -- -1 - z, the complement of the bits
-pub flip-neg : (n : ℕ) → negsuc 0 -ℤ negsuc n ≡ pos n
-flip-neg n = same (negsuc 0 -ℤ negsuc n) (pos n) (omega (arith, sub (negsuc 0) (negsuc n)))
+pub flip_neg : (n : ℕ) → negsuc 0 -ℤ negsuc n ≡ pos n
+flip_neg n = same (negsuc 0 -ℤ negsuc n) (pos n) (omega (arith, sub (negsuc 0) (negsuc n)))
 
-pub flip-pos : (n : ℕ) → negsuc 0 -ℤ pos n ≡ negsuc n
-flip-pos n = same (negsuc 0 -ℤ pos n) (negsuc n) (omega (arith, sub (negsuc 0) (pos n)))
+pub flip_pos : (n : ℕ) → negsuc 0 -ℤ pos n ≡ negsuc n
+flip_pos n = same (negsuc 0 -ℤ pos n) (negsuc n) (omega (arith, sub (negsuc 0) (pos n)))
 
 -- bits from the upper half, read as signed: -1 - (2 ^ bits w - 1 - x)
 module _ (w : Width) (x : ℕ) (f : Fits w x) (h : 2 ^ hbits w ≤ x) where
   high_is : negsuc 0 -ℤ to_z w ((2 ^ bits w - 1) - x) ≡ negsuc ((2 ^ bits w - 1) - x)
-  high_is = rw (to_z_pos w {n = (2 ^ bits w - 1) - x} (omega (arith, pow-bits w, f.fits))) (flip-pos ((2 ^ bits w - 1) - x))
+  high_is = rw (to_z_pos w {n = (2 ^ bits w - 1) - x} (omega (arith, pow-bits w, f.fits))) (flip_pos ((2 ^ bits w - 1) - x))
 
   pub high_fits : SFits w (negsuc 0 -ℤ to_z w ((2 ^ bits w - 1) - x))
   high_fits = rw high_is (record { sfits = omega (arith, pow-bits w, f.fits) })
@@ -178,18 +178,18 @@ module _ (w : Width) (x : ℕ) (f : Fits w x) (h : 2 ^ hbits w ≤ x) where
 
 -- ---- equality
 
-abbrev pub eqZ : ℤ → ℤ → Bool
-eqZ (pos a) (pos b) = eqb a b
-eqZ (pos a) (negsuc b) = false
-eqZ (negsuc a) (pos b) = false
-eqZ (negsuc a) (negsuc b) = eqb a b
+abbrev pub eq_z : ℤ → ℤ → Bool
+eq_z (pos a) (pos b) = eqb a b
+eq_z (pos a) (negsuc b) = false
+eq_z (negsuc a) (pos b) = false
+eq_z (negsuc a) (negsuc b) = eqb a b
 
 -- the code compares the bits
-pub eq-bits : (w : Width) (a b : ℤ) → mag a < 2 ^ hbits w → mag b < 2 ^ hbits w → eqb (of_z w a) (of_z w b) ≡ eqZ a b
-eq-bits w (pos a) (pos b) f g = refl
-eq-bits w (pos a) (negsuc b) f g = ne_eqb a (2 ^ bits w - suc b) (λ e. omega (arith, pow-bits w))
-eq-bits w (negsuc a) (pos b) f g = ne_eqb (2 ^ bits w - suc a) b (λ e. omega (arith, pow-bits w))
-eq-bits w (negsuc a) (negsuc b) f g = go (eqb a b) refl
+pub eq_bits : (w : Width) (a b : ℤ) → mag a < 2 ^ hbits w → mag b < 2 ^ hbits w → eqb (of_z w a) (of_z w b) ≡ eq_z a b
+eq_bits w (pos a) (pos b) f g = refl
+eq_bits w (pos a) (negsuc b) f g = ne_eqb a (2 ^ bits w - suc b) (λ e. omega (arith, pow-bits w))
+eq_bits w (negsuc a) (pos b) f g = ne_eqb (2 ^ bits w - suc a) b (λ e. omega (arith, pow-bits w))
+eq_bits w (negsuc a) (negsuc b) f g = go (eqb a b) refl
   where
     go : (t : Bool) → eqb a b ≡ t → eqb (2 ^ bits w - suc a) (2 ^ bits w - suc b) ≡ t
     go true q = eq-eqb (2 ^ bits w - suc a) (2 ^ bits w - suc b) (ap (λ n. 2 ^ bits w - suc n) (eqb-true a b q))
@@ -198,27 +198,27 @@ eq-bits w (negsuc a) (negsuc b) f g = go (eqb a b) refl
 -- ---- each test by the other
 
 pub lt_not_le : (a b : ℤ) → lt_z a b ≡ true → le_z b a ≡ false
-lt_not_le a b e = le-no b a (lt-true a b e)
+lt_not_le a b e = le_no b a (lt-true a b e)
 
-pub not-lt-le : (a b : ℤ) → lt_z a b ≡ false → le_z b a ≡ true
-not-lt-le a b e = le_yes b a (lt-false a b e)
+pub not_lt_le : (a b : ℤ) → lt_z a b ≡ false → le_z b a ≡ true
+not_lt_le a b e = le_yes b a (lt_false a b e)
 
 pub le_not_lt : (a b : ℤ) → le_z a b ≡ true → lt_z b a ≡ false
 le_not_lt a b e = lt_no b a (le-true a b e)
 
-pub not-le-lt : (a b : ℤ) → le_z a b ≡ false → lt_z b a ≡ true
-not-le-lt a b e = lt_yes b a (le-false a b e)
+pub not_le_lt : (a b : ℤ) → le_z a b ≡ false → lt_z b a ≡ true
+not_le_lt a b e = lt_yes b a (le_false a b e)
 
 -- a signed local against a bound, as the code reads it back and tests it
 module _ {w : Width} {z : ℤ} (f : SFits w z) (b : ℤ) where
   pub below : lt_z (to_z w (of_z w z)) b ≡ true → le_z b z ≡ false
   below e = lt_not_le z b (rw (to_z-of_z f) at e)
 
-  pub not-below : lt_z (to_z w (of_z w z)) b ≡ false → le_z b z ≡ true
-  not-below e = not-lt-le z b (rw (to_z-of_z f) at e)
+  pub not_below : lt_z (to_z w (of_z w z)) b ≡ false → le_z b z ≡ true
+  not_below e = not_lt_le z b (rw (to_z-of_z f) at e)
 
   pub above : lt_z b (to_z w (of_z w z)) ≡ true → le_z z b ≡ false
   above e = lt_not_le b z (rw (to_z-of_z f) at e)
 
-  pub not-above : lt_z b (to_z w (of_z w z)) ≡ false → le_z z b ≡ true
-  not-above e = not-lt-le b z (rw (to_z-of_z f) at e)
+  pub not_above : lt_z b (to_z w (of_z w z)) ≡ false → le_z z b ≡ true
+  not_above e = not_lt_le b z (rw (to_z-of_z f) at e)

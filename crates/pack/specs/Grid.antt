@@ -22,14 +22,14 @@ use Rattle.pack.specs.declared.Range.TheVariants as Range
 -- ---- points and keys
 
 -- a point that is not refused with 8: each part within ±360,000,000
-abbrev pub isDegrees : ℤ → Bool
-isDegrees z = le_z (negsuc 359999999) z && le_z z (pos 360000000)
+abbrev pub is_degrees : ℤ → Bool
+is_degrees z = le_z (negsuc 359999999) z && le_z z (pos 360000000)
 
-abbrev pub isPoint : ℤ → ℤ → Bool
-isPoint lat lon = isDegrees lat && isDegrees lon
+abbrev pub is_point : ℤ → ℤ → Bool
+is_point lat lon = is_degrees lat && is_degrees lon
 
-abbrev pub inGrid : Header → TileKey → Bool
-inGrid h k = ltb k.row h.rows && ltb k.col h.cols
+abbrev pub in_grid : Header → TileKey → Bool
+in_grid h k = ltb k.row h.rows && ltb k.col h.cols
 
 -- a row and a column that are in the grid
 abbrev pub within : ℤ → ℕ → Bool
@@ -40,19 +40,19 @@ abbrev pub natural : ℤ → ℕ
 natural (pos n) = n
 natural (negsuc n) = 0
 
-unfoldable pub checkedOf : Header → ℤ → ℤ → Keyed
-checkedOf h row col =
+unfoldable pub checked_of : Header → ℤ → ℤ → Keyed
+checked_of h row col =
     cond (within row h.rows && within col h.cols) (Keyed.In (record { row = natural row; col = natural col })) Keyed.Outside
 
 -- z divided by n and rounded down: negative where z is
-abbrev pub floorOf : ℤ → ℕ → ℤ
-floorOf (pos a) n = pos (a / n)
-floorOf (negsuc a) n = negsuc (a / n)
+abbrev pub floor_of : ℤ → ℕ → ℤ
+floor_of (pos a) n = pos (a / n)
+floor_of (negsuc a) n = negsuc (a / n)
 
 -- the tile that holds a point; a size of 0 holds none
 unfoldable pub key_of : Header → ℤ → ℤ → Keyed
 key_of h lat lon =
-    cond (eqb h.tile 0) Keyed.Outside (checkedOf h (floorOf (lat -ℤ h.south) h.tile) (floorOf (lon -ℤ h.west) h.tile))
+    cond (eqb h.tile 0) Keyed.Outside (checked_of h (floor_of (lat -ℤ h.south) h.tile) (floor_of (lon -ℤ h.west) h.tile))
 
 -- ---- corners and entries
 
@@ -61,37 +61,37 @@ abbrev pub held : ℤ → ℤ
 held z = cond (lt_z (pos 0x7fff_ffff) z) (pos 0x7fff_ffff) z
 
 -- the south-west corner of a tile
-unfoldable pub cornerOf : Header → TileKey → Corner
-cornerOf h k = record { south = held (h.south +ℤ pos (k.row * h.tile)); west = held (h.west +ℤ pos (k.col * h.tile)) }
+unfoldable pub corner_of : Header → TileKey → Corner
+corner_of h k = record { south = held (h.south +ℤ pos (k.row * h.tile)); west = held (h.west +ℤ pos (k.col * h.tile)) }
 
 -- where a tile's directory entry stands
 unfoldable pub entry_of : Header → TileKey → ℕ
 entry_of h k = h.directory + (k.row * h.cols + k.col) * 8
 
 -- a directory entry: offset and length; length 0 means no tile, offset unread; else it lies within data and total, or is refused with 4
-unfoldable pub locateOf : Header → List ℕ → Located
-locateOf h e =
+unfoldable pub locate_of : Header → List ℕ → Located
+locate_of h e =
     cond (eqb (u32_at e At.length_at) 0) Located.NoTile
-    (cond (leb h.«data» (u32_at e At.offsetAt) && leb (u32_at e At.offsetAt + u32_at e At.length_at) h.total)
-    (Located.Tile (u32_at e At.offsetAt) (u32_at e At.length_at))
+    (cond (leb h.«data» (u32_at e At.offset_at) && leb (u32_at e At.offset_at + u32_at e At.length_at) h.total)
+    (Located.Tile (u32_at e At.offset_at) (u32_at e At.length_at))
     (Located.Refused 4))
 
 -- ---- the public functions, with their refusals
 
 unfoldable pub key : Header → ℤ → ℤ → Keyed
-key h lat lon = cond (rules h) (cond (isPoint lat lon) (key_of h lat lon) (Keyed.Refused 8)) (Keyed.Refused 12)
+key h lat lon = cond (rules h) (cond (is_point lat lon) (key_of h lat lon) (Keyed.Refused 8)) (Keyed.Refused 12)
 
 unfoldable pub checked : Header → ℤ → ℤ → Keyed
-checked h row col = cond (rules h) (checkedOf h row col) (Keyed.Refused 12)
+checked h row col = cond (rules h) (checked_of h row col) (Keyed.Refused 12)
 
 unfoldable pub origin : Header → TileKey → Origin
-origin h k = cond (rules h) (cond (inGrid h k) (Origin.At (cornerOf h k)) (Origin.Refused 9)) (Origin.Refused 12)
+origin h k = cond (rules h) (cond (in_grid h k) (Origin.At (corner_of h k)) (Origin.Refused 9)) (Origin.Refused 12)
 
 unfoldable pub entry : Header → TileKey → Offset
-entry h k = cond (rules h) (cond (inGrid h k) (Offset.At (entry_of h k)) (Offset.Refused 9)) (Offset.Refused 12)
+entry h k = cond (rules h) (cond (in_grid h k) (Offset.At (entry_of h k)) (Offset.Refused 9)) (Offset.Refused 12)
 
 unfoldable pub locate : Header → List ℕ → Located
-locate h e = cond (rules h) (locateOf h e) (Located.Refused 12)
+locate h e = cond (rules h) (locate_of h e) (Located.Refused 12)
 
 -- ---- a lent pack
 

@@ -13,28 +13,28 @@ use Rattle.pack.specs.declared.Located.TheVariants as Located
 use Rattle.pack.specs.declared.Range.{Range}
 use Rattle.pack.specs.declared.Range.TheVariants as Range
 
-abbrev pub numberOfAnswer : Answer → ℕ
-numberOfAnswer Answer.Accepted = 0
-numberOfAnswer (Answer.Refused number) = number
+abbrev pub number_of_answer : Answer → ℕ
+number_of_answer Answer.Accepted = 0
+number_of_answer (Answer.Refused number) = number
 
-abbrev pub numberOfKeyed : Keyed → ℕ
-numberOfKeyed (Keyed.In key) = 0
-numberOfKeyed Keyed.Outside = 0
-numberOfKeyed (Keyed.Refused number) = number
+abbrev pub number_of_keyed : Keyed → ℕ
+number_of_keyed (Keyed.In key) = 0
+number_of_keyed Keyed.Outside = 0
+number_of_keyed (Keyed.Refused number) = number
 
-abbrev pub numberOfOrigin : Origin → ℕ
-numberOfOrigin (Origin.At corner) = 0
-numberOfOrigin (Origin.Refused number) = number
+abbrev pub number_of_origin : Origin → ℕ
+number_of_origin (Origin.At corner) = 0
+number_of_origin (Origin.Refused number) = number
 
-abbrev pub numberOfOffset : Offset → ℕ
-numberOfOffset (Offset.At offset) = 0
-numberOfOffset (Offset.Refused number) = number
+abbrev pub number_of_offset : Offset → ℕ
+number_of_offset (Offset.At offset) = 0
+number_of_offset (Offset.Refused number) = number
 
-abbrev pub numberOfLocated : Located → ℕ
-numberOfLocated (Located.Tile offset len) = 0
-numberOfLocated Located.NoTile = 0
-numberOfLocated (Located.Refused number) = number
+abbrev pub number_of_located : Located → ℕ
+number_of_located (Located.Tile offset len) = 0
+number_of_located Located.NoTile = 0
+number_of_located (Located.Refused number) = number
 
-abbrev pub numberOfRange : Range → ℕ
-numberOfRange (Range.At offset) = 0
-numberOfRange (Range.Refused number) = number
+abbrev pub number_of_range : Range → ℕ
+number_of_range (Range.At offset) = 0
+number_of_range (Range.Refused number) = number

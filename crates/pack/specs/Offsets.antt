@@ -3,48 +3,48 @@ use Rattle.std.specs.Prelude.{ℕ}
 
 -- ---- in the sector, of 512 bytes
 
-abbrev pub magicAt : ℕ
-magicAt = 0
+abbrev pub magic_at : ℕ
+magic_at = 0
 
-abbrev pub versionAt : ℕ
-versionAt = 16
+abbrev pub version_at : ℕ
+version_at = 16
 
-abbrev pub tileSizeAt : ℕ
-tileSizeAt = 20
+abbrev pub tile_size_at : ℕ
+tile_size_at = 20
 
-abbrev pub southAt : ℕ
-southAt = 24
+abbrev pub south_at : ℕ
+south_at = 24
 
-abbrev pub westAt : ℕ
-westAt = 28
+abbrev pub west_at : ℕ
+west_at = 28
 
 abbrev pub rows_at : ℕ
 rows_at = 32
 
-abbrev pub colsAt : ℕ
-colsAt = 34
+abbrev pub cols_at : ℕ
+cols_at = 34
 
-abbrev pub directoryAt : ℕ
-directoryAt = 36
+abbrev pub directory_at : ℕ
+directory_at = 36
 
-abbrev pub dataAt : ℕ
-dataAt = 40
+abbrev pub data_at : ℕ
+data_at = 40
 
-abbrev pub totalAt : ℕ
-totalAt = 44
+abbrev pub total_at : ℕ
+total_at = 44
 
-abbrev pub tilesAt : ℕ
-tilesAt = 48
+abbrev pub tiles_at : ℕ
+tiles_at = 48
 
 -- 8 bytes
-abbrev pub createdAt : ℕ
-createdAt = 52
+abbrev pub created_at : ℕ
+created_at = 52
 
-abbrev pub attributionOffsetAt : ℕ
-attributionOffsetAt = 60
+abbrev pub attribution_offset_at : ℕ
+attribution_offset_at = 60
 
-abbrev pub attributionLenAt : ℕ
-attributionLenAt = 64
+abbrev pub attribution_len_at : ℕ
+attribution_len_at = 64
 
 -- CRC of the 508 bytes before it
 abbrev pub sum_at : ℕ
@@ -52,8 +52,8 @@ sum_at = 508
 
 -- ---- in a directory entry, of 8 bytes
 
-abbrev pub offsetAt : ℕ
-offsetAt = 0
+abbrev pub offset_at : ℕ
+offset_at = 0
 
 abbrev pub length_at : ℕ
 length_at = 4

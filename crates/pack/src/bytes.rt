@@ -1,10 +1,10 @@
 // Little-endian readers. A byte past the end counts as 0, so they ask nothing of their callers. Where all bytes are there, which is nearly
 // always, one test says so.
 ghost use Rattle.std.specs.Prelude.{◌≡◌, ◌+◌, ◌<◌, ◌≤◌, length};
-ghost use Rattle.pack.specs.Bytes.{byteAt, u16At, u32_at, i32At, u64At, signed32};
+ghost use Rattle.pack.specs.Bytes.{byte_at, u16_at, u32_at, i32_at, u64_at, signed32};
 
 pub fn byte_at(bytes: &[u8], at: usize) -> u8
-    ensures { result ≡ byteAt bytes.now at }
+    ensures { result ≡ byte_at bytes.now at }
 {
     if at < bytes.len() {
         return bytes[at];
@@ -29,7 +29,7 @@ fn wide_32(b: u8) -> u32
 // Two bytes that are there.
 fn two(bytes: &[u8], at: usize) -> u16
     requires { at + 2 ≤ length bytes.now }
-    ensures { result ≡ u16At bytes.now at }
+    ensures { result ≡ u16_at bytes.now at }
 {
     wide_16(bytes[at]) + wide_16(bytes[at + 1]) * 256
 }
@@ -47,7 +47,7 @@ fn four(bytes: &[u8], at: usize) -> u32
 
 // Two bytes of which one or both are past the end.
 fn two_past(bytes: &[u8], at: usize) -> u16
-    ensures { result ≡ u16At bytes.now at }
+    ensures { result ≡ u16_at bytes.now at }
 {
     if bytes.len() <= at {
         return 0;
@@ -58,7 +58,7 @@ fn two_past(bytes: &[u8], at: usize) -> u16
 }
 
 pub fn u16_at(bytes: &[u8], at: usize) -> u16
-    ensures { result ≡ u16At bytes.now at }
+    ensures { result ≡ u16_at bytes.now at }
 {
     if bytes.len() <= at {
         return 0;
@@ -104,13 +104,13 @@ pub fn signed_32(n: u32) -> i32
 }
 
 pub fn i32_at(bytes: &[u8], at: usize) -> i32
-    ensures { result ≡ i32At bytes.now at }
+    ensures { result ≡ i32_at bytes.now at }
 {
     signed_32(u32_at(bytes, at))
 }
 
 pub fn u64_at(bytes: &[u8], at: usize) -> u64
-    ensures { result ≡ u64At bytes.now at }
+    ensures { result ≡ u64_at bytes.now at }
 {
     if bytes.len() <= at {
         return 0;

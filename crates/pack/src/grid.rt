@@ -7,7 +7,7 @@ use crate::{Corner, Header, Keyed, Located, TileKey};
 
 // Whether a point is one that number 8 doesn't refuse.
 pub fn is_point(lat: i32, lon: i32) -> bool
-    ensures { result ≡ Grid.isPoint lat lon }
+    ensures { result ≡ Grid.is_point lat lon }
 {
     if lat < -360000000 {
         return false;
@@ -22,7 +22,7 @@ pub fn is_point(lat: i32, lon: i32) -> bool
 }
 
 pub fn in_grid(header: Header, key: TileKey) -> bool
-    ensures { result ≡ Grid.inGrid header key }
+    ensures { result ≡ Grid.in_grid header key }
 {
     if key.row < header.rows {
         return key.col < header.cols;
@@ -32,7 +32,7 @@ pub fn in_grid(header: Header, key: TileKey) -> bool
 
 // A row and a column that lie in the grid.
 pub fn checked_of(header: Header, row: i64, col: i64) -> Keyed
-    ensures { result ≡ Grid.checkedOf header row col }
+    ensures { result ≡ Grid.checked_of header row col }
 {
     if row < 0 {
         return Keyed::Outside;
@@ -55,7 +55,7 @@ pub fn checked_of(header: Header, row: i64, col: i64) -> Keyed
 // z divided by n and rounded down.
 fn floor_of(z: i64, n: u32) -> i64
     requires { 0 < n }
-    ensures { result ≡ Grid.floorOf z n }
+    ensures { result ≡ Grid.floor_of z n }
 {
     if z < 0 {
         return -1 - ((((-1 - z) as u64) / (n as u64)) as i64);
@@ -89,7 +89,7 @@ fn along(from: i32, count: u16, size: u32) -> i32
 
 // The south-west corner of a tile.
 pub fn corner_of(header: Header, key: TileKey) -> Corner
-    ensures { result ≡ Grid.cornerOf header key }
+    ensures { result ≡ Grid.corner_of header key }
 {
     Corner {
         south: along(header.south, key.row, header.tile),
@@ -106,7 +106,7 @@ pub fn entry_of(header: Header, key: TileKey) -> u64
 
 // A directory entry's tile.
 pub fn locate_of(header: Header, entry: &[u8; 8]) -> Located
-    ensures { result ≡ Grid.locateOf header entry.now }
+    ensures { result ≡ Grid.locate_of header entry.now }
 {
     let offset = crate::bytes::u32_at(entry, 0);
     let length = crate::bytes::u32_at(entry, 4);

@@ -144,14 +144,14 @@ fn header_at(sector: &[u8; 512]) -> Header
 }
 
 fn is_sum(sector: &[u8; 512]) -> bool
-    ensures { result ≡ Sector.isSum sector.now }
+    ensures { result ≡ Sector.is_sum sector.now }
 {
     let whole = &sector[..];
     crc::crc32(&whole[..508]) == bytes::u32_at(sector, 508)
 }
 
 fn is_magic(sector: &[u8; 512]) -> bool
-    ensures { result ≡ Sector.isMagic sector.now }
+    ensures { result ≡ Sector.is_magic sector.now }
 {
     if bytes::u32_at(sector, 0) != 0x414e4156 {
         return false;

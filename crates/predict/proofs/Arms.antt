@@ -12,22 +12,22 @@ use Rattle.cache.specs.contracts.Lookup as Lookups
 use Rattle.predict.specs.declared.Ending.{Ending}
 use Rattle.predict.specs.declared.Ending.TheVariants as Ending
 use Rattle.predict.specs.contracts.Ending as Endings
-use Rattle.predict.specs.Walk.{goesOn}
+use Rattle.predict.specs.Walk.{goes_on}
 
-abbrev endingTag : Ending → ℕ
-endingTag e = tag_of Endings.the_type e
+abbrev ending_tag : Ending → ℕ
+ending_tag e = tag_of Endings.the_type e
 
-abbrev lookupTag : Lookup → ℕ
-lookupTag l = tag_of Lookups.the_type l
+abbrev lookup_tag : Lookup → ℕ
+lookup_tag l = tag_of Lookups.the_type l
 
-pub ended : (e : Ending) → (endingTag e ≡ 1) ⊎ ((endingTag e ≡ 2) ⊎ (endingTag e ≡ 3)) → goesOn e ≡ false
+pub ended : (e : Ending) → (ending_tag e ≡ 1) ⊎ ((ending_tag e ≡ 2) ⊎ (ending_tag e ≡ 3)) → goes_on e ≡ false
 ended Ending.Going h = absurd (⊎_elim (λ z. omega arith) (λ t. ⊎_elim (λ z. omega arith) (λ z. omega arith) t) h)
 ended (Ending.Stops end) h = refl
 ended (Ending.Need key) h = refl
 ended Ending.Stale h = refl
 
 -- no bytes, and not the answer that they no longer pass
-pub asked : (l : Lookup) → (lookupTag l ≡ 1) ⊎ (lookupTag l ≡ 2) → (l ≡ Lookup.Missing) ⊎ (l ≡ Lookup.Absent)
+pub asked : (l : Lookup) → (lookup_tag l ≡ 1) ⊎ (lookup_tag l ≡ 2) → (l ≡ Lookup.Missing) ⊎ (l ≡ Lookup.Absent)
 asked (Lookup.Ready first len) h = absurd (⊎_elim (λ z. omega arith) (λ z. omega arith) h)
 asked Lookup.Missing h = inl refl
 asked Lookup.Absent h = inr refl

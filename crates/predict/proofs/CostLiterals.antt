@@ -5,25 +5,25 @@ use mathlib.Core.Bool.{false}
 use lib.Ieee.{binary32, inf, of_bits, of_int, div}
 use Rattle.geo.specs.Flat.{whole}
 
-pub literal-2 : of_bits binary32 1073741824 ≡ whole 2
+pub literal_2 : of_bits binary32 1073741824 ≡ whole 2
 unfolding of_bits of_int
-literal-2 = refl
+literal_2 = refl
 
-pub literal-3 : of_bits binary32 1077936128 ≡ whole 3
+pub literal_3 : of_bits binary32 1077936128 ≡ whole 3
 unfolding of_bits of_int
-literal-3 = refl
+literal_3 = refl
 
-pub literal-4 : of_bits binary32 1082130432 ≡ whole 4
+pub literal_4 : of_bits binary32 1082130432 ≡ whole 4
 unfolding of_bits of_int
-literal-4 = refl
+literal_4 = refl
 
-pub literal-25 : of_bits binary32 1103626240 ≡ whole 25
+pub literal_25 : of_bits binary32 1103626240 ≡ whole 25
 unfolding of_bits of_int
-literal-25 = refl
+literal_25 = refl
 
-pub literal-30 : of_bits binary32 1106247680 ≡ whole 30
+pub literal_30 : of_bits binary32 1106247680 ≡ whole 30
 unfolding of_bits of_int
-literal-30 = refl
+literal_30 = refl
 
 -- 1 / 0
 pub infinite : div binary32 (of_bits binary32 1065353216) (of_bits binary32 0) ≡ inf false

@@ -60,9 +60,9 @@ module _ {M : Type 1} {𝓤 : Ura M} (𝓛 : Logic 𝓤) where
   had m v is = LL.makes T.the_type T'.the_plain 𝓛 m (v ∷ []) is
 
   pub figures : (d : Float) (z : ℤ) → fits binary32 d ≡ true → mag z < 2 ^ hbits w32 → ent 𝓤 (emp 𝓤) (sem 𝓛 (Figures d z))
-  figures d z d-fits z-fits =
-      qed 𝓛 [] ∵ nothing ! $ owned ! i32 (Is i32) (sint_Makes 𝓛 w32) z _ (refl, z-fits) $ fjoin ! $
-      owned ! f32 (Is f32) (float_Makes 𝓛 binary32) d _ (refl, d-fits) $ fjoin ! $ done !
+  figures d z d_fits z_fits =
+      qed 𝓛 [] ∵ nothing ! $ owned ! i32 (Is i32) (sint_Makes 𝓛 w32) z _ (refl, z_fits) $ fjoin ! $
+      owned ! f32 (Is f32) (float_Makes 𝓛 binary32) d _ (refl, d_fits) $ fjoin ! $ done !
 
   pub lies_in : (h : Mark) (v : Val) (b : ℕ)
       → ent 𝓤 (sep 𝓤 (sem 𝓛 (fat full_share T'.mir b 0 v)) (sem 𝓛 (R.own_val h (v ∷ [])))) (sem 𝓛 ((mem R).own_at h b 0))
@@ -87,8 +87,8 @@ module _ {M : Type 1} {𝓤 : Ura M} {𝓛 : Logic 𝓤} {K : Type 0} {Γ : List
   says_both t {φ} {ψ} {P} x y =
       step (λ s. suffices t (sep 𝓤 (sep 𝓤 P (fact 𝓤 φ)) (fact 𝓤 ψ)) (assoc∗ 𝓤 P (fact 𝓤 φ) (fact 𝓤 ψ)) $ says t y $ says t x $ s)
 
-  pub hears-both : {G : Goal 𝓤 H} → K → (φ ψ : Type 0) → (φ → ψ → Seq K 𝓛 Γ G) → Seq K 𝓛 ((raw (fact 𝓤 φ) ⊛ raw (fact 𝓤 ψ)) ∷ Γ) G
-  hears-both t φ ψ k = split t $ heard t φ (λ x. heard t ψ (λ y. k x y))
+  pub hears_both : {G : Goal 𝓤 H} → K → (φ ψ : Type 0) → (φ → ψ → Seq K 𝓛 Γ G) → Seq K 𝓛 ((raw (fact 𝓤 φ) ⊛ raw (fact 𝓤 ψ)) ∷ Γ) G
+  hears_both t φ ψ k = split t $ heard t φ (λ x. heard t ψ (λ y. k x y))
 
   pub local : K → {E : Env 𝓤 H} {i : ℕ} (n : ℕ) {q : Share} {v : Val}
       → nth 𝓛 n Γ ≡ ‵ (fat q (spot_of 𝓤 H E i).0 (spot_of 𝓤 H E i).1 (spot_of 𝓤 H E i).2 v) → Opd K 𝓛 Γ E (copy (place i [])) v

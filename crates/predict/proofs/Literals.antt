@@ -3,6 +3,6 @@ use mathlib.Core.Path.{◌≡◌, refl}
 use lib.Ieee.{binary32, of_bits, of_int}
 use Rattle.geo.specs.Flat.{whole}
 
-pub literal-100 : of_bits binary32 1120403456 ≡ whole 100
+pub literal_100 : of_bits binary32 1120403456 ≡ whole 100
 unfolding of_bits of_int
-literal-100 = refl
+literal_100 = refl

@@ -3,10 +3,10 @@ use mathlib.Core.Path.{◌≡◌, refl}
 use lib.Ieee.{binary32, of_bits, of_int}
 use Rattle.predict.specs.Samples.{whole}
 
-pub literal-0 : of_bits binary32 0 ≡ whole 0
+pub literal_0 : of_bits binary32 0 ≡ whole 0
 unfolding of_bits of_int
-literal-0 = refl
+literal_0 = refl
 
-pub literal-20 : of_bits binary32 1101004800 ≡ whole 20
+pub literal_20 : of_bits binary32 1101004800 ≡ whole 20
 unfolding of_bits of_int
-literal-20 = refl
+literal_20 = refl

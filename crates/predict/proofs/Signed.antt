@@ -12,23 +12,23 @@ use mir.Syntax.{Width, w32, w64}
 use mir.Val.{SFits, hbits, to_z, of_z}
 use borrow.Author.Tests.{ltb-true, ltb-false}
 
-less-size : (a b : ℕ) → mag (sub_ℕ a b) ≤ a + b
-less-size a b = go (ltb a b) refl
+less_size : (a b : ℕ) → mag (sub_ℕ a b) ≤ a + b
+less_size a b = go (ltb a b) refl
   where
     go : (t : Bool) → ltb a b ≡ t → mag (cond t (negsuc (b - suc a)) (pos (a - b))) ≤ a + b
     go true e = omega (arith, ltb-true a b e)
     go false e = omega (arith, ltb-false a b e)
 
-sum-size : (a b : ℤ) → mag (a +ℤ b) ≤ mag a + mag b + 1
-sum-size (pos a) (pos b) = omega arith
-sum-size (pos a) (negsuc b) = omega (arith, less-size a (suc b))
-sum-size (negsuc a) (pos b) = omega (arith, less-size b (suc a))
-sum-size (negsuc a) (negsuc b) = omega arith
+sum_size : (a b : ℤ) → mag (a +ℤ b) ≤ mag a + mag b + 1
+sum_size (pos a) (pos b) = omega arith
+sum_size (pos a) (negsuc b) = omega (arith, less_size a (suc b))
+sum_size (negsuc a) (pos b) = omega (arith, less_size b (suc a))
+sum_size (negsuc a) (negsuc b) = omega arith
 
-minus-size : (z : ℤ) → mag (neg_ℤ z) ≤ mag z + 1
-minus-size (pos zero) = omega arith
-minus-size (pos (suc n)) = omega arith
-minus-size (negsuc n) = omega arith
+minus_size : (z : ℤ) → mag (neg_ℤ z) ≤ mag z + 1
+minus_size (pos zero) = omega arith
+minus_size (pos (suc n)) = omega arith
+minus_size (negsuc n) = omega arith
 
 -- from a bound alone, as a callee's `.ok` and a struct's `.struct_told` have it
 pub sf : (w : Width) (z : ℤ) → mag z < 2 ^ hbits w → SFits w z
@@ -47,8 +47,8 @@ module _ {z : ℤ} (f : SFits w32 z) where
 
 -- and the difference of two
 module _ {a b : ℤ} (f : SFits w32 a) (g : SFits w32 b) where
-  pub gap-fits : SFits w64 (to_z w64 (of_z w64 (to_z w32 (of_z w32 a))) -ℤ to_z w64 (of_z w64 (to_z w32 (of_z w32 b))))
-  gap-fits = rw (wide f, wide g) (record { sfits = omega (arith, f.sfits, g.sfits, sum-size a (neg_ℤ b), minus-size b) })
+  pub gap_fits : SFits w64 (to_z w64 (of_z w64 (to_z w32 (of_z w32 a))) -ℤ to_z w64 (of_z w64 (to_z w32 (of_z w32 b))))
+  gap_fits = rw (wide f, wide g) (record { sfits = omega (arith, f.sfits, g.sfits, sum_size a (neg_ℤ b), minus_size b) })
 
   pub gap_is : to_z w64 (of_z w64 (to_z w64 (of_z w64 (to_z w32 (of_z w32 a))) -ℤ to_z w64 (of_z w64 (to_z w32 (of_z w32 b))))) ≡ a -ℤ b
-  gap_is = rw (to_z-of_z gap-fits, wide f, wide g)
+  gap_is = rw (to_z-of_z gap_fits, wide f, wide g)

@@ -8,30 +8,30 @@ use Rattle.cache.specs.declared.victim.Found.{Found}
 use Rattle.cache.specs.declared.victim.Found.TheVariants as Found
 use Rattle.predict.specs.Incoming.{highest}
 
-found-same : {i j : ℕ} → Found.At i ≡ Found.At j → i ≡ j
-found-same e = cc
+found_same : {i j : ℕ} → Found.At i ≡ Found.At j → i ≡ j
+found_same e = cc
 
 module _ (p : ℕ → Bool) where
-  pub highest-none : (n : ℕ) → n ≡ 0 → highest p n ≡ Found.Nothing
+  pub highest_none : (n : ℕ) → n ≡ 0 → highest p n ≡ Found.Nothing
   unfolding highest
-  highest-none zero e = refl
-  highest-none (suc n) e = absurd (omega arith)
+  highest_none zero e = refl
+  highest_none (suc n) e = absurd (omega arith)
 
-  pub highest-hit : (i n : ℕ) → i + 1 ≡ n → p i ≡ true → highest p n ≡ Found.At i
+  pub highest_hit : (i n : ℕ) → i + 1 ≡ n → p i ≡ true → highest p n ≡ Found.At i
   unfolding highest
-  highest-hit i zero e hit = absurd (omega arith)
-  highest-hit i (suc n) e hit = let same : n ≡ i = omega arith in rw (same, hit)
+  highest_hit i zero e hit = absurd (omega arith)
+  highest_hit i (suc n) e hit = let same : n ≡ i = omega arith in rw (same, hit)
 
-  pub highest-miss : (i n : ℕ) → i + 1 ≡ n → p i ≡ false → highest p i ≡ highest p n
+  pub highest_miss : (i n : ℕ) → i + 1 ≡ n → p i ≡ false → highest p i ≡ highest p n
   unfolding highest
-  highest-miss i zero e miss = absurd (omega arith)
-  highest-miss i (suc n) e miss = let same : n ≡ i = omega arith in rw (same, miss)
+  highest_miss i zero e miss = absurd (omega arith)
+  highest_miss i (suc n) e miss = let same : n ≡ i = omega arith in rw (same, miss)
 
-  pub highest-below : (n i : ℕ) → highest p n ≡ Found.At i → i < n
+  pub highest_below : (n i : ℕ) → highest p n ≡ Found.At i → i < n
   unfolding highest
-  highest-below zero i e = let z : ◌≡◌ {A = ℕ} 0 1 = cc in absurd (omega arith)
-  highest-below (suc n) i e = by (p n) (λ (f : highest p n ≡ Found.At i). highest-below n i f) e
+  highest_below zero i e = let z : ◌≡◌ {A = ℕ} 0 1 = cc in absurd (omega arith)
+  highest_below (suc n) i e = by (p n) (λ (f : highest p n ≡ Found.At i). highest_below n i f) e
     where
       by : (t : Bool) → (highest p n ≡ Found.At i → i < n) → cond t (Found.At n) (highest p n) ≡ Found.At i → i < suc n
-      by true more e = let same : n ≡ i = found-same e in omega arith
+      by true more e = let same : n ≡ i = found_same e in omega arith
       by false more e = let below : i < n = more e in omega arith

@@ -1,6 +1,6 @@
--- The edges followed last. `wasVisited` looks at the places that are taken alone, and answers as a look at all 128 does, which is the Rust's
--- `visited.contains`: a place that isn't taken holds 0, which is no edge + 1 (`Taken`). So it is at the start (`taken-nothing`), `visit` leaves it
--- so (`taken-visit`), and so it is after any edges of a road, over whatever the tiles are read from (`visited-all`).
+-- The edges followed last. `was_visited` looks at the places that are taken alone, and answers as a look at all 128 does, which is the Rust's
+-- `visited.contains`: a place that isn't taken holds 0, which is no edge + 1 (`Taken`). So it is at the start (`taken_nothing`), `visit` leaves it
+-- so (`taken_visit`), and so it is after any edges of a road, over whatever the tiles are read from (`visited_all`).
 use Prim.Native.Nat.{ℕ, ◌+◌, ◌<◌, ◌≤◌, ◌%◌, max}
 use mathlib.Core.Path.{◌≡◌, sym, ap, ◌∙◌}
 use mathlib.Core.Bool.{Bool, true, false, ◌&&◌, cond}
@@ -12,20 +12,20 @@ use lib.Dec.{ltb}
 use lib.IntN.{ℤ}
 use lib.ListN.{length, get_or, set, length-set, length-replicate, get_or-replicate}
 use lib.Seq.{get_or-set_same, get_or-set_other}
-use Rattle.num.proofs.FoldLaws.{up-keeps}
+use Rattle.num.proofs.FoldLaws.{up_keeps}
 use Rattle.pack.specs.declared.TileKey.{TileKey}
 use Rattle.cache.specs.Direct.{Look, ready, missing, absent, stale}
 use Rattle.cache.specs.Reader.{Reader}
 use Rattle.cache.specs.Runs.{span}
-use Rattle.cache.specs.Search.{lowest, isFound}
+use Rattle.cache.specs.Search.{lowest, is_found}
 use Rattle.cache.proofs.Below.{below_or}
-use Rattle.cache.proofs.SearchLaws.{lowest-same, lowest-end}
+use Rattle.cache.proofs.SearchLaws.{lowest_same, lowest_end}
 use Rattle.predict.specs.declared.Track.{Track}
 use Rattle.predict.specs.declared.Trip.{Trip}
 use Rattle.predict.specs.declared.Walk.{Walk}
 use Rattle.predict.specs.Meets.{meet}
-use Rattle.predict.specs.Visits.{nothingVisited, visit, isFollowed, wasVisited}
-use Rattle.predict.specs.Walk.{Onto, Run, entered, enterLook, along, begun, driven, edgeLook, goesOn, edgeStep, walkTo}
+use Rattle.predict.specs.Visits.{nothing_visited, visit, is_followed, was_visited}
+use Rattle.predict.specs.Walk.{Onto, Run, entered, enter_look, along, begun, driven, edge_look, goes_on, edge_step, walk_to}
 
 -- at most all the places are taken, and each one from the taken ones on holds 0
 pub record Taken (d : List ℕ) : Type 0 where
@@ -33,11 +33,11 @@ pub record Taken (d : List ℕ) : Type 0 where
   pub few : get_or d 385 0 ≤ 128
   pub rest : (i : ℕ) → get_or d 385 0 ≤ i → i < 128 → get_or d i 0 ≡ 0
 
-pub taken-nothing : Taken nothingVisited
-taken-nothing = record {
+pub taken_nothing : Taken nothing_visited
+taken_nothing = record {
   long = length-replicate {A = ℕ} 386 0;
   few = omega (arith, get_or-replicate {A = ℕ} 386 385 0 0 (omega arith));
-  rest = λ (i : ℕ) (past : get_or nothingVisited 385 0 ≤ i) (h : i < 128). get_or-replicate {A = ℕ} 386 i 0 0 (omega (arith, h));
+  rest = λ (i : ℕ) (past : get_or nothing_visited 385 0 ≤ i) (h : i < 128). get_or-replicate {A = ℕ} 386 i 0 0 (omega (arith, h));
 }
 
 -- ---- one edge more
@@ -59,14 +59,14 @@ module _ (d : List ℕ) (key : TileKey) (edge : ℕ) where
   abbrev four : List ℕ
   four = set three 384 ((place + 1) % 128)
 
-  four-long : length four ≡ length d
-  four-long =
+  four_long : length four ≡ length d
+  four_long =
       length-set three 384 ((place + 1) % 128)
       ∙ (length-set two (256 + place) key.col ∙ (length-set one (128 + place) key.row ∙ length-set d place (edge + 1)))
 
-  count-after : length d ≡ 386 → get_or (visit d key edge) 385 0 ≡ max (get_or d 385 0) (place + 1)
+  count_after : length d ≡ 386 → get_or (visit d key edge) 385 0 ≡ max (get_or d 385 0) (place + 1)
   unfolding visit
-  count-after long = get_or-set_same four 385 (max (get_or d 385 0) (place + 1)) 0 (omega (arith, long, four-long))
+  count_after long = get_or-set_same four 385 (max (get_or d 385 0) (place + 1)) 0 (omega (arith, long, four_long))
 
   count_kept : get_or four 385 0 ≡ get_or d 385 0
   count_kept =
@@ -80,9 +80,9 @@ module _ (d : List ℕ) (key : TileKey) (edge : ℕ) where
       )
 
   -- the code reads how many are taken after its other stores
-  pub visit-stores : set four 385 (max (get_or four 385 0) (place + 1)) ≡ visit d key edge
+  pub visit_stores : set four 385 (max (get_or four 385 0) (place + 1)) ≡ visit d key edge
   unfolding visit
-  visit-stores = ap (λ (n : ℕ). set four 385 (max n (place + 1))) count_kept
+  visit_stores = ap (λ (n : ℕ). set four 385 (max n (place + 1))) count_kept
 
   place_kept : (i : ℕ) → i < 128 → place < i → get_or (visit d key edge) i 0 ≡ get_or d i 0
   unfolding visit
@@ -99,14 +99,14 @@ module _ (d : List ℕ) (key : TileKey) (edge : ℕ) where
       )
       )
 
-  visit-long : length (visit d key edge) ≡ length d
+  visit_long : length (visit d key edge) ≡ length d
   unfolding visit
-  visit-long = length-set four 385 (max (get_or d 385 0) (place + 1)) ∙ four-long
+  visit_long = length-set four 385 (max (get_or d 385 0) (place + 1)) ∙ four_long
 
-  pub taken-visit : Taken d → Taken (visit d key edge)
-  taken-visit t =
-      let count = count-after t.long in record {
-        long = visit-long ∙ t.long;
+  pub taken_visit : Taken d → Taken (visit d key edge)
+  taken_visit t =
+      let count = count_after t.long in record {
+        long = visit_long ∙ t.long;
         few = omega (arith, count, t.few);
         rest = λ (i : ℕ) (past : get_or (visit d key edge) 385 0 ≤ i) (h : i < 128).
             place_kept i h (omega (arith, past, count)) ∙ t.rest i (omega (arith, past, count)) h;
@@ -115,22 +115,22 @@ module _ (d : List ℕ) (key : TileKey) (edge : ℕ) where
 -- ---- a look at the places taken
 
 module _ (d : List ℕ) (key : TileKey) (edge : ℕ) (t : Taken d) where
-  abbrev standsAt : ℕ → Bool
-  standsAt i = ltb i 128 && isFollowed d i key edge
+  abbrev stands_at : ℕ → Bool
+  stands_at i = ltb i 128 && is_followed d i key edge
 
-  none-past : (i : ℕ) → get_or d 385 0 ≤ i → standsAt i ≡ false
-  none-past i past =
+  none_past : (i : ℕ) → get_or d 385 0 ≤ i → stands_at i ≡ false
+  none_past i past =
       ⊎_elim
       (λ (h : i < 128). rw (lt-ltb i 128 h, ne_eqb (get_or d i 0) (edge + 1) (λ (e : get_or d i 0 ≡ edge + 1). omega (arith, e, t.rest i past h))))
       (λ (h : 128 ≤ i). rw (le-ltb i 128 h))
       (below_or i 128)
 
-  taken-all : wasVisited d key edge ≡ isFound (lowest (λ (i : ℕ). isFollowed d i key edge) 128)
-  unfolding wasVisited
-  taken-all =
-      ap isFound
-      (sym (lowest-end standsAt (get_or d 385 0) 128 t.few none-past)
-      ∙ lowest-same standsAt (λ (i : ℕ). isFollowed d i key edge) 128 (λ (i : ℕ) (h : i < 128). rw (lt-ltb i 128 h)))
+  taken_all : was_visited d key edge ≡ is_found (lowest (λ (i : ℕ). is_followed d i key edge) 128)
+  unfolding was_visited
+  taken_all =
+      ap is_found
+      (sym (lowest_end stands_at (get_or d 385 0) 128 t.few none_past)
+      ∙ lowest_same stands_at (λ (i : ℕ). is_followed d i key edge) 128 (λ (i : ℕ) (h : i < 128). rw (lt-ltb i 128 h)))
 
 -- ---- over the edges of a road
 
@@ -142,37 +142,37 @@ module _ {S : Type 0} (rd : Reader S) (trip : Trip) (budget : ℕ) where
   abbrev TakenRun : Run S → Type 0
   TakenRun r = Taken r.visited
 
-  taken-entered : (v m : List ℕ) (w : Walk) (pages : ℕ) → Taken v → Taken (entered v m w budget pages).visited
-  taken-entered v m w pages t =
-      of_either (λ (o : Onto). Taken o.visited) (meet m budget w.way.tile pages).fits (taken-visit v w.way.tile w.way.edge t) t
+  taken_entered : (v m : List ℕ) (w : Walk) (pages : ℕ) → Taken v → Taken (entered v m w budget pages).visited
+  taken_entered v m w pages t =
+      of_either (λ (o : Onto). Taken o.visited) (meet m budget w.way.tile pages).fits (taken_visit v w.way.tile w.way.edge t) t
 
   -- along an edge and over its junction no edge more counts as followed
-  taken-driven : (o : Onto) (t : Track) (s : S) (bs : List ℕ) (hs : List ℤ) → Taken o.visited → TakenRun (driven rd trip budget o t s bs hs)
-  taken-driven o t s bs hs h = of_either TakenRun (along trip o.walk t bs hs).track.over h h
+  taken_driven : (o : Onto) (t : Track) (s : S) (bs : List ℕ) (hs : List ℤ) → Taken o.visited → TakenRun (driven rd trip budget o t s bs hs)
+  taken_driven o t s bs hs h = of_either TakenRun (along trip o.walk t bs hs).track.over h h
 
-  taken-look : (k : Look) (r : Run S) → TakenRun r → TakenRun (edgeLook rd trip budget k r)
-  taken-look (ready bs) r h =
-      let o = enterLook (ready bs) r.visited r.met r.walk budget in
-      let onto : Taken o.visited = taken-entered r.visited r.met r.walk (span (length bs)) h in
-      of_either TakenRun (goesOn o.walk.ending) (taken-driven o r.track (rd.found r.carried r.walk.way.tile) bs r.heights onto) onto
-  taken-look missing r h = h
-  taken-look absent r h = h
-  taken-look stale r h = h
+  taken_look : (k : Look) (r : Run S) → TakenRun r → TakenRun (edge_look rd trip budget k r)
+  taken_look (ready bs) r h =
+      let o = enter_look (ready bs) r.visited r.met r.walk budget in
+      let onto : Taken o.visited = taken_entered r.visited r.met r.walk (span (length bs)) h in
+      of_either TakenRun (goes_on o.walk.ending) (taken_driven o r.track (rd.found r.carried r.walk.way.tile) bs r.heights onto) onto
+  taken_look missing r h = h
+  taken_look absent r h = h
+  taken_look stale r h = h
 
-  taken_step : (r : Run S) → TakenRun r → TakenRun (edgeStep rd trip budget r)
+  taken_step : (r : Run S) → TakenRun r → TakenRun (edge_step rd trip budget r)
   taken_step r h =
-      of_either TakenRun (goesOn r.walk.ending) (taken-look (rd.at r.carried r.walk.way.tile) r h) h
+      of_either TakenRun (goes_on r.walk.ending) (taken_look (rd.at r.carried r.walk.way.tile) r h) h
 
   -- the numbers after the first n edges are those that the junction of the last of them is crossed with
   module _ (w : Walk) (t : Track) (s : S) (hs : List ℤ) (n : ℕ) where
     abbrev road : Run S
-    road = walkTo rd trip budget (begun w t s hs) n
+    road = walk_to rd trip budget (begun w t s hs) n
 
-    taken-road : TakenRun road
-    unfolding walkTo
-    taken-road =
-        up-keeps (λ (x : Run S) (i : ℕ). edgeStep rd trip budget x) (begun w t s hs) TakenRun n taken-nothing (λ (i : ℕ) (h : i < n). taken_step)
+    taken_road : TakenRun road
+    unfolding walk_to
+    taken_road =
+        up_keeps (λ (x : Run S) (i : ℕ). edge_step rd trip budget x) (begun w t s hs) TakenRun n taken_nothing (λ (i : ℕ) (h : i < n). taken_step)
 
-    pub visited-all : (key : TileKey) (edge : ℕ)
-        → wasVisited road.visited key edge ≡ isFound (lowest (λ (i : ℕ). isFollowed road.visited i key edge) 128)
-    visited-all key edge = taken-all road.visited key edge taken-road
+    pub visited_all : (key : TileKey) (edge : ℕ)
+        → was_visited road.visited key edge ≡ is_found (lowest (λ (i : ℕ). is_followed road.visited i key edge) 128)
+    visited_all key edge = taken_all road.visited key edge taken_road

@@ -10,14 +10,14 @@ use Rattle.predict.specs.declared.Choice.{Choice}
 use Rattle.predict.specs.declared.Choices.{Choices}
 use Rattle.predict.specs.declared.choose.Picked.{Picked}
 
-abbrev pub noChoice : Choice
-noChoice = record { way = record { tile = record { row = 0; col = 0 }; edge = 0; forward = false }; cost = whole 0 }
+abbrev pub no_choice : Choice
+no_choice = record { way = record { tile = record { row = 0; col = 0 }; edge = 0; forward = false }; cost = whole 0 }
 
-abbrev pub noChoices : Choices
-noChoices = record { v = replicate 12 noChoice; len = 0 }
+abbrev pub no_choices : Choices
+no_choices = record { v = replicate 12 no_choice; len = 0 }
 
-abbrev pub choiceIn : Choices → ℕ → Choice
-choiceIn c i = get_or c.v i noChoice
+abbrev pub choice_in : Choices → ℕ → Choice
+choice_in c i = get_or c.v i no_choice
 
 unfoldable pub push : Choices → Choice → Choices
 push c choice = cond (leb 12 c.len) c (record { v = set c.v c.len choice; len = c.len + 1 })
@@ -29,14 +29,14 @@ against p c =
     (record { any = true; best = c; second = min p.second p.best.cost })
 
 -- number i of the n that there are
-unfoldable pub pickStep : Picked → ℕ → ℕ → Choice → Picked
-pickStep p n i c = cond (ltb i n) (cond p.any (against p c) (record { any = true; best = c; second = p.second })) p
+unfoldable pub pick_step : Picked → ℕ → ℕ → Choice → Picked
+pick_step p n i c = cond (ltb i n) (cond p.any (against p c) (record { any = true; best = c; second = p.second })) p
 
-abbrev pub noPick : Picked
-noPick = record { any = false; best = noChoice; second = inf false }
+abbrev pub no_pick : Picked
+no_pick = record { any = false; best = no_choice; second = inf false }
 
-unfoldable pub pickTo : Choices → ℕ → Picked
-pickTo c n = up_to (λ (p : Picked) (i : ℕ). pickStep p c.len i (choiceIn c i)) noPick n
+unfoldable pub pick_to : Choices → ℕ → Picked
+pick_to c n = up_to (λ (p : Picked) (i : ℕ). pick_step p c.len i (choice_in c i)) no_pick n
 
 abbrev pub pick : Choices → Picked
-pick c = pickTo c 12
+pick c = pick_to c 12

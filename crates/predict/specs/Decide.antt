@@ -20,8 +20,8 @@ abbrev pub go : Picked → Float → Decision
 go p confidence = record { ending = Ending.Going; way = p.best.way; confidence = confidence }
 
 -- off the map where a tile that shares the node is none
-abbrev pub noWay : Picked → Bool → Float → Decision
-noWay p blocked confidence = cond blocked (stop p End.MapEdge confidence) (stop p End.DeadEnd confidence)
+abbrev pub no_way : Picked → Bool → Float → Decision
+no_way p blocked confidence = cond blocked (stop p End.MapEdge confidence) (stop p End.DeadEnd confidence)
 
 -- 0.85 and 0.15; a margin of 4 leaves all of it
 abbrev pub lowered : Float → Float → Float
@@ -35,8 +35,8 @@ choice p confidence =
     let left = lowered confidence margin in
     cond (lt margin (whole 1)) (stop p End.Fork confidence) (cond (lt left (of_bits binary32 0x3e99999a)) (stop p End.Uncertain left) (go p left))
 
-abbrev pub decideBy : Picked → Bool → Float → Decision
-decideBy p blocked confidence = cond p.any (cond (is_finite p.second) (choice p confidence) (go p confidence)) (noWay p blocked confidence)
+abbrev pub decide_by : Picked → Bool → Float → Decision
+decide_by p blocked confidence = cond p.any (cond (is_finite p.second) (choice p confidence) (go p confidence)) (no_way p blocked confidence)
 
 unfoldable pub decide : Choices → Bool → Float → Decision
-decide c blocked confidence = decideBy (pick c) blocked confidence
+decide c blocked confidence = decide_by (pick c) blocked confidence

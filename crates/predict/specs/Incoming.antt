@@ -8,7 +8,7 @@ use Rattle.num.specs.Order.{clamp}
 use Rattle.cache.specs.declared.victim.Found.{Found}
 use Rattle.cache.specs.declared.victim.Found.TheVariants as Found
 use Rattle.geo.specs.declared.Point.{Point}
-use Rattle.geo.specs.Flat.{whole, metresOf, length_of, bearingOf}
+use Rattle.geo.specs.Flat.{whole, metres_of, length_of, bearing_of}
 use Rattle.predict.specs.declared.History.{History}
 use Rattle.predict.specs.Start.{between}
 
@@ -36,15 +36,15 @@ push h point distance = record {
   len = more h.len;
 }
 
-abbrev pub pointAt : History → ℕ → Point
-pointAt h i = record { lat = get_or h.lats i (pos 0); lon = get_or h.lons i (pos 0) }
+abbrev pub point_at : History → ℕ → Point
+point_at h i = record { lat = get_or h.lats i (pos 0); lon = get_or h.lons i (pos 0) }
 
 abbrev pub distance_at : History → ℕ → Float
 distance_at h i = get_or h.distances i (whole 0)
 
 -- HEADING_SPAN_M is 25
-abbrev pub isBack : History → Float → ℕ → Bool
-isBack h distance i = ltb i 16 && le (whole 25) (sub binary32 distance (distance_at h i))
+abbrev pub is_back : History → Float → ℕ → Bool
+is_back h distance i = ltb i 16 && le (whole 25) (sub binary32 distance (distance_at h i))
 
 -- the highest number below n that has p
 unfoldable pub highest : (ℕ → Bool) → ℕ → Found
@@ -52,23 +52,23 @@ highest p zero = Found.Nothing
 highest p (suc n) = cond (p n) (Found.At n) (highest p n)
 
 -- the latest point with one after it that lies 25 m or more back along the road
-unfoldable pub backAt : History → Float → Found
-backAt h distance = highest (λ (i : ℕ). isBack h distance i) (h.len - 1)
+unfoldable pub back_at : History → Float → Found
+back_at h distance = highest (λ (i : ℕ). is_back h distance i) (h.len - 1)
 
 -- how far from one point to the next the road 25 m back lies
-abbrev pub backPart : Float → Float → Float → Float
-backPart from to distance =
+abbrev pub back_part : Float → Float → Float → Float
+back_part from to distance =
     cond (lt from to) (clamp (div binary32 (sub binary32 (sub binary32 distance (whole 25)) from) (sub binary32 to from)) (whole 0) (whole 1)) (whole 0)
 
 abbrev pub back_by : Found → History → Float → Point
-back_by Found.Nothing h distance = pointAt h 0
+back_by Found.Nothing h distance = point_at h 0
 back_by (Found.At i) h distance =
-    between (pointAt h i) (pointAt h (i + 1)) (backPart (distance_at h i) (distance_at h (i + 1)) distance)
+    between (point_at h i) (point_at h (i + 1)) (back_part (distance_at h i) (distance_at h (i + 1)) distance)
 
-unfoldable pub backOf : History → Float → Point
-backOf h distance = back_by (backAt h distance) h distance
+unfoldable pub back_of : History → Float → Point
+back_of h distance = back_by (back_at h distance) h distance
 
 -- the heading from there to here; where that is no way at all, the approach's
 unfoldable pub incoming : History → Point → Float → ℕ → Float → Float
-incoming h here distance lonUm approach =
-    let m = metresOf here (backOf h distance) lonUm in cond (lt (whole 0) (length_of m.east m.north)) (bearingOf m.east m.north) approach
+incoming h here distance lon_um approach =
+    let m = metres_of here (back_of h distance) lon_um in cond (lt (whole 0) (length_of m.east m.north)) (bearing_of m.east m.north) approach

@@ -3,35 +3,35 @@
 -- 96 + i the column; at 192 how many tiles they are, at 193 the pages that they take.
 use Rattle.std.specs.Prelude.{ℕ, ◌+◌, ◌-◌, max, Bool, true, false, ◌&&◌, cond, List, eqb, ltb, leb, get_or, set, replicate}
 use Rattle.pack.specs.declared.TileKey.{TileKey}
-use Rattle.cache.specs.Search.{lowest, isFound}
+use Rattle.cache.specs.Search.{lowest, is_found}
 
-abbrev pub nothingMet : List ℕ
-nothingMet = replicate 194 0
+abbrev pub nothing_met : List ℕ
+nothing_met = replicate 194 0
 
-abbrev pub tilesOf : List ℕ → ℕ
-tilesOf m = get_or m 192 0
+abbrev pub tiles_of : List ℕ → ℕ
+tiles_of m = get_or m 192 0
 
-abbrev pub pagesOf : List ℕ → ℕ
-pagesOf m = get_or m 193 0
+abbrev pub pages_of : List ℕ → ℕ
+pages_of m = get_or m 193 0
 
 -- room for two of the largest tiles, six pages each, is kept
 abbrev pub budget : ℕ → ℕ
 budget count = max 1 (count - 12)
 
-abbrev pub isMet : List ℕ → ℕ → TileKey → Bool
-isMet m i key = eqb (get_or m i 0) (key.row + 1) && eqb (get_or m (96 + i) 0) key.col
+abbrev pub is_met : List ℕ → ℕ → TileKey → Bool
+is_met m i key = eqb (get_or m i 0) (key.row + 1) && eqb (get_or m (96 + i) 0) key.col
 
 -- `tiles.contains(..)`; no place past the 96th holds a tile
-unfoldable pub hasMet : List ℕ → TileKey → Bool
-hasMet m key = isFound (lowest (λ (i : ℕ). ltb i 96 && isMet m i key) (tilesOf m))
+unfoldable pub has_met : List ℕ → TileKey → Bool
+has_met m key = is_found (lowest (λ (i : ℕ). ltb i 96 && is_met m i key) (tiles_of m))
 
 -- MAX_TILES is 96
-abbrev pub hasRoom : List ℕ → ℕ → ℕ → Bool
-hasRoom m pages budget = ltb (tilesOf m) 96 && leb (pagesOf m + pages) budget
+abbrev pub has_room : List ℕ → ℕ → ℕ → Bool
+has_room m pages budget = ltb (tiles_of m) 96 && leb (pages_of m + pages) budget
 
 abbrev pub added : List ℕ → TileKey → ℕ → List ℕ
 added m key pages =
-    set (set (set (set m (tilesOf m) (key.row + 1)) (96 + tilesOf m) key.col) 192 (tilesOf m + 1)) 193 (pagesOf m + pages)
+    set (set (set (set m (tiles_of m) (key.row + 1)) (96 + tiles_of m) key.col) 192 (tiles_of m + 1)) 193 (pages_of m + pages)
 
 -- the tiles met, and whether the last one had room
 pub record Meeting : Type 0 where
@@ -40,5 +40,5 @@ pub record Meeting : Type 0 where
 
 unfoldable pub meet : List ℕ → ℕ → TileKey → ℕ → Meeting
 meet m budget key pages =
-    cond (hasMet m key) (record { met = m; fits = true })
-    (cond (hasRoom m pages budget) (record { met = added m key pages; fits = true }) (record { met = m; fits = false }))
+    cond (has_met m key) (record { met = m; fits = true })
+    (cond (has_room m pages budget) (record { met = added m key pages; fits = true }) (record { met = m; fits = false }))

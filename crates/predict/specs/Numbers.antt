@@ -6,15 +6,15 @@ use Rattle.cache.specs.declared.MaybeKey.TheVariants as MaybeKey
 use Rattle.predict.specs.declared.Outcome.{Outcome}
 use Rattle.predict.specs.declared.Outcome.TheVariants as Outcome
 
-abbrev pub numberOfOutcome : Outcome → ℕ
-numberOfOutcome (Outcome.Road prediction) = 0
-numberOfOutcome (Outcome.Need key) = 5
-numberOfOutcome Outcome.Rematch = 6
-numberOfOutcome (Outcome.Refused number) = number
+abbrev pub number_of_outcome : Outcome → ℕ
+number_of_outcome (Outcome.Road prediction) = 0
+number_of_outcome (Outcome.Need key) = 5
+number_of_outcome Outcome.Rematch = 6
+number_of_outcome (Outcome.Refused number) = number
 
 -- the key beside 5
-abbrev pub keyOfOutcome : Outcome → MaybeKey
-keyOfOutcome (Outcome.Road prediction) = MaybeKey.Nothing
-keyOfOutcome (Outcome.Need key) = MaybeKey.Key key
-keyOfOutcome Outcome.Rematch = MaybeKey.Nothing
-keyOfOutcome (Outcome.Refused number) = MaybeKey.Nothing
+abbrev pub key_of_outcome : Outcome → MaybeKey
+key_of_outcome (Outcome.Road prediction) = MaybeKey.Nothing
+key_of_outcome (Outcome.Need key) = MaybeKey.Key key
+key_of_outcome Outcome.Rematch = MaybeKey.Nothing
+key_of_outcome (Outcome.Refused number) = MaybeKey.Nothing

@@ -1,4 +1,4 @@
--- The road ahead: `predict.rs`, `predict`. `predictOver` is written once over a look and a page count and knows no cache: the direct engine
+-- The road ahead: `predict.rs`, `predict`. `predict_over` is written once over a look and a page count and knows no cache: the direct engine
 -- shares it. `predict` is it at the cache's look, with what the lookups did to clock and ages. Order (document 01, "Refused"): 12; 9 for the
 -- start's key; without direction Uncertain, before any lookup; the late 12, 5, 6 and 10 of the start; then 12 late or 5 at any lookup of the
 -- walk. Every height of both arrays is given in every case. Any horizon is accepted.
@@ -6,7 +6,7 @@ use Rattle.std.specs.Prelude.{ℕ, Bool, false, not, cond, List, [], eqb, ℤ, p
 use Rattle.std.specs.Float.{binary32}
 use Rattle.std.specs.Float.Ieee.{to_unsigned, mul, div}
 use Rattle.num.specs.Order.{clamp}
-use Rattle.pack.specs.Grid.{inGrid}
+use Rattle.pack.specs.Grid.{in_grid}
 use Rattle.pack.specs.declared.Header.{Header}
 use Rattle.pack.specs.declared.TileKey.{TileKey}
 use Rattle.tile.specs.Layout as Layout
@@ -14,22 +14,22 @@ use Rattle.tile.specs.declared.Edge.{Edge}
 use Rattle.geo.specs.declared.Point.{Point}
 use Rattle.geo.specs.Flat.{whole}
 use Rattle.cache.specs.declared.Cache.{Cache}
-use Rattle.cache.specs.State.{cacheOk}
+use Rattle.cache.specs.State.{cache_ok}
 use Rattle.cache.specs.Direct.{Look, ready, missing, absent, stale, look, looked}
 use Rattle.cache.specs.declared.Lookup.{Lookup}
 use Rattle.cache.specs.Ages.{aged}
-use Rattle.cache.specs.Reader.{Reader, plain, inBytes, inLooks}
+use Rattle.cache.specs.Reader.{Reader, plain, in_bytes, in_looks}
 use Rattle.matcher.specs.declared.Forward.{Forward}
 use Rattle.matcher.specs.declared.Forward.TheVariants as Forward
 use Rattle.matcher.specs.declared.Heading.TheVariants as Heading
 use Rattle.matcher.specs.declared.Matched.{Matched}
-use Rattle.matcher.specs.Score.{sameId}
+use Rattle.matcher.specs.Score.{same_id}
 use Rattle.predict.specs.declared.Mark.{Mark}
 use Rattle.predict.specs.Samples.{pushed}
 use Rattle.predict.specs.declared.outgoing.Leg.{Leg}
 use Rattle.predict.specs.declared.Trip.{Trip}
 use Rattle.predict.specs.declared.ridden.Behind.{Behind}
-use Rattle.predict.specs.Start.{startOk, first_of, place}
+use Rattle.predict.specs.Start.{start_ok, first_of, place}
 use Rattle.predict.specs.Incoming.{first}
 use Rattle.predict.specs.Ridden as Ridden
 use Rattle.predict.specs.declared.End.{End}
@@ -39,7 +39,7 @@ use Rattle.predict.specs.declared.Ending.TheVariants as Ending
 use Rattle.predict.specs.Meets.{budget}
 use Rattle.predict.specs.declared.Track.{Track}
 use Rattle.predict.specs.declared.Walk.{Walk}
-use Rattle.predict.specs.Walk.{Run, walkOver}
+use Rattle.predict.specs.Walk.{Run, walk_over}
 use Rattle.predict.specs.declared.Outcome.{Outcome}
 use Rattle.predict.specs.declared.Outcome.TheVariants as Outcome
 use Rattle.predict.specs.declared.Predicted.{Predicted}
@@ -47,19 +47,19 @@ use Rattle.predict.specs.declared.Prediction.{Prediction}
 
 -- ---- the road of a start
 
-abbrev pub legOf : Header → Matched → Edge → Bool → Leg
-legOf h m e forward = record { header = h; key = m.tile.key; edge = e; forward = forward }
+abbrev pub leg_of : Header → Matched → Edge → Bool → Leg
+leg_of h m e forward = record { header = h; key = m.tile.key; edge = e; forward = forward }
 
-abbrev pub noMark : Mark
-noMark = Ridden.noMark
+abbrev pub no_mark : Mark
+no_mark = Ridden.no_mark
 
 -- how far the road has been followed before its first edge
-unfoldable pub trackFrom : Point → Mark → Track
-trackFrom here mark = record { here = here; distance = whole 0; mark = mark; history = first here; over = false }
+unfoldable pub track_from : Point → Mark → Track
+track_from here mark = record { here = here; distance = whole 0; mark = mark; history = first here; over = false }
 
 -- the walk before its first edge
-unfoldable pub walkFrom : Matched → Leg → Walk
-walkFrom m leg = record {
+unfoldable pub walk_from : Matched → Leg → Walk
+walk_from m leg = record {
   way = record { tile = leg.key; edge = m.edge; forward = leg.forward };
   from = first_of leg m.segment;
   entry = Heading.Nothing;
@@ -81,14 +81,14 @@ prediction w t end b = record {
 }
 
 -- a walk that still goes on after its last edge is Uncertain
-abbrev pub outcomeBy : Ending → Walk → Track → Behind → Outcome
-outcomeBy Ending.Going w t b = Outcome.Road (prediction w t End.Uncertain b)
-outcomeBy (Ending.Stops end) w t b = Outcome.Road (prediction w t end b)
-outcomeBy (Ending.Need key) w t b = Outcome.Need key
-outcomeBy Ending.Stale w t b = Outcome.Refused 12
+abbrev pub outcome_by : Ending → Walk → Track → Behind → Outcome
+outcome_by Ending.Going w t b = Outcome.Road (prediction w t End.Uncertain b)
+outcome_by (Ending.Stops end) w t b = Outcome.Road (prediction w t end b)
+outcome_by (Ending.Need key) w t b = Outcome.Need key
+outcome_by Ending.Stale w t b = Outcome.Refused 12
 
 abbrev pub outcome : Walk → Track → Behind → Outcome
-outcome w t b = outcomeBy w.ending w t b
+outcome w t b = outcome_by w.ending w t b
 
 -- an answer, both arrays of heights, and what the lookups carry
 pub record Forecast (S : Type 0) : Type 0 where
@@ -97,57 +97,57 @@ pub record Forecast (S : Type 0) : Type 0 where
   pub behind : List ℤ
   pub carried : S
 
-abbrev pub forecastOf : {S : Type 0} → Run S → Behind → List ℤ → Forecast S
-forecastOf r b behind = record { answer = outcome r.walk r.track b; samples = r.heights; behind = behind; carried = r.carried }
+abbrev pub forecast_of : {S : Type 0} → Run S → Behind → List ℤ → Forecast S
+forecast_of r b behind = record { answer = outcome r.walk r.track b; samples = r.heights; behind = behind; carried = r.carried }
 
 abbrev pub uncertain : Outcome
 uncertain = Outcome.Road (record { len = 0; behind = 0; behind_m = whole 0; end = End.Uncertain; end_m = whole 0; confidence = 0 })
 
-abbrev pub tripOf : Header → Matched → Float → Trip
-tripOf h m horizon = record { header = h; horizon_m = horizon; z_dm = m.z_dm }
+abbrev pub trip_of : Header → Matched → Float → Trip
+trip_of h m horizon = record { header = h; horizon_m = horizon; z_dm = m.z_dm }
 
 module _ {S : Type 0} (rd : Reader S) (n : ℕ) where
   -- behind the rider against the direction of travel, then ahead
-  unfoldable pub roadOver : Trip → Matched → Bool → S → List ℕ → List ℤ → List ℤ → Forecast S
-  roadOver trip m forward s bs samples behind =
+  unfoldable pub road_over : Trip → Matched → Bool → S → List ℕ → List ℤ → List ℤ → Forecast S
+  road_over trip m forward s bs samples behind =
       let e = Layout.edge_of bs m.edge in
       let here = place trip.header bs e m in
-      let b = Ridden.ridden trip (legOf trip.header m e (not forward)) bs (Layout.head_of bs).lon_um m here behind in
-      let p = pushed noMark samples (whole 0) (pos 0) in
-      forecastOf (walkOver rd trip (budget n) (walkFrom m (legOf trip.header m e forward)) (trackFrom here p.mark) s p.heights) b.behind b.heights
+      let b = Ridden.ridden trip (leg_of trip.header m e (not forward)) bs (Layout.head_of bs).lon_um m here behind in
+      let p = pushed no_mark samples (whole 0) (pos 0) in
+      forecast_of (walk_over rd trip (budget n) (walk_from m (leg_of trip.header m e forward)) (track_from here p.mark) s p.heights) b.behind b.heights
 
   -- nothing was written
   abbrev pub nothing : Outcome → S → List ℤ → List ℤ → Forecast S
   nothing answer s samples behind = record { answer = answer; samples = samples; behind = behind; carried = s }
 
   -- the tile that was found: 6 for another one, then 10
-  abbrev pub tileOver : Trip → Matched → Bool → S → List ℕ → List ℤ → List ℤ → Forecast S
-  tileOver trip m forward s bs samples behind =
-      cond (sameId (Layout.id_of bs) m.tile)
-      (cond (startOk bs m) (roadOver trip m forward s bs samples behind) (nothing (Outcome.Refused 10) s samples behind))
+  abbrev pub tile_over : Trip → Matched → Bool → S → List ℕ → List ℤ → List ℤ → Forecast S
+  tile_over trip m forward s bs samples behind =
+      cond (same_id (Layout.id_of bs) m.tile)
+      (cond (start_ok bs m) (road_over trip m forward s bs samples behind) (nothing (Outcome.Refused 10) s samples behind))
       (nothing Outcome.Rematch s samples behind)
 
-  abbrev pub startLook : Look → Header → Matched → Bool → Float → S → List ℤ → List ℤ → Forecast S
-  startLook (ready bs) h m forward horizon s samples behind =
-      tileOver (tripOf h m horizon) m forward (rd.found s m.tile.key) bs samples behind
-  startLook missing h m forward horizon s samples behind = nothing Outcome.Rematch s samples behind
-  startLook absent h m forward horizon s samples behind = nothing (Outcome.Need m.tile.key) s samples behind
-  startLook stale h m forward horizon s samples behind = nothing (Outcome.Refused 12) s samples behind
+  abbrev pub start_look : Look → Header → Matched → Bool → Float → S → List ℤ → List ℤ → Forecast S
+  start_look (ready bs) h m forward horizon s samples behind =
+      tile_over (trip_of h m horizon) m forward (rd.found s m.tile.key) bs samples behind
+  start_look missing h m forward horizon s samples behind = nothing Outcome.Rematch s samples behind
+  start_look absent h m forward horizon s samples behind = nothing (Outcome.Need m.tile.key) s samples behind
+  start_look stale h m forward horizon s samples behind = nothing (Outcome.Refused 12) s samples behind
 
-  abbrev pub startOver : Header → Matched → Bool → Float → S → List ℤ → List ℤ → Forecast S
-  startOver h m forward horizon s samples behind = startLook (rd.at s m.tile.key) h m forward horizon s samples behind
+  abbrev pub start_over : Header → Matched → Bool → Float → S → List ℤ → List ℤ → Forecast S
+  start_over h m forward horizon s samples behind = start_look (rd.at s m.tile.key) h m forward horizon s samples behind
 
   -- without a direction nothing is looked up
-  abbrev pub directedOver : Forward → Header → Matched → Float → S → List ℤ → List ℤ → Forecast S
-  directedOver Forward.Unknown h m horizon s samples behind = nothing uncertain s samples behind
-  directedOver (Forward.Is forward) h m horizon s samples behind = startOver h m forward horizon s samples behind
+  abbrev pub directed_over : Forward → Header → Matched → Float → S → List ℤ → List ℤ → Forecast S
+  directed_over Forward.Unknown h m horizon s samples behind = nothing uncertain s samples behind
+  directed_over (Forward.Is forward) h m horizon s samples behind = start_over h m forward horizon s samples behind
 
-  unfoldable pub forecastOver : Header → Matched → Float → S → List ℤ → List ℤ → Forecast S
-  forecastOver h m horizon s samples behind = directedOver m.forward h m horizon s samples behind
+  unfoldable pub forecast_over : Header → Matched → Float → S → List ℤ → List ℤ → Forecast S
+  forecast_over h m horizon s samples behind = directed_over m.forward h m horizon s samples behind
 
 -- THE definition, over any look and any page count; it carries the keys found, in order
-abbrev pub predictOver : (TileKey → Look) → ℕ → Header → Matched → Float → List ℤ → List ℤ → Forecast (List TileKey)
-predictOver at n h m horizon samples behind = forecastOver (plain at) n h m horizon [] samples behind
+abbrev pub predict_over : (TileKey → Look) → ℕ → Header → Matched → Float → List ℤ → List ℤ → Forecast (List TileKey)
+predict_over at n h m horizon samples behind = forecast_over (plain at) n h m horizon [] samples behind
 
 -- ---- at the cache's look
 
@@ -158,11 +158,11 @@ pub record After : Type 0 where
   pub behind : List ℤ
 
 -- on the late 12 the state is the one given
-abbrev pub cacheAfter : Outcome → Cache → Cache → Cache
-cacheAfter (Outcome.Road p) c d = d
-cacheAfter (Outcome.Need key) c d = d
-cacheAfter Outcome.Rematch c d = d
-cacheAfter (Outcome.Refused number) c d = cond (eqb number 12) c d
+abbrev pub cache_after : Outcome → Cache → Cache → Cache
+cache_after (Outcome.Road p) c d = d
+cache_after (Outcome.Need key) c d = d
+cache_after Outcome.Rematch c d = d
+cache_after (Outcome.Refused number) c d = cond (eqb number 12) c d
 
 abbrev pub refused : Cache → ℕ → Predicted
 refused c number = record { answer = Outcome.Refused number; cache = c }
@@ -170,52 +170,52 @@ refused c number = record { answer = Outcome.Refused number; cache = c }
 abbrev pub untouched : Predicted → List ℤ → List ℤ → After
 untouched p samples behind = record { predicted = p; samples = samples; behind = behind }
 
-unfoldable pub predictedIn : Cache → List ℕ → Header → Matched → Float → List ℤ → List ℤ → After
-predictedIn c arena h m horizon samples behind =
-    let f = predictOver (look c arena h.tile) c.pages.count h m horizon samples behind in
+unfoldable pub predicted_in : Cache → List ℕ → Header → Matched → Float → List ℤ → List ℤ → After
+predicted_in c arena h m horizon samples behind =
+    let f = predict_over (look c arena h.tile) c.pages.count h m horizon samples behind in
     record {
-      predicted = record { answer = f.answer; cache = cacheAfter f.answer c (looked c arena h.tile f.carried) };
+      predicted = record { answer = f.answer; cache = cache_after f.answer c (looked c arena h.tile f.carried) };
       samples = f.samples;
       behind = f.behind;
     }
 
 -- `predict` past number 12's test
-abbrev pub predictTested : Cache → List ℕ → Header → Matched → Float → List ℤ → List ℤ → After
-predictTested c arena h m horizon samples behind =
-    cond (inGrid h m.tile.key) (predictedIn c arena h m horizon samples behind) (untouched (refused c 9) samples behind)
+abbrev pub predict_tested : Cache → List ℕ → Header → Matched → Float → List ℤ → List ℤ → After
+predict_tested c arena h m horizon samples behind =
+    cond (in_grid h m.tile.key) (predicted_in c arena h m horizon samples behind) (untouched (refused c 9) samples behind)
 
 unfoldable pub predict : Cache → List ℕ → Header → Matched → Float → List ℤ → List ℤ → After
 predict c arena h m horizon samples behind =
-    cond (cacheOk c h (length arena)) (predictTested c arena h m horizon samples behind) (untouched (refused c 12) samples behind)
+    cond (cache_ok c h (length arena)) (predict_tested c arena h m horizon samples behind) (untouched (refused c 12) samples behind)
 
 -- ---- the code's
 
-abbrev pub noDirection : Cache → Predicted
-noDirection c = record { answer = uncertain; cache = c }
+abbrev pub no_direction : Cache → Predicted
+no_direction c = record { answer = uncertain; cache = c }
 
 abbrev pub closed : Cache → List ℕ → Outcome → Predicted
-closed c looks answer = record { answer = answer; cache = cacheAfter answer c (aged c looks) }
+closed c looks answer = record { answer = answer; cache = cache_after answer c (aged c looks) }
 
 abbrev pub after_of : Cache → Forecast (List ℕ) → After
 after_of c f = record { predicted = closed c f.carried f.answer; samples = f.samples; behind = f.behind }
 
-unfoldable pub roadOf : List ℕ → List ℕ → ℕ → Trip → Matched → Bool → List ℕ → List ℤ → List ℤ → Forecast (List ℕ)
-roadOf looks arena n trip m forward bs samples behind = roadOver (inLooks arena trip.header.tile) n trip m forward looks bs samples behind
+unfoldable pub road_of : List ℕ → List ℕ → ℕ → Trip → Matched → Bool → List ℕ → List ℤ → List ℤ → Forecast (List ℕ)
+road_of looks arena n trip m forward bs samples behind = road_over (in_looks arena trip.header.tile) n trip m forward looks bs samples behind
 
-unfoldable pub fromTile : List ℕ → List ℕ → ℕ → Trip → Matched → Bool → List ℕ → List ℤ → List ℤ → Forecast (List ℕ)
-fromTile looks arena n trip m forward bs samples behind = tileOver (inLooks arena trip.header.tile) n trip m forward looks bs samples behind
+unfoldable pub from_tile : List ℕ → List ℕ → ℕ → Trip → Matched → Bool → List ℕ → List ℤ → List ℤ → Forecast (List ℕ)
+from_tile looks arena n trip m forward bs samples behind = tile_over (in_looks arena trip.header.tile) n trip m forward looks bs samples behind
 
 -- by the answer of the lookup of the start's tile, with the numbers after it
-abbrev pub startedLook : Look → List ℕ → List ℕ → ℕ → Header → Matched → Bool → Float → List ℤ → List ℤ → Forecast (List ℕ)
-startedLook (ready bs) looks arena n h m forward horizon samples behind = fromTile looks arena n (tripOf h m horizon) m forward bs samples behind
-startedLook missing looks arena n h m forward horizon samples behind = nothing (inLooks arena h.tile) n Outcome.Rematch looks samples behind
-startedLook absent looks arena n h m forward horizon samples behind =
-    nothing (inLooks arena h.tile) n (Outcome.Need m.tile.key) looks samples behind
-startedLook stale looks arena n h m forward horizon samples behind = nothing (inLooks arena h.tile) n (Outcome.Refused 12) looks samples behind
+abbrev pub started_look : Look → List ℕ → List ℕ → ℕ → Header → Matched → Bool → Float → List ℤ → List ℤ → Forecast (List ℕ)
+started_look (ready bs) looks arena n h m forward horizon samples behind = from_tile looks arena n (trip_of h m horizon) m forward bs samples behind
+started_look missing looks arena n h m forward horizon samples behind = nothing (in_looks arena h.tile) n Outcome.Rematch looks samples behind
+started_look absent looks arena n h m forward horizon samples behind =
+    nothing (in_looks arena h.tile) n (Outcome.Need m.tile.key) looks samples behind
+started_look stale looks arena n h m forward horizon samples behind = nothing (in_looks arena h.tile) n (Outcome.Refused 12) looks samples behind
 
-unfoldable pub startedBy : List ℕ → List ℕ → ℕ → Header → Lookup → Matched → Bool → Float → List ℤ → List ℤ → Forecast (List ℕ)
-startedBy looks arena n h answer m forward horizon samples behind = startedLook (inBytes answer arena) looks arena n h m forward horizon samples behind
+unfoldable pub started_by : List ℕ → List ℕ → ℕ → Header → Lookup → Matched → Bool → Float → List ℤ → List ℤ → Forecast (List ℕ)
+started_by looks arena n h answer m forward horizon samples behind = started_look (in_bytes answer arena) looks arena n h m forward horizon samples behind
 
--- over the numbers that lookups go by, for the crates above (`looks-predict`)
-unfoldable pub fromLooks : List ℕ → List ℕ → ℕ → Header → Matched → Float → List ℤ → List ℤ → Forecast (List ℕ)
-fromLooks looks arena n h m horizon samples behind = forecastOver (inLooks arena h.tile) n h m horizon looks samples behind
+-- over the numbers that lookups go by, for the crates above (`looks_predict`)
+unfoldable pub from_looks : List ℕ → List ℕ → ℕ → Header → Matched → Float → List ℤ → List ℤ → Forecast (List ℕ)
+from_looks looks arena n h m horizon samples behind = forecast_over (in_looks arena h.tile) n h m horizon looks samples behind

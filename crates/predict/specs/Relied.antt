@@ -6,18 +6,18 @@ use Rattle.cache.specs.Direct.{Look, Agree}
 use Rattle.matcher.specs.declared.Matched.{Matched}
 use Rattle.predict.specs.declared.Outcome.{Outcome}
 use Rattle.predict.specs.declared.Outcome.TheVariants as Outcome
-use Rattle.predict.specs.Predict.{predictOver}
+use Rattle.predict.specs.Predict.{predict_over}
 
 -- ended with a road, by 6 or by 10 (document 01: "a road is finished where working it out ends other than by 5, 12")
-abbrev pub isFinished : Outcome → Bool
-isFinished (Outcome.Road p) = true
-isFinished (Outcome.Need key) = false
-isFinished Outcome.Rematch = true
-isFinished (Outcome.Refused number) = not (eqb number 12)
+abbrev pub is_finished : Outcome → Bool
+is_finished (Outcome.Road p) = true
+is_finished (Outcome.Need key) = false
+is_finished Outcome.Rematch = true
+is_finished (Outcome.Refused number) = not (eqb number 12)
 
 -- where it finishes at one look, it gives the same answer and heights, and finds the same keys, at every look that agrees with it
 abbrev pub PredictAgrees : Type 0
 PredictAgrees =
     (one two : TileKey → Look) → Agree one two → (n : ℕ) (h : Header) (m : Matched) (horizon : Float) (samples behind : List ℤ) →
-    isFinished (predictOver one n h m horizon samples behind).answer ≡ true →
-    predictOver two n h m horizon samples behind ≡ predictOver one n h m horizon samples behind
+    is_finished (predict_over one n h m horizon samples behind).answer ≡ true →
+    predict_over two n h m horizon samples behind ≡ predict_over one n h m horizon samples behind

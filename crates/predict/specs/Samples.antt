@@ -9,8 +9,8 @@ abbrev pub whole : ℕ → Float
 whole n = of_int binary32 (pos n)
 
 -- SAMPLE_M is 20
-abbrev pub sampleAt : ℕ → Float
-sampleAt i = mul binary32 (whole i) (whole 20)
+abbrev pub sample_at : ℕ → Float
+sample_at i = mul binary32 (whole i) (whole 20)
 
 -- between the last road point and the next: along the straight line, or at the next where they are at one distance
 abbrev pub between : Mark → Float → Float → ℤ → Float
@@ -21,8 +21,8 @@ between m at d z =
     (of_int binary32 z)
 
 -- held to 16 bits
-unfoldable pub heightAt : Mark → Float → Float → ℤ → ℤ
-heightAt m at d z = to_signed 15 (clamp (between m at d z) (neg (whole 32768)) (whole 32767))
+unfoldable pub height_at : Mark → Float → Float → ℤ → ℤ
+height_at m at d z = to_signed 15 (clamp (between m at d z) (neg (whole 32768)) (whole 32767))
 
 pub record Pushed : Type 0 where
   pub mark : Mark
@@ -32,15 +32,15 @@ abbrev pub stopped : ℕ → Float → ℤ → List ℤ → Pushed
 stopped len d z hs = record { mark = record { len = len; distance = d; z = z }; heights = hs }
 
 -- the samples from number `len` on, of which `room` fit, up to the distance
-unfoldable pub pushFrom : ℕ → Mark → Float → ℤ → ℕ → List ℤ → Pushed
-pushFrom zero m d z len hs = stopped len d z hs
-pushFrom (suc room) m d z len hs =
-    cond (lt d (sampleAt len)) (stopped len d z hs) (pushFrom room m d z (len + 1) (set hs len (heightAt m (sampleAt len) d z)))
+unfoldable pub push_from : ℕ → Mark → Float → ℤ → ℕ → List ℤ → Pushed
+push_from zero m d z len hs = stopped len d z hs
+push_from (suc room) m d z len hs =
+    cond (lt d (sample_at len)) (stopped len d z hs) (push_from room m d z (len + 1) (set hs len (height_at m (sample_at len) d z)))
 
 abbrev pub pushed : Mark → List ℤ → Float → ℤ → Pushed
-pushed m hs d z = pushFrom (length hs - m.len) m d z m.len hs
+pushed m hs d z = push_from (length hs - m.len) m d z m.len hs
 
--- ---- the same in one pass over what a height is of its distance: this restates private code, and `SampleTurns` has that it is `pushFrom`
+-- ---- the same in one pass over what a height is of its distance: this restates private code, and `SampleTurns` has that it is `push_from`
 
 -- how many samples are written, and they
 pub record Filled : Type 0 where
@@ -50,7 +50,7 @@ pub record Filled : Type 0 where
 unfoldable pub filled : (Float → ℤ) → ℕ → Float → ℕ → List ℤ → Filled
 filled f zero d len hs = record { len = len; heights = hs }
 filled f (suc room) d len hs =
-    cond (lt d (sampleAt len)) (record { len = len; heights = hs }) (filled f room d (len + 1) (set hs len (f (sampleAt len))))
+    cond (lt d (sample_at len)) (record { len = len; heights = hs }) (filled f room d (len + 1) (set hs len (f (sample_at len))))
 
 abbrev pub held : Float → ℤ
 held value = to_signed 15 (clamp value (neg (whole 32768)) (whole 32767))

@@ -23,17 +23,17 @@ abbrev pub less : ℤ → ℤ → ℤ
 less a b = held (a -ℤ b)
 
 -- a, and the part t of the way to b, cut toward zero
-unfoldable pub partWay : ℤ → ℤ → Float → ℤ
-partWay a b t = held (a +ℤ to_signed 31 (mul binary32 (of_int binary32 (b -ℤ a)) t))
+unfoldable pub part_way : ℤ → ℤ → Float → ℤ
+part_way a b t = held (a +ℤ to_signed 31 (mul binary32 (of_int binary32 (b -ℤ a)) t))
 
 abbrev pub between : Point → Point → Float → Point
-between a b t = record { lat = partWay a.lat b.lat t; lon = partWay a.lon b.lon t }
+between a b t = record { lat = part_way a.lat b.lat t; lon = part_way a.lon b.lon t }
 
 -- number 10: an edge of the tile; a segment of that edge, of which there are as many as vertices and one; a fraction from 0 to 1, which
 -- not-a-number is not; a height within ±1,000,000
-unfoldable pub startOk : List ℕ → Matched → Bool
-startOk bs m =
-    ltb m.edge (Layout.edgesOf bs)
+unfoldable pub start_ok : List ℕ → Matched → Bool
+start_ok bs m =
+    ltb m.edge (Layout.edges_of bs)
     && (leb m.segment (Layout.edge_of bs m.edge).vertices
     && (le (whole 0) m.fraction && (le m.fraction (whole 1) && (le_z (negsuc 999999) m.z_dm && le_z m.z_dm (pos 1000000)))))
 

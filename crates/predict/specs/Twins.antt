@@ -15,28 +15,28 @@ abbrev pub side_of : ℕ → ℕ → ℕ → Side
 side_of i at size =
     cond (eqb i 0) (record { step = pos 0; at = at }) (cond (eqb i 1) (record { step = negsuc 0; at = size }) (record { step = pos 1; at = 0 }))
 
-abbrev pub noTwin : Twin
-noTwin = record { row = pos 0; col = pos 0; x = 0; y = 0 }
+abbrev pub no_twin : Twin
+no_twin = record { row = pos 0; col = pos 0; x = 0; y = 0 }
 
-abbrev pub noTwins : TwinList
-noTwins = record { v = replicate 8 noTwin; len = 0 }
+abbrev pub no_twins : TwinList
+no_twins = record { v = replicate 8 no_twin; len = 0 }
 
 unfoldable pub push : TwinList → Twin → TwinList
 push t twin = cond (leb 8 t.len) t (record { v = set t.v t.len twin; len = t.len + 1 })
 
-abbrev pub twinOf : ℕ → ℕ → ℕ → ℕ → Twin
-twinOf i x y size =
+abbrev pub twin_of : ℕ → ℕ → ℕ → ℕ → Twin
+twin_of i x y size =
     let row = side_of (i / 3) y size in
     let col = side_of (i % 3) x size in
     record { row = row.step; col = col.step; x = col.at; y = row.at }
 
 -- number i of nine: the tile itself is none
-unfoldable pub twinStep : TwinList → ℕ → ℕ → ℕ → ℕ → TwinList
-twinStep t i x y size =
-    cond (not (eqb i 0) && (shares (i / 3) y size && shares (i % 3) x size)) (push t (twinOf i x y size)) t
+unfoldable pub twin_step : TwinList → ℕ → ℕ → ℕ → ℕ → TwinList
+twin_step t i x y size =
+    cond (not (eqb i 0) && (shares (i / 3) y size && shares (i % 3) x size)) (push t (twin_of i x y size)) t
 
-unfoldable pub twinsTo : ℕ → ℕ → ℕ → ℕ → TwinList
-twinsTo x y size n = up_to (λ (t : TwinList) (i : ℕ). twinStep t i x y size) noTwins n
+unfoldable pub twins_to : ℕ → ℕ → ℕ → ℕ → TwinList
+twins_to x y size n = up_to (λ (t : TwinList) (i : ℕ). twin_step t i x y size) no_twins n
 
-abbrev pub boundaryTwins : ℕ → ℕ → ℕ → TwinList
-boundaryTwins x y size = twinsTo x y size 9
+abbrev pub boundary_twins : ℕ → ℕ → ℕ → TwinList
+boundary_twins x y size = twins_to x y size 9

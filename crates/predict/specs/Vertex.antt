@@ -10,7 +10,7 @@ use Rattle.tile.specs.Layout as Layout
 use Rattle.tile.specs.declared.Node.{Node}
 use Rattle.geo.specs.declared.Point.{Point}
 use Rattle.geo.specs.Points as Points
-use Rattle.geo.specs.Flat.{whole, metresOf, length_of}
+use Rattle.geo.specs.Flat.{whole, metres_of, length_of}
 use Rattle.predict.specs.declared.Course.{Course}
 use Rattle.predict.specs.declared.Mark.{Mark}
 use Rattle.predict.specs.Samples.{pushed}
@@ -22,11 +22,11 @@ use Rattle.predict.specs.Start.{less}
 use Rattle.predict.specs.Incoming as Incoming
 
 -- point number i along the leg, from 0 at its start
-unfoldable pub nodeAt : Leg → List ℕ → ℕ → Node
-nodeAt leg bs i = Layout.point_of bs leg.edge (cond leg.forward i (last_of leg - i))
+unfoldable pub node_at : Leg → List ℕ → ℕ → Node
+node_at leg bs i = Layout.point_of bs leg.edge (cond leg.forward i (last_of leg - i))
 
 abbrev pub step_of : Point → Point → ℕ → Float
-step_of from to lonUm = let m = metresOf to from lonUm in length_of m.east m.north
+step_of from to lon_um = let m = metres_of to from lon_um in length_of m.east m.north
 
 -- a track, and the heights beside it
 pub record Along : Type 0 where
@@ -38,12 +38,12 @@ pub record Along : Type 0 where
 abbrev pub part_of : Float → Float → Float
 part_of left step = cond (lt (whole 0) step) (clamp (div binary32 left step) (whole 0) (whole 1)) (whole 1)
 
-abbrev pub heightThere : Mark → ℤ → Float → ℤ
-heightThere m z t = to_signed 31 (add binary32 (of_int binary32 m.z) (mul binary32 (of_int binary32 (z -ℤ m.z)) t))
+abbrev pub height_there : Mark → ℤ → Float → ℤ
+height_there m z t = to_signed 31 (add binary32 (of_int binary32 m.z) (mul binary32 (of_int binary32 (z -ℤ m.z)) t))
 
 unfoldable pub reached : Trip → Track → Float → ℤ → List ℤ → Along
 reached trip t step z hs =
-    let there = heightThere t.mark z (part_of (sub binary32 trip.horizon_m t.distance) step) in
+    let there = height_there t.mark z (part_of (sub binary32 trip.horizon_m t.distance) step) in
     let p = pushed t.mark hs trip.horizon_m there in
     record {
       track = record { here = t.here; distance = trip.horizon_m; mark = p.mark; history = t.history; over = true };
@@ -61,33 +61,33 @@ passed t distance point z hs =
 
 -- ---- point number i
 
-abbrev pub advancedTo : Trip → ℕ → Track → Point → ℤ → List ℤ → Along
-advancedTo trip lonUm t point z hs =
-    let step = step_of t.here point lonUm in
+abbrev pub advanced_to : Trip → ℕ → Track → Point → ℤ → List ℤ → Along
+advanced_to trip lon_um t point z hs =
+    let step = step_of t.here point lon_um in
     let distance = add binary32 t.distance step in
     cond (le trip.horizon_m distance) (reached trip t step z hs) (passed t distance point z hs)
 
 unfoldable pub advanced : Trip → Leg → List ℕ → ℕ → Track → ℕ → List ℤ → Along
-advanced trip leg bs lonUm t i hs =
-    let node = nodeAt leg bs i in
-    advancedTo trip lonUm t (Points.point_of leg.header leg.key node) (less (Points.zDm node) trip.z_dm) hs
+advanced trip leg bs lon_um t i hs =
+    let node = node_at leg bs i in
+    advanced_to trip lon_um t (Points.point_of leg.header leg.key node) (less (Points.z_dm node) trip.z_dm) hs
 
 -- ---- the points from number `from` on, n of them, until the road is over
 
-abbrev pub vertexStep : Trip → Leg → List ℕ → ℕ → ℕ → Along → ℕ → Along
-vertexStep trip leg bs lonUm from a i = cond a.track.over a (advanced trip leg bs lonUm a.track (from + i) a.heights)
+abbrev pub vertex_step : Trip → Leg → List ℕ → ℕ → ℕ → Along → ℕ → Along
+vertex_step trip leg bs lon_um from a i = cond a.track.over a (advanced trip leg bs lon_um a.track (from + i) a.heights)
 
 unfoldable pub vertices : Trip → Leg → List ℕ → ℕ → ℕ → Along → ℕ → Along
-vertices trip leg bs lonUm from a n = up_to (vertexStep trip leg bs lonUm from) a n
+vertices trip leg bs lon_um from a n = up_to (vertex_step trip leg bs lon_um from) a n
 
 -- to the end of the leg
-abbrev pub toEnd : Trip → Leg → List ℕ → ℕ → ℕ → Along → Along
-toEnd trip leg bs lonUm from a = vertices trip leg bs lonUm from a (last_of leg + 1 - from)
+abbrev pub to_end : Trip → Leg → List ℕ → ℕ → ℕ → Along → Along
+to_end trip leg bs lon_um from a = vertices trip leg bs lon_um from a (last_of leg + 1 - from)
 
 -- ---- the code's: a track whose history stands beside it, as three lists that are lent
 
-abbrev pub trackOf : Course → List ℤ → List ℤ → List Float → Track
-trackOf c lats lons ds = record {
+abbrev pub track_of : Course → List ℤ → List ℤ → List Float → Track
+track_of c lats lons ds = record {
   here = c.here;
   distance = c.distance;
   mark = c.mark;
@@ -95,5 +95,5 @@ trackOf c lats lons ds = record {
   over = c.over;
 }
 
-abbrev pub courseOf : Track → Course
-courseOf t = record { here = t.here; distance = t.distance; mark = t.mark; len = t.history.len; over = t.over }
+abbrev pub course_of : Track → Course
+course_of t = record { here = t.here; distance = t.distance; mark = t.mark; len = t.history.len; over = t.over }

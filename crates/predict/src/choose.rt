@@ -6,7 +6,7 @@ use crate::{Choice, Choices, Way};
 use pack::TileKey;
 
 fn no_choice() -> Choice
-    ensures { result ≡ Choose.noChoice }
+    ensures { result ≡ Choose.no_choice }
 {
     let way = Way {
         tile: TileKey { row: 0, col: 0 },
@@ -17,7 +17,7 @@ fn no_choice() -> Choice
 }
 
 pub(crate) fn no_choices() -> Choices
-    ensures { result ≡ Choose.noChoices }
+    ensures { result ≡ Choose.no_choices }
 {
     let c = no_choice();
     let v = [c; 12];
@@ -34,7 +34,7 @@ pub struct Picked {
 
 // One choice more: of equals the first is the best.
 fn pick_step(p: Picked, n: usize, i: usize, c: Choice) -> Picked
-    ensures { result ≡ Choose.pickStep p n i c }
+    ensures { result ≡ Choose.pick_step p n i c }
 {
     if n <= i {
         return p;

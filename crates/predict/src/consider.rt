@@ -43,7 +43,7 @@ fn is_way_on(
     key: TileKey,
     entry: Incident,
 ) -> bool
-    ensures { result ≡ Consider.isWayOn a visited.now bytes.now key entry }
+    ensures { result ≡ Consider.is_way_on a visited.now bytes.now key entry }
 {
     let way = a.way;
     if entry.edge == way.edge {

@@ -21,7 +21,7 @@ pub(crate) struct Bound {
 
 // The turn; going on round a roundabout has a price of its own.
 fn turn_cost(bound: Bound, heading: f32, next: Edge) -> f32
-    ensures { result ≡ Cost.turnCost bound heading next }
+    ensures { result ≡ Cost.turn_cost bound heading next }
 {
     if bound.round && next.has(tile::flag::ROUNDABOUT) {
         return 1.2;
@@ -32,7 +32,7 @@ fn turn_cost(bound: Bound, heading: f32, next: Edge) -> f32
 
 // Staying on the same named road.
 fn with_name(cost: f32, road: Road, next: Edge) -> f32
-    ensures { result ≡ Cost.withName cost road next }
+    ensures { result ≡ Cost.with_name cost road next }
 {
     if road.group != 0 && next.group == road.group {
         return cost - 3.0;
@@ -42,7 +42,7 @@ fn with_name(cost: f32, road: Road, next: Edge) -> f32
 
 // More minor costs more than more major saves.
 fn with_class(cost: f32, road: Road, next: Edge) -> f32
-    ensures { result ≡ Cost.withClass cost road next }
+    ensures { result ≡ Cost.with_class cost road next }
 {
     let step = (next.class as i32) - (road.class as i32);
     if step > 0 {
@@ -53,7 +53,7 @@ fn with_class(cost: f32, road: Road, next: Edge) -> f32
 
 // Leaving the road for a slip road.
 fn with_link(cost: f32, road: Road, next: Edge) -> f32
-    ensures { result ≡ Cost.withLink cost road next }
+    ensures { result ≡ Cost.with_link cost road next }
 {
     if next.has(tile::flag::LINK) && road.flags & tile::flag::LINK == 0 {
         return cost + 1.5;
@@ -62,7 +62,7 @@ fn with_link(cost: f32, road: Road, next: Edge) -> f32
 }
 
 fn off_road(class: u8) -> bool
-    ensures { result ≡ Cost.offRoad class }
+    ensures { result ≡ Cost.off_road class }
 {
     if class == tile::class::TRACK {
         return true;
@@ -72,7 +72,7 @@ fn off_road(class: u8) -> bool
 
 // Leaving the road for a track or a path.
 fn with_track(cost: f32, road: Road, next: Edge) -> f32
-    ensures { result ≡ Cost.withTrack cost road next }
+    ensures { result ≡ Cost.with_track cost road next }
 {
     if off_road(next.class) && !off_road(road.class) {
         return cost + 2.0;
@@ -82,7 +82,7 @@ fn with_track(cost: f32, road: Road, next: Edge) -> f32
 
 // Leaving the road for a cycleway.
 fn with_cycleway(cost: f32, road: Road, next: Edge) -> f32
-    ensures { result ≡ Cost.withCycleway cost road next }
+    ensures { result ≡ Cost.with_cycleway cost road next }
 {
     if next.class == tile::class::CYCLEWAY && road.class != tile::class::CYCLEWAY {
         return cost + 1.0;
@@ -92,7 +92,7 @@ fn with_cycleway(cost: f32, road: Road, next: Edge) -> f32
 
 // All of it, one rounding an operation.
 pub(crate) fn cost_of(bound: Bound, road: Road, heading: f32, next: Edge) -> f32
-    ensures { result ≡ Cost.costOf bound road heading next }
+    ensures { result ≡ Cost.cost_of bound road heading next }
 {
     let a = turn_cost(bound, heading, next);
     let b = with_name(a, road, next);

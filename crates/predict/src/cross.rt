@@ -1,7 +1,7 @@
 // The ways on from every tile that shares the junction's node, each tile by a lookup.
 ghost use Rattle.std.specs.Prelude.{◌≡◌, cond, pos, ◌+ℤ◌};
 ghost use Rattle.std.specs.Int.Signed.{lt_z};
-ghost use Rattle.pack.specs.Grid.{checkedOf};
+ghost use Rattle.pack.specs.Grid.{checked_of};
 ghost use Rattle.predict.specs.Cross as Cross;
 
 use crate::twins::{Twin, TwinList};
@@ -19,7 +19,7 @@ fn consider_at(
     key: TileKey,
     twin: Twin,
 ) -> Choices
-    ensures { result ≡ Cross.considerAt c a visited.now bytes.now key twin }
+    ensures { result ≡ Cross.consider_at c a visited.now bytes.now key twin }
 {
     match tile::read::node_at(bytes, twin.x, twin.y) {
         Found::At(node) => crate::consider::consider(c, a, visited, bytes, key, node),
@@ -29,7 +29,7 @@ fn consider_at(
 
 // The lookups end here.
 fn ended(x: Crossing, ending: Ending) -> Crossing
-    ensures { result ≡ Cross.endedBy x ending }
+    ensures { result ≡ Cross.ended_by x ending }
 {
     let choices = x.choices;
     Crossing {
@@ -49,7 +49,7 @@ fn twin_found(
     key: TileKey,
     twin: Twin,
 ) -> Crossing
-    ensures { result ≡ Cross.twinFound x answer arena.now a visited.now key twin }
+    ensures { result ≡ Cross.twin_found x answer arena.now a visited.now key twin }
 {
     let mut d = x;
     match answer {
@@ -87,7 +87,7 @@ fn stepped(at: u16, step: i64) -> i64
 
 // The tile that a twin stands in.
 fn key_of(a: Arrival, twin: Twin) -> Keyed
-    ensures { result ≡ checkedOf a.header (pos a.way.tile.row +ℤ twin.row) (pos a.way.tile.col +ℤ twin.col) }
+    ensures { result ≡ checked_of a.header (pos a.way.tile.row +ℤ twin.row) (pos a.way.tile.col +ℤ twin.col) }
 {
     let way = a.way;
     let tile = way.tile;
@@ -106,8 +106,8 @@ fn twin_step(
     looks: &mut [u32; cache::ages::LOOKUPS],
     twin: Twin,
 ) -> Crossing
-    ensures value { result ≡ Cross.crossing (Cross.twinStep x arena.now a visited.now looks.old twin) }
-    ensures looks_after { looks.new ≡ (Cross.twinStep x arena.now a visited.now looks.old twin).carried }
+    ensures value { result ≡ Cross.crossing (Cross.twin_step x arena.now a visited.now looks.old twin) }
+    ensures looks_after { looks.new ≡ (Cross.twin_step x arena.now a visited.now looks.old twin).carried }
 {
     match key_of(a, twin) {
         Keyed::In(key) => {
@@ -135,8 +135,8 @@ fn cross_step(
     i: usize,
     n: usize,
 ) -> Crossing
-    ensures value { result ≡ Cross.crossing (Cross.crossStep x arena.now a visited.now looks.old twin i n) }
-    ensures looks_after { looks.new ≡ (Cross.crossStep x arena.now a visited.now looks.old twin i n).carried }
+    ensures value { result ≡ Cross.crossing (Cross.cross_step x arena.now a visited.now looks.old twin i n) }
+    ensures looks_after { looks.new ≡ (Cross.cross_step x arena.now a visited.now looks.old twin i n).carried }
 {
     let ending = x.ending;
     if n <= i {

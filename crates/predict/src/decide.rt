@@ -20,7 +20,7 @@ fn stop(p: Picked, end: End, confidence: f32) -> Decision
 
 // No way on: off the map, or a dead end.
 fn no_way(p: Picked, blocked: bool, confidence: f32) -> Decision
-    ensures { result ≡ Decide.noWay p blocked confidence }
+    ensures { result ≡ Decide.no_way p blocked confidence }
 {
     if blocked {
         return stop(p, End::MapEdge, confidence);

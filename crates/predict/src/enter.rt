@@ -15,7 +15,7 @@ pub(crate) struct Entered {
 
 // The walk, ended so.
 pub(crate) fn with_ending(w: Walk, ending: Ending) -> Walk
-    ensures { result ≡ Walks.withEnding w ending }
+    ensures { result ≡ Walks.with_ending w ending }
 {
     let way = w.way;
     let entry = w.entry;
@@ -61,9 +61,9 @@ fn entered_by(
     visited: &mut [u32; crate::VISITED],
     met: &mut [u64; crate::MET],
 ) -> Entered
-    ensures value { result ≡ Walks.entered_at (Walks.enteredBy visited.old met.old w answer arena.now budget) answer }
-    ensures visited_after { visited.new ≡ (Walks.enteredBy visited.old met.old w answer arena.now budget).visited }
-    ensures met_after { met.new ≡ (Walks.enteredBy visited.old met.old w answer arena.now budget).met }
+    ensures value { result ≡ Walks.entered_at (Walks.entered_by visited.old met.old w answer arena.now budget) answer }
+    ensures visited_after { visited.new ≡ (Walks.entered_by visited.old met.old w answer arena.now budget).visited }
+    ensures met_after { met.new ≡ (Walks.entered_by visited.old met.old w answer arena.now budget).met }
 {
     let way = w.way;
     let key = way.tile;

@@ -8,7 +8,7 @@ use crate::{Course, End, Ending, Followed, History, Track, Trip, Walk, Walked, W
 use pack::Header;
 
 fn goes_on(ending: Ending) -> bool
-    ensures { result ≡ Walks.goesOn ending }
+    ensures { result ≡ Walks.goes_on ending }
 {
     match ending {
         Ending::Going => true,
@@ -18,7 +18,7 @@ fn goes_on(ending: Ending) -> bool
 
 // The edge of a way, followed from one of its ends.
 pub(crate) fn leg_of(header: Header, way: Way, bytes: &[u8]) -> Leg
-    ensures { result ≡ Walks.legOf header way bytes.now }
+    ensures { result ≡ Walks.leg_of header way bytes.now }
 {
     let key = way.tile;
     let edge = tile::raw::edge(bytes, way.edge);
@@ -52,14 +52,14 @@ fn edges(
     lons: &mut [i32; 16],
     distances: &mut [f32; 16],
 ) -> Walked
-    ensures value { result ≡ Walks.walked (Walks.follow looks.old visited.old met.old arena.now trip budget start (Vertex.trackOf first lats.old lons.old distances.old) heights.old) }
-    ensures looks_after { looks.new ≡ (Walks.follow looks.old visited.old met.old arena.now trip budget start (Vertex.trackOf first lats.old lons.old distances.old) heights.old).carried }
-    ensures visited_after { visited.new ≡ (Walks.follow looks.old visited.old met.old arena.now trip budget start (Vertex.trackOf first lats.old lons.old distances.old) heights.old).visited }
-    ensures met_after { met.new ≡ (Walks.follow looks.old visited.old met.old arena.now trip budget start (Vertex.trackOf first lats.old lons.old distances.old) heights.old).met }
-    ensures heights_after { heights.new ≡ (Walks.follow looks.old visited.old met.old arena.now trip budget start (Vertex.trackOf first lats.old lons.old distances.old) heights.old).heights }
-    ensures lats_after { lats.new ≡ (Walks.follow looks.old visited.old met.old arena.now trip budget start (Vertex.trackOf first lats.old lons.old distances.old) heights.old).track.history.lats }
-    ensures lons_after { lons.new ≡ (Walks.follow looks.old visited.old met.old arena.now trip budget start (Vertex.trackOf first lats.old lons.old distances.old) heights.old).track.history.lons }
-    ensures distances_after { distances.new ≡ (Walks.follow looks.old visited.old met.old arena.now trip budget start (Vertex.trackOf first lats.old lons.old distances.old) heights.old).track.history.distances }
+    ensures value { result ≡ Walks.walked (Walks.follow looks.old visited.old met.old arena.now trip budget start (Vertex.track_of first lats.old lons.old distances.old) heights.old) }
+    ensures looks_after { looks.new ≡ (Walks.follow looks.old visited.old met.old arena.now trip budget start (Vertex.track_of first lats.old lons.old distances.old) heights.old).carried }
+    ensures visited_after { visited.new ≡ (Walks.follow looks.old visited.old met.old arena.now trip budget start (Vertex.track_of first lats.old lons.old distances.old) heights.old).visited }
+    ensures met_after { met.new ≡ (Walks.follow looks.old visited.old met.old arena.now trip budget start (Vertex.track_of first lats.old lons.old distances.old) heights.old).met }
+    ensures heights_after { heights.new ≡ (Walks.follow looks.old visited.old met.old arena.now trip budget start (Vertex.track_of first lats.old lons.old distances.old) heights.old).heights }
+    ensures lats_after { lats.new ≡ (Walks.follow looks.old visited.old met.old arena.now trip budget start (Vertex.track_of first lats.old lons.old distances.old) heights.old).track.history.lats }
+    ensures lons_after { lons.new ≡ (Walks.follow looks.old visited.old met.old arena.now trip budget start (Vertex.track_of first lats.old lons.old distances.old) heights.old).track.history.lons }
+    ensures distances_after { distances.new ≡ (Walks.follow looks.old visited.old met.old arena.now trip budget start (Vertex.track_of first lats.old lons.old distances.old) heights.old).track.history.distances }
 {
     let header = trip.header;
     let mut w = start;
@@ -122,7 +122,7 @@ fn edges(
 
 // A track without the arrays of its history.
 fn course_of(first: Track) -> Course
-    ensures { result ≡ Vertex.courseOf first }
+    ensures { result ≡ Vertex.course_of first }
 {
     let h = first.history;
     let here = first.here;

@@ -91,7 +91,7 @@ pub(crate) fn more(n: usize) -> usize
 
 // The latest point with one after it that lies 25 m or more back along the road.
 fn back_at(v: &[f32; 16], len: usize, distance: f32) -> Found
-    ensures { result ≡ Incoming.backAt (record { lats = []; lons = []; distances = v.now; len = len }) distance }
+    ensures { result ≡ Incoming.back_at (record { lats = []; lons = []; distances = v.now; len = len }) distance }
 {
     sixteen_distances(*v);
     if len == 0 {
@@ -111,7 +111,7 @@ fn back_at(v: &[f32; 16], len: usize, distance: f32) -> Found
 
 // How far along the way from one point to the next the road 25 m back lies.
 fn back_part(from: f32, to: f32, distance: f32) -> f32
-    ensures { result ≡ Incoming.backPart from to distance }
+    ensures { result ≡ Incoming.back_part from to distance }
 {
     let want = distance - 25.0;
     if to > from {
@@ -121,7 +121,7 @@ fn back_part(from: f32, to: f32, distance: f32) -> f32
 }
 
 fn point_at(lats: &[i32; 16], lons: &[i32; 16], i: usize) -> Point
-    ensures { result ≡ Incoming.pointAt (record { lats = lats.entry.now; lons = lons.now; distances = []; len = 0 }) i }
+    ensures { result ≡ Incoming.point_at (record { lats = lats.entry.now; lons = lons.now; distances = []; len = 0 }) i }
 {
     sixteen(*lats);
     sixteen(*lons);
@@ -152,7 +152,7 @@ fn back_of(
     len: usize,
     distance: f32,
 ) -> Point
-    ensures { result ≡ Incoming.backOf (record { lats = lats.entry.now; lons = lons.now; distances = distances.now; len = len }) distance }
+    ensures { result ≡ Incoming.back_of (record { lats = lats.entry.now; lons = lons.now; distances = distances.now; len = len }) distance }
 {
     match back_at(distances, len, distance) {
         Found::Nothing => point_at(lats, lons, 0),

@@ -17,7 +17,7 @@ pub(crate) fn budget(count: usize) -> usize
 // Whether the tile at a place is this one.
 fn is_met(met: &[u64; crate::MET], i: usize, key: TileKey) -> bool
     requires { i < 96 }
-    ensures { result ≡ Meets.isMet met.now i key }
+    ensures { result ≡ Meets.is_met met.now i key }
 {
     if met[i] != (key.row as u64) + 1 {
         return false;
@@ -26,7 +26,7 @@ fn is_met(met: &[u64; crate::MET], i: usize, key: TileKey) -> bool
 }
 
 fn has_met(met: &[u64; crate::MET], key: TileKey) -> bool
-    ensures { result ≡ Meets.hasMet met.now key }
+    ensures { result ≡ Meets.has_met met.now key }
 {
     let n = met[192] as usize;
     let mut i = 0;
@@ -44,7 +44,7 @@ fn has_met(met: &[u64; crate::MET], key: TileKey) -> bool
 
 // Whether another tile has room.
 fn has_room(met: &[u64; crate::MET], pages: usize, budget: usize) -> bool
-    ensures { result ≡ Meets.hasRoom met.now pages budget }
+    ensures { result ≡ Meets.has_room met.now pages budget }
 {
     if 96 <= met[192] {
         return false;

@@ -19,8 +19,8 @@ pub struct Leg {
 // Point number `i` along the leg, from 0 at its start.
 fn point_at(base: usize, leg: Leg, bytes: &[u8], i: u32) -> Point
     requires base_bound { base < 2 ^ 32 }
-    requires base_value { base ≡ Spots.verticesAt bytes.now }
-    ensures { result ≡ Outgoing.pointAt leg bytes.now i }
+    requires base_value { base ≡ Spots.vertices_at bytes.now }
+    ensures { result ≡ Outgoing.point_at leg bytes.now i }
 {
     let node = crate::spots::node_at(base, leg, bytes, i);
     geo::flat::point(leg.header, leg.key, node)
@@ -36,9 +36,9 @@ fn reaches(far: Point, origin: Point, lon_um: u32) -> bool
 // The first point along the leg that lies 25 m or more from its start, or its last.
 fn far_point(base: usize, leg: Leg, bytes: &[u8], lon_um: u32, origin: Point) -> Point
     requires base_bound { base < 2 ^ 32 }
-    requires base_value { base ≡ Spots.verticesAt bytes.now }
-    requires origin_value { origin ≡ Outgoing.pointAt leg bytes.now 0 }
-    ensures { result ≡ Outgoing.farPoint leg bytes.now lon_um }
+    requires base_value { base ≡ Spots.vertices_at bytes.now }
+    requires origin_value { origin ≡ Outgoing.point_at leg bytes.now 0 }
+    ensures { result ≡ Outgoing.far_point leg bytes.now lon_um }
 {
     let edge = leg.edge;
     let last = (edge.vertices as u32) + 1;
@@ -57,7 +57,7 @@ fn far_point(base: usize, leg: Leg, bytes: &[u8], lon_um: u32, origin: Point) ->
 
 // The bearing from the leg's start to that point.
 pub(crate) fn outgoing_of(leg: Leg, bytes: &[u8], lon_um: u32) -> f32
-    ensures { result ≡ Outgoing.outgoingOf leg bytes.now lon_um }
+    ensures { result ≡ Outgoing.outgoing_of leg bytes.now lon_um }
 {
     let base = crate::spots::vertices_at(bytes);
     let origin = point_at(base, leg, bytes, 0);

@@ -25,7 +25,7 @@ pub struct Behind {
 
 // The height where the ride began, between the last road point and the next.
 fn height_back(m: Mark, z: i32, reach: f32, step: f32) -> i32
-    ensures { result ≡ Ridden.heightBack m z reach step }
+    ensures { result ≡ Ridden.height_back m z reach step }
 {
     let rise = num::convert::f32_of_i64((z as i64) - (m.z as i64));
     let value = num::convert::f32_of_i32(m.z) + rise * (reach - m.distance) / step;
@@ -43,8 +43,8 @@ fn back_step(
     i: u32,
     heights: &mut [i16],
 ) -> Back
-    ensures value { result ≡ (Ridden.backStep trip leg bytes.now lon_um reach b i heights.old).back }
-    ensures heights_after { heights.new ≡ (Ridden.backStep trip leg bytes.now lon_um reach b i heights.old).heights }
+    ensures value { result ≡ (Ridden.back_step trip leg bytes.now lon_um reach b i heights.old).back }
+    ensures heights_after { heights.new ≡ (Ridden.back_step trip leg bytes.now lon_um reach b i heights.old).heights }
 {
     let node = crate::spots::node_at(crate::spots::vertices_at(bytes), leg, bytes, i);
     let point = geo::flat::point(leg.header, leg.key, node);
@@ -102,8 +102,8 @@ fn go_back(
 
 // One sample more where the ride began between two of them; it keeps the low 16 bits of its height.
 fn last_sample(b: Back, heights: &mut [i16]) -> Behind
-    ensures value { result ≡ (Ridden.lastSample b heights.old).behind }
-    ensures heights_after { heights.new ≡ (Ridden.lastSample b heights.old).heights }
+    ensures value { result ≡ (Ridden.last_sample b heights.old).behind }
+    ensures heights_after { heights.new ≡ (Ridden.last_sample b heights.old).heights }
 {
     let mark = b.mark;
     let len = mark.len;

@@ -87,7 +87,7 @@ fn closed(c: Cache, looks: &[u32; cache::ages::LOOKUPS], answer: Outcome) -> Pre
 }
 
 fn no_mark() -> Mark
-    ensures { result ≡ Predict.noMark }
+    ensures { result ≡ Predict.no_mark }
 {
     Mark {
         len: 0,
@@ -98,7 +98,7 @@ fn no_mark() -> Mark
 
 // How far the road has been followed before its first edge.
 fn track_from(here: Point, mark: Mark) -> Track
-    ensures { result ≡ Predict.trackFrom here mark }
+    ensures { result ≡ Predict.track_from here mark }
 {
     let history = crate::incoming::first(here);
     Track {
@@ -112,7 +112,7 @@ fn track_from(here: Point, mark: Mark) -> Track
 
 // The walk before its first edge.
 fn walk_from(start: Matched, leg: Leg) -> Walk
-    ensures { result ≡ Predict.walkFrom start leg }
+    ensures { result ≡ Predict.walk_from start leg }
 {
     let edge = leg.edge;
     let tile = leg.key;
@@ -139,7 +139,7 @@ fn walk_from(start: Matched, leg: Leg) -> Walk
 
 // The edge of the start, followed forward or back.
 fn leg_of(header: Header, start: Matched, edge: Edge, forward: bool) -> Leg
-    ensures { result ≡ Predict.legOf header start edge forward }
+    ensures { result ≡ Predict.leg_of header start edge forward }
 {
     let id = start.tile;
     let key = id.key;
@@ -163,10 +163,10 @@ fn road_of(
     samples: &mut [i16],
     behind: &mut [i16],
 ) -> Outcome
-    ensures value { result ≡ (Predict.roadOf looks.old arena.now pages trip start forward bytes.now samples.old behind.old).answer }
-    ensures looks_after { looks.new ≡ (Predict.roadOf looks.old arena.now pages trip start forward bytes.now samples.old behind.old).carried }
-    ensures samples_after { samples.new ≡ (Predict.roadOf looks.old arena.now pages trip start forward bytes.now samples.old behind.old).samples }
-    ensures behind_after { behind.new ≡ (Predict.roadOf looks.old arena.now pages trip start forward bytes.now samples.old behind.old).behind }
+    ensures value { result ≡ (Predict.road_of looks.old arena.now pages trip start forward bytes.now samples.old behind.old).answer }
+    ensures looks_after { looks.new ≡ (Predict.road_of looks.old arena.now pages trip start forward bytes.now samples.old behind.old).carried }
+    ensures samples_after { samples.new ≡ (Predict.road_of looks.old arena.now pages trip start forward bytes.now samples.old behind.old).samples }
+    ensures behind_after { behind.new ≡ (Predict.road_of looks.old arena.now pages trip start forward bytes.now samples.old behind.old).behind }
 {
     let header = trip.header;
     let head = tile::read::head(bytes);
@@ -207,10 +207,10 @@ fn from_tile(
     samples: &mut [i16],
     behind: &mut [i16],
 ) -> Outcome
-    ensures value { result ≡ (Predict.fromTile looks.old arena.now pages trip start forward bytes.now samples.old behind.old).answer }
-    ensures looks_after { looks.new ≡ (Predict.fromTile looks.old arena.now pages trip start forward bytes.now samples.old behind.old).carried }
-    ensures samples_after { samples.new ≡ (Predict.fromTile looks.old arena.now pages trip start forward bytes.now samples.old behind.old).samples }
-    ensures behind_after { behind.new ≡ (Predict.fromTile looks.old arena.now pages trip start forward bytes.now samples.old behind.old).behind }
+    ensures value { result ≡ (Predict.from_tile looks.old arena.now pages trip start forward bytes.now samples.old behind.old).answer }
+    ensures looks_after { looks.new ≡ (Predict.from_tile looks.old arena.now pages trip start forward bytes.now samples.old behind.old).carried }
+    ensures samples_after { samples.new ≡ (Predict.from_tile looks.old arena.now pages trip start forward bytes.now samples.old behind.old).samples }
+    ensures behind_after { behind.new ≡ (Predict.from_tile looks.old arena.now pages trip start forward bytes.now samples.old behind.old).behind }
 {
     let id = tile::read::id(bytes);
     if !matcher::score::same_id(id, start.tile) {
@@ -237,10 +237,10 @@ fn started_by(
     samples: &mut [i16],
     behind: &mut [i16],
 ) -> Outcome
-    ensures value { result ≡ (Predict.startedBy looks.old arena.now pages header answer start forward horizon_m samples.old behind.old).answer }
-    ensures looks_after { looks.new ≡ (Predict.startedBy looks.old arena.now pages header answer start forward horizon_m samples.old behind.old).carried }
-    ensures samples_after { samples.new ≡ (Predict.startedBy looks.old arena.now pages header answer start forward horizon_m samples.old behind.old).samples }
-    ensures behind_after { behind.new ≡ (Predict.startedBy looks.old arena.now pages header answer start forward horizon_m samples.old behind.old).behind }
+    ensures value { result ≡ (Predict.started_by looks.old arena.now pages header answer start forward horizon_m samples.old behind.old).answer }
+    ensures looks_after { looks.new ≡ (Predict.started_by looks.old arena.now pages header answer start forward horizon_m samples.old behind.old).carried }
+    ensures samples_after { samples.new ≡ (Predict.started_by looks.old arena.now pages header answer start forward horizon_m samples.old behind.old).samples }
+    ensures behind_after { behind.new ≡ (Predict.started_by looks.old arena.now pages header answer start forward horizon_m samples.old behind.old).behind }
 {
     let id = start.tile;
     let key = id.key;
@@ -273,10 +273,10 @@ pub fn from_looks(
     samples: &mut [i16],
     behind: &mut [i16],
 ) -> Outcome
-    ensures value { result ≡ (Predict.fromLooks looks.old arena.now pages header start horizon_m samples.old behind.old).answer }
-    ensures looks_after { looks.new ≡ (Predict.fromLooks looks.old arena.now pages header start horizon_m samples.old behind.old).carried }
-    ensures samples_after { samples.new ≡ (Predict.fromLooks looks.old arena.now pages header start horizon_m samples.old behind.old).samples }
-    ensures behind_after { behind.new ≡ (Predict.fromLooks looks.old arena.now pages header start horizon_m samples.old behind.old).behind }
+    ensures value { result ≡ (Predict.from_looks looks.old arena.now pages header start horizon_m samples.old behind.old).answer }
+    ensures looks_after { looks.new ≡ (Predict.from_looks looks.old arena.now pages header start horizon_m samples.old behind.old).carried }
+    ensures samples_after { samples.new ≡ (Predict.from_looks looks.old arena.now pages header start horizon_m samples.old behind.old).samples }
+    ensures behind_after { behind.new ≡ (Predict.from_looks looks.old arena.now pages header start horizon_m samples.old behind.old).behind }
 {
     let forward = start.forward;
     match forward {
@@ -301,9 +301,9 @@ fn directed(
     samples: &mut [i16],
     behind: &mut [i16],
 ) -> Predicted
-    ensures value { result ≡ (Predict.predictedIn c arena.now header start horizon_m samples.old behind.old).predicted }
-    ensures samples_after { samples.new ≡ (Predict.predictedIn c arena.now header start horizon_m samples.old behind.old).samples }
-    ensures behind_after { behind.new ≡ (Predict.predictedIn c arena.now header start horizon_m samples.old behind.old).behind }
+    ensures value { result ≡ (Predict.predicted_in c arena.now header start horizon_m samples.old behind.old).predicted }
+    ensures samples_after { samples.new ≡ (Predict.predicted_in c arena.now header start horizon_m samples.old behind.old).samples }
+    ensures behind_after { behind.new ≡ (Predict.predicted_in c arena.now header start horizon_m samples.old behind.old).behind }
 {
     let mut looks = cache::ages::lookups_of(c);
     let answer = from_looks(
@@ -329,9 +329,9 @@ pub fn predicted(
     samples: &mut [i16],
     behind: &mut [i16],
 ) -> Predicted
-    ensures value { result ≡ (Predict.predictTested c arena.now header start horizon_m samples.old behind.old).predicted }
-    ensures samples_after { samples.new ≡ (Predict.predictTested c arena.now header start horizon_m samples.old behind.old).samples }
-    ensures behind_after { behind.new ≡ (Predict.predictTested c arena.now header start horizon_m samples.old behind.old).behind }
+    ensures value { result ≡ (Predict.predict_tested c arena.now header start horizon_m samples.old behind.old).predicted }
+    ensures samples_after { samples.new ≡ (Predict.predict_tested c arena.now header start horizon_m samples.old behind.old).samples }
+    ensures behind_after { behind.new ≡ (Predict.predict_tested c arena.now header start horizon_m samples.old behind.old).behind }
 {
     let id = start.tile;
     if !pack::grid::in_grid(header, id.key) {

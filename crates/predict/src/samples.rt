@@ -6,12 +6,12 @@ use crate::Mark;
 
 // The distance of a sample.
 pub(crate) fn sample_at(i: usize) -> f32
-    ensures { result ≡ Samples.sampleAt i }
+    ensures { result ≡ Samples.sample_at i }
 {
     num::convert::f32_of_usize(i) * 20.0
 }
 
-// A height held to 16 bits, which the cast does by itself (`held-is`).
+// A height held to 16 bits, which the cast does by itself (`held_is`).
 fn held(value: f32) -> i16
     ensures { result ≡ Samples.held value }
 {

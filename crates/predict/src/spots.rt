@@ -11,7 +11,7 @@ use tile::Node;
 
 // Where a tile's vertices begin.
 pub(crate) fn vertices_at(bytes: &[u8]) -> usize
-    ensures value { result ≡ Spots.verticesAt bytes.now }
+    ensures value { result ≡ Spots.vertices_at bytes.now }
     ensures upper_bound { result < 2 ^ 32 }
 {
     let nodes = pack::bytes::u16_at(bytes, 8) as usize;
@@ -22,7 +22,7 @@ pub(crate) fn vertices_at(bytes: &[u8]) -> usize
 // Where point `index` of an edge stands, by the numbers of the edge.
 fn spot(base: usize, from: u16, to: u16, first: u32, vertices: u16, index: u32) -> usize
     requires { base < 2 ^ 32 }
-    ensures value { result ≡ Spots.spotBy base from to first vertices index }
+    ensures value { result ≡ Spots.spot_by base from to first vertices index }
     ensures upper_bound { result < 2 ^ 40 }
 {
     if index == 0 {
@@ -75,8 +75,8 @@ fn spot_of(base: usize, leg: Leg, i: u32) -> usize
 // Point number `i` along the leg with its height, from 0 at its start.
 pub(crate) fn node_at(base: usize, leg: Leg, bytes: &[u8], i: u32) -> Node
     requires base_bound { base < 2 ^ 32 }
-    requires base_value { base ≡ Spots.verticesAt bytes.now }
-    ensures { result ≡ Vertex.nodeAt leg bytes.now i }
+    requires base_value { base ≡ Spots.vertices_at bytes.now }
+    ensures { result ≡ Vertex.node_at leg bytes.now i }
 {
     let at = spot_of(base, leg, i);
     Node {
@@ -88,7 +88,7 @@ pub(crate) fn node_at(base: usize, leg: Leg, bytes: &[u8], i: u32) -> Node
 
 // Metres east, from one longitude to another. The difference is taken in 64 bits, so that any two have one.
 pub(crate) fn east(to: i32, from: i32, lon_um: u32) -> f32
-    ensures { result ≡ Spots.eastOf to from lon_um }
+    ensures { result ≡ Spots.east_of to from lon_um }
 {
     let micro = num::convert::f32_of_i64((to as i64) - (from as i64));
     micro * num::convert::f32_of_u32(lon_um) * 0.000001
@@ -96,7 +96,7 @@ pub(crate) fn east(to: i32, from: i32, lon_um: u32) -> f32
 
 // Metres north, from one latitude to another.
 pub(crate) fn north(to: i32, from: i32) -> f32
-    ensures { result ≡ Spots.northOf to from }
+    ensures { result ≡ Spots.north_of to from }
 {
     let micro = num::convert::f32_of_i64((to as i64) - (from as i64));
     micro * geo::LAT_UM * 0.000001
@@ -114,7 +114,7 @@ fn flags_at(bytes: &[u8], index: u16) -> u8
 
 // Whether an edge has a flag.
 pub(crate) fn has_flag(bytes: &[u8], index: u16, flag: u8) -> bool
-    ensures { result ≡ Cost.hasFlag (Layout.edge_of bytes.now index).flags flag }
+    ensures { result ≡ Cost.has_flag (Layout.edge_of bytes.now index).flags flag }
 {
     flags_at(bytes, index) & flag != 0
 }

@@ -30,7 +30,7 @@ pub(crate) fn less(a: i32, b: i32) -> i32
 
 // a, and the part `t` of the way to b, cut toward zero.
 fn part_way(a: i32, b: i32, t: f32) -> i32
-    ensures { result ≡ Start.partWay a b t }
+    ensures { result ≡ Start.part_way a b t }
 {
     let whole = num::convert::f32_of_i64((b as i64) - (a as i64));
     let part = num::cast::i32_of_f32(whole * t);
@@ -49,7 +49,7 @@ pub(crate) fn between(a: Point, b: Point, t: f32) -> Point
 
 // Whether edge, segment, fraction and height of a start are within its tile and the rules: else 10.
 pub(crate) fn start_ok(bytes: &[u8], start: Matched) -> bool
-    ensures { result ≡ Start.startOk bytes.now start }
+    ensures { result ≡ Start.start_ok bytes.now start }
 {
     let head = tile::read::head(bytes);
     if head.edges <= start.edge {

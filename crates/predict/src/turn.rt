@@ -12,7 +12,7 @@ use tile::Edge;
 
 // The walk with another heading of entry and of approach.
 fn with_entry(w: Walk, entry: Heading, approach: f32) -> Walk
-    ensures { result ≡ Walks.withEntry w entry approach }
+    ensures { result ≡ Walks.with_entry w entry approach }
 {
     let way = w.way;
     let road = w.road;
@@ -44,7 +44,7 @@ fn turned(w: Walk, edge: Edge, incoming: f32) -> Walk
 
 // The heading that turns are judged by: on a roundabout the one it was entered with.
 fn bound_of(entry: Heading, incoming: f32) -> Bound
-    ensures { result ≡ Walks.boundOf entry incoming }
+    ensures { result ≡ Walks.bound_of entry incoming }
 {
     match entry {
         Heading::Nothing => Bound {
@@ -67,7 +67,7 @@ fn incoming_of(
     lons: &[i32; 16],
     distances: &[f32; 16],
 ) -> f32
-    ensures { result ≡ Walks.incomingOf (Vertex.trackOf t lats.now lons.now distances.now) approach lon_um }
+    ensures { result ≡ Walks.incoming_of (Vertex.track_of t lats.now lons.now distances.now) approach lon_um }
 {
     let here = t.here;
     crate::incoming::incoming(
@@ -77,7 +77,7 @@ fn incoming_of(
 
 // The junction's node.
 fn node_of(leg: Leg) -> u16
-    ensures { result ≡ Walks.nodeOf leg }
+    ensures { result ≡ Walks.node_of leg }
 {
     let edge = leg.edge;
     if leg.forward {
@@ -88,7 +88,7 @@ fn node_of(leg: Leg) -> u16
 
 // A roundabout belongs to no road: the one it was entered on stays the one to prefer when leaving it.
 fn road_of(road: Road, next: Edge) -> Road
-    ensures { result ≡ Walks.roadOf road next }
+    ensures { result ≡ Walks.road_of road next }
 {
     if next.has(tile::flag::ROUNDABOUT) {
         return road;
@@ -115,7 +115,7 @@ fn taken(w: Walk, d: Decision) -> Walk
 
 // What the lookup of the next edge's tile gives.
 fn next_by(w: Walk, answer: Lookup, arena: &[u8]) -> Walk
-    ensures { result ≡ Walks.nextBy w answer arena.now }
+    ensures { result ≡ Walks.next_by w answer arena.now }
 {
     let way = w.way;
     let key = way.tile;
@@ -194,8 +194,8 @@ pub(crate) fn crossed(
     lons: &[i32; 16],
     distances: &[f32; 16],
 ) -> Walk
-    ensures value { result ≡ (Walks.crossed looks.old visited.now arena.now leg.header w (Vertex.trackOf t lats.now lons.now distances.now) bytes.now leg).walk }
-    ensures looks_after { looks.new ≡ (Walks.crossed looks.old visited.now arena.now leg.header w (Vertex.trackOf t lats.now lons.now distances.now) bytes.now leg).carried }
+    ensures value { result ≡ (Walks.crossed looks.old visited.now arena.now leg.header w (Vertex.track_of t lats.now lons.now distances.now) bytes.now leg).walk }
+    ensures looks_after { looks.new ≡ (Walks.crossed looks.old visited.now arena.now leg.header w (Vertex.track_of t lats.now lons.now distances.now) bytes.now leg).carried }
 {
     let head = tile::read::head(bytes);
     let incoming = incoming_of(t, w.approach, head.lon_um, lats, lons, distances);

@@ -65,7 +65,7 @@ fn push(t: TwinList, twin: Twin) -> TwinList
 
 // The neighbour number `i` of nine, row by row, where it shares the point.
 fn twin_step(t: TwinList, i: usize, x: u16, y: u16, size: u16) -> TwinList
-    ensures { result ≡ Twins.twinStep t i x y size }
+    ensures { result ≡ Twins.twin_step t i x y size }
 {
     if i == 0 {
         return t;
@@ -90,7 +90,7 @@ fn twin_step(t: TwinList, i: usize, x: u16, y: u16, size: u16) -> TwinList
 }
 
 fn no_twins() -> TwinList
-    ensures { result ≡ Twins.noTwins }
+    ensures { result ≡ Twins.no_twins }
 {
     let none = Twin {
         row: 0,
@@ -103,7 +103,7 @@ fn no_twins() -> TwinList
 }
 
 pub(crate) fn boundary_twins(x: u16, y: u16, size: u16) -> TwinList
-    ensures { result ≡ Twins.boundaryTwins x y size }
+    ensures { result ≡ Twins.boundary_twins x y size }
 {
     let mut t = no_twins();
     let mut i = 0;

@@ -28,7 +28,7 @@ fn part_of(left: f32, step: f32) -> f32
 
 // The height part of the way from the last road point to the next.
 fn height_there(m: Mark, z: i32, t: f32) -> i32
-    ensures { result ≡ Vertex.heightThere m z t }
+    ensures { result ≡ Vertex.height_there m z t }
 {
     let rise = num::convert::f32_of_i64((z as i64) - (m.z as i64));
     num::cast::i32_of_f32(num::convert::f32_of_i32(m.z) + rise * t)
@@ -36,8 +36,8 @@ fn height_there(m: Mark, z: i32, t: f32) -> i32
 
 // The horizon lies before the next point: the road stops exactly there. It reads and changes no history.
 fn reach(trip: Trip, t: Course, step: f32, z: i32, heights: &mut [i16]) -> Course
-    ensures value { result ≡ Vertex.courseOf (Vertex.reached trip (Vertex.trackOf t [] [] []) step z heights.old).track }
-    ensures heights_after { heights.new ≡ (Vertex.reached trip (Vertex.trackOf t [] [] []) step z heights.old).heights }
+    ensures value { result ≡ Vertex.course_of (Vertex.reached trip (Vertex.track_of t [] [] []) step z heights.old).track }
+    ensures heights_after { heights.new ≡ (Vertex.reached trip (Vertex.track_of t [] [] []) step z heights.old).heights }
 {
     let horizon = trip.horizon_m;
     let part = part_of(horizon - t.distance, step);
@@ -65,11 +65,11 @@ fn pass(
     lons: &mut [i32; 16],
     distances: &mut [f32; 16],
 ) -> Course
-    ensures value { result ≡ Vertex.courseOf (Vertex.passed (Vertex.trackOf t lats.old lons.old distances.old) distance point z heights.old).track }
-    ensures heights_after { heights.new ≡ (Vertex.passed (Vertex.trackOf t lats.old lons.old distances.old) distance point z heights.old).heights }
-    ensures lats_after { lats.new ≡ (Vertex.passed (Vertex.trackOf t lats.old lons.old distances.old) distance point z heights.old).track.history.lats }
-    ensures lons_after { lons.new ≡ (Vertex.passed (Vertex.trackOf t lats.old lons.old distances.old) distance point z heights.old).track.history.lons }
-    ensures distances_after { distances.new ≡ (Vertex.passed (Vertex.trackOf t lats.old lons.old distances.old) distance point z heights.old).track.history.distances }
+    ensures value { result ≡ Vertex.course_of (Vertex.passed (Vertex.track_of t lats.old lons.old distances.old) distance point z heights.old).track }
+    ensures heights_after { heights.new ≡ (Vertex.passed (Vertex.track_of t lats.old lons.old distances.old) distance point z heights.old).heights }
+    ensures lats_after { lats.new ≡ (Vertex.passed (Vertex.track_of t lats.old lons.old distances.old) distance point z heights.old).track.history.lats }
+    ensures lons_after { lons.new ≡ (Vertex.passed (Vertex.track_of t lats.old lons.old distances.old) distance point z heights.old).track.history.lons }
+    ensures distances_after { distances.new ≡ (Vertex.passed (Vertex.track_of t lats.old lons.old distances.old) distance point z heights.old).track.history.distances }
 {
     let old = t.mark;
     let mark = crate::samples::push_due(old, heights, distance, z);
@@ -102,12 +102,12 @@ pub(crate) fn advance(
     distances: &mut [f32; 16],
 ) -> Course
     requires base_bound { base < 2 ^ 32 }
-    requires base_value { base ≡ Spots.verticesAt bytes.now }
-    ensures value { result ≡ Vertex.courseOf (Vertex.advanced trip leg bytes.now lon_um (Vertex.trackOf t lats.old lons.old distances.old) i heights.old).track }
-    ensures heights_after { heights.new ≡ (Vertex.advanced trip leg bytes.now lon_um (Vertex.trackOf t lats.old lons.old distances.old) i heights.old).heights }
-    ensures lats_after { lats.new ≡ (Vertex.advanced trip leg bytes.now lon_um (Vertex.trackOf t lats.old lons.old distances.old) i heights.old).track.history.lats }
-    ensures lons_after { lons.new ≡ (Vertex.advanced trip leg bytes.now lon_um (Vertex.trackOf t lats.old lons.old distances.old) i heights.old).track.history.lons }
-    ensures distances_after { distances.new ≡ (Vertex.advanced trip leg bytes.now lon_um (Vertex.trackOf t lats.old lons.old distances.old) i heights.old).track.history.distances }
+    requires base_value { base ≡ Spots.vertices_at bytes.now }
+    ensures value { result ≡ Vertex.course_of (Vertex.advanced trip leg bytes.now lon_um (Vertex.track_of t lats.old lons.old distances.old) i heights.old).track }
+    ensures heights_after { heights.new ≡ (Vertex.advanced trip leg bytes.now lon_um (Vertex.track_of t lats.old lons.old distances.old) i heights.old).heights }
+    ensures lats_after { lats.new ≡ (Vertex.advanced trip leg bytes.now lon_um (Vertex.track_of t lats.old lons.old distances.old) i heights.old).track.history.lats }
+    ensures lons_after { lons.new ≡ (Vertex.advanced trip leg bytes.now lon_um (Vertex.track_of t lats.old lons.old distances.old) i heights.old).track.history.lons }
+    ensures distances_after { distances.new ≡ (Vertex.advanced trip leg bytes.now lon_um (Vertex.track_of t lats.old lons.old distances.old) i heights.old).track.history.distances }
 {
     let node = crate::spots::node_at(base, leg, bytes, i);
     let point = geo::flat::point(leg.header, leg.key, node);

@@ -29,7 +29,7 @@ pub(crate) fn visit(visited: &mut [u32; crate::VISITED], key: TileKey, edge: u16
 // Whether the edge at a place is this one.
 fn is_followed(visited: &[u32; crate::VISITED], i: usize, key: TileKey, edge: u16) -> bool
     requires { i < 128 }
-    ensures { result ≡ Visits.isFollowed visited.now i key edge }
+    ensures { result ≡ Visits.is_followed visited.now i key edge }
 {
     if visited[i] != (edge as u32) + 1 {
         return false;
@@ -48,7 +48,7 @@ fn wide(n: u32) -> usize
 }
 
 pub(crate) fn was_visited(visited: &[u32; crate::VISITED], key: TileKey, edge: u16) -> bool
-    ensures { result ≡ Visits.wasVisited visited.now key edge }
+    ensures { result ≡ Visits.was_visited visited.now key edge }
 {
     let n = wide(visited[385]);
     let mut i = 0;

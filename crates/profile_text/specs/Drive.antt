@@ -57,5 +57,5 @@ matched (MaybePlace.At p) = place p
 unfoldable pub road : ℕ → End → ℕ → List ℕ
 road samples e confidence = field samples ++ (end e ++ (decimal confidence ++ (10 ∷ [])))
 
-unfoldable pub fixLine : FixLine → List ℕ
-fixLine f = field f.number ++ (status f.status ++ (matched f.place ++ road f.samples f.end f.confidence))
+unfoldable pub fix_line : FixLine → List ℕ
+fix_line f = field f.number ++ (status f.status ++ (matched f.place ++ road f.samples f.end f.confidence))

@@ -2,7 +2,7 @@
 use Rattle.std.specs.Prelude.{ℕ, zero, suc, ◌-◌, ◌*◌, ◌/◌, ◌%◌, cond, List, [], ◌∷◌, ◌++◌, ltb, eqb, length, take, drop, replicate, ℤ, pos, negsuc, nat_abs, ◌-ℤ◌}
 use Rattle.std.specs.Int.Signed.{lt_z}
 use Rattle.profile_text.specs.Codes.{codes}
-use Rattle.profile_text.specs.Text.{decimal, linesBy}
+use Rattle.profile_text.specs.Text.{decimal, lines_by}
 use Rattle.profile_text.specs.declared.page.Printed.{Printed}
 use Rattle.profile_text.specs.declared.page.Printed.TheVariants as Printed
 
@@ -12,12 +12,12 @@ abbrev pub blanks : ℕ → List ℕ
 blanks n = replicate n 32
 
 -- right in n columns
-unfoldable pub rightIn : ℕ → List ℕ → List ℕ
-rightIn n text = blanks (n - length text) ++ text
+unfoldable pub right_in : ℕ → List ℕ → List ℕ
+right_in n text = blanks (n - length text) ++ text
 
 -- filled with blanks to n columns
-unfoldable pub leftIn : ℕ → List ℕ → List ℕ
-leftIn n text = text ++ blanks (n - length text)
+unfoldable pub left_in : ℕ → List ℕ → List ℕ
+left_in n text = text ++ blanks (n - length text)
 
 -- ---- the rise: "in metres with sign and one decimal"; zero is +0.0
 
@@ -39,48 +39,48 @@ lesser a b = cond (lt_z b a) b a
 abbrev pub greater : ℤ → ℤ → ℤ
 greater a b = cond (lt_z a b) b a
 
-unfoldable pub lowestOf : ℤ → List ℤ → ℤ
-lowestOf low [] = low
-lowestOf low (z ∷ zs) = lowestOf (lesser low z) zs
+unfoldable pub lowest_of : ℤ → List ℤ → ℤ
+lowest_of low [] = low
+lowest_of low (z ∷ zs) = lowest_of (lesser low z) zs
 
-unfoldable pub highestOf : ℤ → List ℤ → ℤ
-highestOf high [] = high
-highestOf high (z ∷ zs) = highestOf (greater high z) zs
+unfoldable pub highest_of : ℤ → List ℤ → ℤ
+highest_of high [] = high
+highest_of high (z ∷ zs) = highest_of (greater high z) zs
 
 -- a road with no sample has no line either
 unfoldable pub lowest : List ℤ → ℤ
 lowest [] = pos 0
-lowest (z ∷ zs) = lowestOf z zs
+lowest (z ∷ zs) = lowest_of z zs
 
 unfoldable pub highest : List ℤ → ℤ
 highest [] = pos 0
-highest (z ∷ zs) = highestOf z zs
+highest (z ∷ zs) = highest_of z zs
 
-unfoldable pub barLength : ℤ → ℤ → ℤ → ℕ
-barLength low high z = cond (eqb (nat_abs (high -ℤ low)) 0) 0 (25 * nat_abs (z -ℤ low) / nat_abs (high -ℤ low))
+unfoldable pub bar_length : ℤ → ℤ → ℤ → ℕ
+bar_length low high z = cond (eqb (nat_abs (high -ℤ low)) 0) 0 (25 * nat_abs (z -ℤ low) / nat_abs (high -ℤ low))
 
 -- ---- lines: "exactly 40 characters and a line end"
 
 -- "metres ahead, right in 6", 20 a sample
 unfoldable pub ahead : ℕ → List ℕ
-ahead i = rightIn 6 (decimal (20 * i))
+ahead i = right_in 6 (decimal (20 * i))
 
 -- "a bar of `#` in 25, filled with blanks", and the line end
 unfoldable pub bar : ℕ → List ℕ
-bar n = leftIn 25 (replicate n 35) ++ (10 ∷ [])
+bar n = left_in 25 (replicate n 35) ++ (10 ∷ [])
 
-unfoldable pub pageLine : ℤ → ℤ → ℕ → ℤ → List ℕ
-pageLine low high i z = ahead i ++ (rightIn 9 (rise z) ++ bar (barLength low high z))
+unfoldable pub page_line : ℤ → ℤ → ℕ → ℤ → List ℕ
+page_line low high i z = ahead i ++ (right_in 9 (rise z) ++ bar (bar_length low high z))
 
 -- "ahead" and "rise", "right in their columns, and 25 blanks"
-unfoldable pub pageHeading : List ℕ
-pageHeading = rightIn 6 (codes "ahead") ++ (rightIn 9 (codes "rise") ++ bar 0)
+unfoldable pub page_heading : List ℕ
+page_heading = right_in 6 (codes "ahead") ++ (right_in 9 (codes "rise") ++ bar 0)
 
 -- ---- pages
 
 -- the heading and the lines of some samples of a road, numbered from i on
 unfoldable pub page_of : List ℤ → ℕ → List ℤ → List ℕ
-page_of zs i some = pageHeading ++ linesBy (pageLine (lowest zs) (highest zs)) i some
+page_of zs i some = page_heading ++ lines_by (page_line (lowest zs) (highest zs)) i some
 
 -- "the samples 50 × p to 50 × p + 49 that exist"
 unfoldable pub page : ℕ → List ℤ → List ℕ

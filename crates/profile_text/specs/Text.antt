@@ -30,24 +30,24 @@ pub record Rounded (z m : ℤ) : Type 0 where
 abbrev pub nearer : ℕ → ℕ
 nearer n = cond (ltb (n - 10 * (n / 10)) (10 * (n / 10 + 1) - n)) (n / 10) (n / 10 + 1)
 
--- the metres that are `Rounded`: `whole-metres-rounded` and `rounded-only` of proofs/Rounding
-abbrev pub wholeMetres : ℤ → ℤ
-wholeMetres (pos n) = pos (nearer n)
-wholeMetres (negsuc n) = neg_ℤ (pos (nearer (suc n)))
+-- the metres that are `Rounded`: `whole_metres_rounded` and `rounded_only` of proofs/Rounding
+abbrev pub whole_metres : ℤ → ℤ
+whole_metres (pos n) = pos (nearer n)
+whole_metres (negsuc n) = neg_ℤ (pos (nearer (suc n)))
 
 -- ---- lines
 
 -- metres ahead, 20 a sample; a blank; the rise; a line end
 unfoldable pub line : ℕ → ℤ → List ℕ
-line i z = decimal (20 * i) ++ (32 ∷ (signed (wholeMetres z) ++ (10 ∷ [])))
+line i z = decimal (20 * i) ++ (32 ∷ (signed (whole_metres z) ++ (10 ∷ [])))
 
 -- the lines of samples that are numbered from i on
-unfoldable pub linesBy : (ℕ → ℤ → List ℕ) → ℕ → List ℤ → List ℕ
-linesBy row i [] = []
-linesBy row i (z ∷ zs) = row i z ++ linesBy row (i + 1) zs
+unfoldable pub lines_by : (ℕ → ℤ → List ℕ) → ℕ → List ℤ → List ℕ
+lines_by row i [] = []
+lines_by row i (z ∷ zs) = row i z ++ lines_by row (i + 1) zs
 
 abbrev pub lines : ℕ → List ℤ → List ℕ
-lines i zs = linesBy line i zs
+lines i zs = lines_by line i zs
 
 -- ---- the input
 
@@ -60,9 +60,9 @@ samples (lo ∷ hi ∷ bs) = signed16 (lo + hi * 256) ∷ samples bs
 unfoldable pub heading : List ℕ
 heading = codes "distance rise\n"
 
-unfoldable pub badInput : List ℕ
-badInput = codes "bad input\n"
+unfoldable pub bad_input : List ℕ
+bad_input = codes "bad input\n"
 
 -- up to 501 samples and no odd byte; no input is the heading alone
 unfoldable pub profile : List ℕ → List ℕ
-profile bs = cond (leb (length bs) 1002 && eqb (length bs % 2) 0) (heading ++ lines 0 (samples bs)) badInput
+profile bs = cond (leb (length bs) 1002 && eqb (length bs % 2) 0) (heading ++ lines 0 (samples bs)) bad_input

@@ -161,8 +161,8 @@ fn put_road(out: &mut [u8; 6026], at: usize, samples: u16, end: End, confidence:
 
 // The line of a fix: its length, and `out` begins with it. What follows in `out` is as it was.
 pub fn fix_line(f: FixLine, out: &mut [u8; 6026]) -> usize
-    ensures value { result ≡ length (Drive.fixLine f) }
-    ensures out_after { out.new ≡ Drive.fixLine f ++ drop (length (Drive.fixLine f)) out.old }
+    ensures value { result ≡ length (Drive.fix_line f) }
+    ensures out_after { out.new ≡ Drive.fix_line f ++ drop (length (Drive.fix_line f)) out.old }
 {
     let a = put_field(out, 0, f.number);
     let status = f.status;

@@ -54,7 +54,7 @@ fn put_number(out: &mut [u8; 6026], at: usize, n: u32) -> usize
 
 // Decimetres in whole metres, rounded to nearest, halves away from zero.
 pub fn whole_metres(dm: i16) -> i16
-    ensures { result ≡ Text.wholeMetres dm }
+    ensures { result ≡ Text.whole_metres dm }
 {
     let cut = dm / 10;
     // what was cut, with the sign of `dm`

@@ -73,7 +73,7 @@ fn above(low: i16, z: i16) -> u32
 
 fn bar_length(low: i16, high: i16, z: i16) -> usize
     requires { (le_z low z ≡ true) × (le_z z high ≡ true) }
-    ensures { result ≡ Page.barLength low high z }
+    ensures { result ≡ Page.bar_length low high z }
 {
     let height = above(low, high);
     if height == 0 {
@@ -141,7 +141,7 @@ fn put_tenths(out: &mut [u8; 6026], at: usize, n: u32) -> usize
 // The rise with its sign, right in 9: sign, point and decimal are three of them.
 fn put_rise(out: &mut [u8; 6026], at: usize, z: i16) -> usize
     requires { at + 17 ≤ 6026 }
-    ensures appended { Appended out.old at (Page.rightIn 9 (Page.rise z)) out.new result }
+    ensures appended { Appended out.old at (Page.right_in 9 (Page.rise z)) out.new result }
     ensures value { result ≡ at + 9 }
 {
     let n = size(z);
@@ -164,7 +164,7 @@ fn put_bar(out: &mut [u8; 6026], at: usize, n: usize) -> usize
 fn put_page_line(out: &mut [u8; 6026], at: usize, i: usize, low: i16, high: i16, z: i16) -> usize
     requires i_bound { (i < 501) × (at + 41 ≤ 6026) }
     requires z_value { (le_z low z ≡ true) × (le_z z high ≡ true) }
-    ensures appended { Appended out.old at (Page.pageLine low high i z) out.new result }
+    ensures appended { Appended out.old at (Page.page_line low high i z) out.new result }
     ensures value { result ≡ at + 41 }
 {
     let a = put_ahead(out, at, i);

@@ -8,20 +8,20 @@ use lib.Dec.{eqb, ltb, leb}
 use lib.ListN.{length}
 use Rattle.pack.specs.Bytes.{u32_at}
 use Rattle.pack.specs.Offsets as At
-use Rattle.pack.specs.Grid.{inGrid, locateOf, entry_of}
-use Rattle.pack.specs.Numbers.{numberOfLocated}
+use Rattle.pack.specs.Grid.{in_grid, locate_of, entry_of}
+use Rattle.pack.specs.Numbers.{number_of_located}
 use Rattle.pack.specs.declared.Header.{Header}
 use Rattle.pack.specs.declared.TileKey.{TileKey}
 use Rattle.pack.specs.declared.Located.{Located}
 use Rattle.pack.specs.declared.Located.TheVariants as Located
 use Rattle.cache.specs.Begin.{begun}
-use Rattle.cache.specs.Keys.{sameKey}
-use Rattle.cache.specs.Lookups.{landsOn, touched, passes, len_at, gotReady, gotAt, got, nextRead, next_at, nextStep}
-use Rattle.cache.specs.Direct.{ready, stale, look, lookAt}
-use Rattle.cache.specs.Loads.{After, over, refused, failed, done, forgot, fetched, readLen, fits, takes, beganAt, began, located, entryStep, chunkLen, chunkStep, stepped, steppedFrom, dropped, packBytes}
-use Rattle.cache.specs.Calls.{gotNothing, loadFrom, fetch}
-use Rattle.cache.specs.State.{cacheOk}
-use Rattle.cache.specs.Numbers.{numberOfLookup, numberOfRequest, numberOfProgress, refusedProgress}
+use Rattle.cache.specs.Keys.{same_key}
+use Rattle.cache.specs.Lookups.{lands_on, touched, passes, len_at, got_ready, got_at, got, next_read, next_at, next_step}
+use Rattle.cache.specs.Direct.{ready, stale, look, look_at}
+use Rattle.cache.specs.Loads.{After, over, refused, failed, done, forgot, fetched, read_len, fits, takes, began_at, began, located, entry_step, chunk_len, chunk_step, stepped, stepped_from, dropped, pack_bytes}
+use Rattle.cache.specs.Calls.{got_nothing, load_from, fetch}
+use Rattle.cache.specs.State.{cache_ok}
+use Rattle.cache.specs.Numbers.{number_of_lookup, number_of_request, number_of_progress, refused_progress}
 use Rattle.cache.specs.declared.Cache.{Cache}
 use Rattle.cache.specs.declared.Loaded.{Loaded}
 use Rattle.cache.specs.declared.Loading.{Loading}
@@ -36,34 +36,34 @@ use Rattle.cache.specs.declared.next.Next.{Next}
 use Rattle.cache.specs.declared.next.Next.TheVariants as Next
 use Rattle.cache.specs.declared.victim.Found.{Found}
 use Rattle.cache.specs.declared.victim.Found.TheVariants as Found
-use Rattle.cache.proofs.FromLaws.{from-steps}
+use Rattle.cache.proofs.FromLaws.{from_steps}
 use Rattle.refusals.specs.Causes.{◌unless◌, first_of, Refuses, NothingMore}
-use Rattle.refusals.specs.Refusals.{entryInside, entryRead, stillPasses, inPack}
+use Rattle.refusals.specs.Refusals.{entry_inside, entry_read, still_passes, in_pack}
 
 -- ---- an entry
 
 abbrev outside : Located
 outside = Located.Refused 4
 
-abbrev locatedBy : Bool → Bool → ℕ → ℕ → Located
-locatedBy none inside offset len = cond none Located.NoTile (cond inside (Located.Tile offset len) outside)
+abbrev located_by : Bool → Bool → ℕ → ℕ → Located
+located_by none inside offset len = cond none Located.NoTile (cond inside (Located.Tile offset len) outside)
 
-pub entry-refused : (h : Header) (e : List ℕ) → locateOf h e ≡ cond (entryInside h e) (locateOf h e) outside
-unfolding locateOf
-entry-refused h e =
-    by (eqb (u32_at e At.length_at) 0) (leb h.«data» (u32_at e At.offsetAt) && leb (u32_at e At.offsetAt + u32_at e At.length_at) h.total)
+pub entry_refused : (h : Header) (e : List ℕ) → locate_of h e ≡ cond (entry_inside h e) (locate_of h e) outside
+unfolding locate_of
+entry_refused h e =
+    by (eqb (u32_at e At.length_at) 0) (leb h.«data» (u32_at e At.offset_at) && leb (u32_at e At.offset_at + u32_at e At.length_at) h.total)
   where
-    by : (a b : Bool) → locatedBy a b (u32_at e At.offsetAt) (u32_at e At.length_at) ≡ cond (a || b) (locatedBy a b (u32_at e At.offsetAt) (u32_at e At.length_at)) outside
+    by : (a b : Bool) → located_by a b (u32_at e At.offset_at) (u32_at e At.length_at) ≡ cond (a || b) (located_by a b (u32_at e At.offset_at) (u32_at e At.length_at)) outside
     by true b = refl
     by false true = refl
     by false false = refl
 
-pub entry-number : (h : Header) (e : List ℕ) → entryInside h e ≡ true → numberOfLocated (locateOf h e) ≡ 0
-unfolding locateOf
-entry-number h e =
-    by (eqb (u32_at e At.length_at) 0) (leb h.«data» (u32_at e At.offsetAt) && leb (u32_at e At.offsetAt + u32_at e At.length_at) h.total)
+pub entry_number : (h : Header) (e : List ℕ) → entry_inside h e ≡ true → number_of_located (locate_of h e) ≡ 0
+unfolding locate_of
+entry_number h e =
+    by (eqb (u32_at e At.length_at) 0) (leb h.«data» (u32_at e At.offset_at) && leb (u32_at e At.offset_at + u32_at e At.length_at) h.total)
   where
-    by : (a b : Bool) → (a || b) ≡ true → numberOfLocated (locatedBy a b (u32_at e At.offsetAt) (u32_at e At.length_at)) ≡ 0
+    by : (a b : Bool) → (a || b) ≡ true → number_of_located (located_by a b (u32_at e At.offset_at) (u32_at e At.length_at)) ≡ 0
     by true b i = refl
     by false true i = refl
     by false false i = absurd (true≢false (sym i))
@@ -71,62 +71,62 @@ entry-number h e =
 -- ---- a lookup
 
 module _ (c : Cache) (arena : List ℕ) (size : ℕ) (k : TileKey) where
-  pub got-refused : got c arena size k ≡ cond (stillPasses (look c arena size k)) (got c arena size k) (gotNothing c 12)
+  pub got_refused : got c arena size k ≡ cond (still_passes (look c arena size k)) (got c arena size k) (got_nothing c 12)
   unfolding got look
-  got-refused = by (landsOn c k)
+  got_refused = by (lands_on c k)
     where
-      run : (i : ℕ) (t : Bool) (bs : List ℕ) → gotReady t c i ≡ cond (stillPasses (cond t (ready bs) stale)) (gotReady t c i) (gotNothing c 12)
+      run : (i : ℕ) (t : Bool) (bs : List ℕ) → got_ready t c i ≡ cond (still_passes (cond t (ready bs) stale)) (got_ready t c i) (got_nothing c 12)
       run i true bs = refl
       run i false bs = refl
 
-      by : (x : Landing) → gotAt x c arena size k ≡ cond (stillPasses (lookAt x c.pages.slots arena size k)) (gotAt x c arena size k) (gotNothing c 12)
+      by : (x : Landing) → got_at x c arena size k ≡ cond (still_passes (look_at x c.pages.slots arena size k)) (got_at x c arena size k) (got_nothing c 12)
       by Landing.Missing = refl
       by Landing.Nothing = refl
       by (Landing.At i) = run i (passes arena i (len_at c i) k size) _
 
-  pub got_number : stillPasses (look c arena size k) ≡ true → numberOfLookup (got c arena size k).answer ≡ 0
+  pub got_number : still_passes (look c arena size k) ≡ true → number_of_lookup (got c arena size k).answer ≡ 0
   unfolding got look
-  got_number = by (landsOn c k)
+  got_number = by (lands_on c k)
     where
-      run : (i : ℕ) (t : Bool) (bs : List ℕ) → stillPasses (cond t (ready bs) stale) ≡ true → numberOfLookup (gotReady t c i).answer ≡ 0
+      run : (i : ℕ) (t : Bool) (bs : List ℕ) → still_passes (cond t (ready bs) stale) ≡ true → number_of_lookup (got_ready t c i).answer ≡ 0
       run i true bs e = refl
       run i false bs e = absurd (true≢false (sym e))
 
-      by : (x : Landing) → stillPasses (lookAt x c.pages.slots arena size k) ≡ true → numberOfLookup (gotAt x c arena size k).answer ≡ 0
+      by : (x : Landing) → still_passes (look_at x c.pages.slots arena size k) ≡ true → number_of_lookup (got_at x c arena size k).answer ≡ 0
       by Landing.Missing e = refl
       by Landing.Nothing e = refl
       by (Landing.At i) e = run i (passes arena i (len_at c i) k size) _ e
 
   -- ---- by the next step towards the tile
 
-  abbrev pub nextPasses : Next → Bool
-  nextPasses (Next.Ready i) = passes arena i (len_at c i) k size
-  nextPasses Next.Missing = true
-  nextPasses Next.NoPages = true
-  nextPasses Next.Entry = true
-  nextPasses (Next.Chunk l) = true
+  abbrev pub next_passes : Next → Bool
+  next_passes (Next.Ready i) = passes arena i (len_at c i) k size
+  next_passes Next.Missing = true
+  next_passes Next.NoPages = true
+  next_passes Next.Entry = true
+  next_passes (Next.Chunk l) = true
 
-  pub still-next : stillPasses (look c arena size k) ≡ nextPasses (nextStep c k)
-  unfolding look nextStep
-  still-next = by (landsOn c k)
+  pub still_next : still_passes (look c arena size k) ≡ next_passes (next_step c k)
+  unfolding look next_step
+  still_next = by (lands_on c k)
     where
-      run : (t : Bool) (bs : List ℕ) → stillPasses (cond t (ready bs) stale) ≡ t
+      run : (t : Bool) (bs : List ℕ) → still_passes (cond t (ready bs) stale) ≡ t
       run true bs = refl
       run false bs = refl
 
-      own : (t : Bool) (l : Loading) → true ≡ nextPasses (cond t (Next.Chunk l) Next.Entry)
+      own : (t : Bool) (l : Loading) → true ≡ next_passes (cond t (Next.Chunk l) Next.Entry)
       own true l = refl
       own false l = refl
 
-      read : (m : MaybeLoading) → true ≡ nextPasses (nextRead m k)
+      read : (m : MaybeLoading) → true ≡ next_passes (next_read m k)
       read MaybeLoading.Nothing = refl
-      read (MaybeLoading.Tile l) = own (sameKey l.key k) l
+      read (MaybeLoading.Tile l) = own (same_key l.key k) l
 
-      none : (t : Bool) → true ≡ nextPasses (cond t Next.NoPages (nextRead c.loading k))
+      none : (t : Bool) → true ≡ next_passes (cond t Next.NoPages (next_read c.loading k))
       none true = refl
       none false = read c.loading
 
-      by : (x : Landing) → stillPasses (lookAt x c.pages.slots arena size k) ≡ nextPasses (next_at x c k)
+      by : (x : Landing) → still_passes (look_at x c.pages.slots arena size k) ≡ next_passes (next_at x c k)
       by Landing.Missing = refl
       by Landing.Nothing = none (eqb c.pages.count 0)
       by (Landing.At i) = run (passes arena i (len_at c i) k size) _
@@ -134,27 +134,27 @@ module _ (c : Cache) (arena : List ℕ) (size : ℕ) (k : TileKey) where
 -- ---- a step of a load
 
 module _ (c : Cache) (arena : List ℕ) (h : Header) (k : TileKey) where
-  pub fetched-refused : (n : Next) → fetched c n arena h k ≡ cond (nextPasses c arena h.tile k n) (fetched c n arena h k) (Request.Refused 12)
-  fetched-refused (Next.Ready i) = by (passes arena i (len_at c i) k h.tile)
+  pub fetched_refused : (n : Next) → fetched c n arena h k ≡ cond (next_passes c arena h.tile k n) (fetched c n arena h k) (Request.Refused 12)
+  fetched_refused (Next.Ready i) = by (passes arena i (len_at c i) k h.tile)
     where
       by : (t : Bool) → cond t Request.Settled (Request.Refused 12) ≡ cond t (cond t Request.Settled (Request.Refused 12)) (Request.Refused 12)
       by true = refl
       by false = refl
-  fetched-refused Next.Missing = refl
-  fetched-refused Next.NoPages = refl
-  fetched-refused Next.Entry = refl
-  fetched-refused (Next.Chunk l) = refl
+  fetched_refused Next.Missing = refl
+  fetched_refused Next.NoPages = refl
+  fetched_refused Next.Entry = refl
+  fetched_refused (Next.Chunk l) = refl
 
-  pub fetched-number : (n : Next) → nextPasses c arena h.tile k n ≡ true → numberOfRequest (fetched c n arena h k) ≡ 0
-  fetched-number (Next.Ready i) e = rw e
-  fetched-number Next.Missing e = refl
-  fetched-number Next.NoPages e = refl
-  fetched-number Next.Entry e = refl
-  fetched-number (Next.Chunk l) e = refl
+  pub fetched_number : (n : Next) → next_passes c arena h.tile k n ≡ true → number_of_request (fetched c n arena h k) ≡ 0
+  fetched_number (Next.Ready i) e = rw e
+  fetched_number Next.Missing e = refl
+  fetched_number Next.NoPages e = refl
+  fetched_number Next.Entry e = refl
+  fetched_number (Next.Chunk l) e = refl
 
   module _ (failure : ℕ) (bs : List ℕ) where
     pub stepped-refused : (n : Next) → stepped c n arena h k failure bs
-        ≡ cond (nextPasses c arena h.tile k n) (stepped c n arena h k failure bs) (over (refused c 12) arena)
+        ≡ cond (next_passes c arena h.tile k n) (stepped c n arena h k failure bs) (over (refused c 12) arena)
     stepped-refused (Next.Ready i) = by (passes arena i (len_at c i) k h.tile) _
       where
         by : (t : Bool) (d : Loaded) → over (cond t d (refused c 12)) arena ≡ cond t (over (cond t d (refused c 12)) arena) (over (refused c 12) arena)
@@ -165,74 +165,74 @@ module _ (c : Cache) (arena : List ℕ) (h : Header) (k : TileKey) where
     stepped-refused Next.Entry = refl
     stepped-refused (Next.Chunk l) = refl
 
-  pub from-refused : (pack : List ℕ) (n : Next) → steppedFrom c n arena h k pack
-      ≡ cond (nextPasses c arena h.tile k n) (steppedFrom c n arena h k pack) (over (refused c 12) arena)
-  from-refused pack (Next.Ready i) = stepped-refused 0 [] (Next.Ready i)
-  from-refused pack Next.Missing = refl
-  from-refused pack Next.NoPages = refl
-  from-refused pack Next.Entry = refl
-  from-refused pack (Next.Chunk l) = refl
+  pub from_refused : (pack : List ℕ) (n : Next) → stepped_from c n arena h k pack
+      ≡ cond (next_passes c arena h.tile k n) (stepped_from c n arena h k pack) (over (refused c 12) arena)
+  from_refused pack (Next.Ready i) = stepped-refused 0 [] (Next.Ready i)
+  from_refused pack Next.Missing = refl
+  from_refused pack Next.NoPages = refl
+  from_refused pack Next.Entry = refl
+  from_refused pack (Next.Chunk l) = refl
 
   -- `fetch` and `load` in one, with their tests
-  pub from-tested : (pack : List ℕ) → loadFrom c arena h k pack
-      ≡ cond (cacheOk c h (length arena)) (cond (inGrid h k) (steppedFrom c (nextStep c k) arena h k pack) (over (refused c 9) arena))
+  pub from_tested : (pack : List ℕ) → load_from c arena h k pack
+      ≡ cond (cache_ok c h (length arena)) (cond (in_grid h k) (stepped_from c (next_step c k) arena h k pack) (over (refused c 9) arena))
       (over (refused c 12) arena)
-  unfolding loadFrom fetch
-  from-tested pack = by (cacheOk c h (length arena)) (inGrid h k) refl refl
+  unfolding load_from fetch
+  from_tested pack = by (cache_ok c h (length arena)) (in_grid h k) refl refl
     where
-      by : (a b : Bool) → cacheOk c h (length arena) ≡ a → inGrid h k ≡ b → loadFrom c arena h k pack
-          ≡ cond a (cond b (steppedFrom c (nextStep c k) arena h k pack) (over (refused c 9) arena)) (over (refused c 12) arena)
-      by true true ok grid = from-steps c arena h k pack ok grid
+      by : (a b : Bool) → cache_ok c h (length arena) ≡ a → in_grid h k ≡ b → load_from c arena h k pack
+          ≡ cond a (cond b (stepped_from c (next_step c k) arena h k pack) (over (refused c 9) arena)) (over (refused c 12) arena)
+      by true true ok grid = from_steps c arena h k pack ok grid
       by true false ok grid = rw (ok, grid)
       by false b ok grid = rw ok
 
 -- ---- what a step of a load answers
 
-either-after : (t : Bool) (x y : After) → refusedProgress x.answer ≡ 0 → refusedProgress y.answer ≡ 0 → refusedProgress (cond t x y).answer ≡ 0
-either-after true x y p q = p
-either-after false x y p q = q
+either_after : (t : Bool) (x y : After) → refused_progress x.answer ≡ 0 → refused_progress y.answer ≡ 0 → refused_progress (cond t x y).answer ≡ 0
+either_after true x y p q = p
+either_after false x y p q = q
 
-either-loaded : (t : Bool) (x y : Loaded) → refusedProgress x.answer ≡ 0 → refusedProgress y.answer ≡ 0 → refusedProgress (cond t x y).answer ≡ 0
-either-loaded true x y p q = p
-either-loaded false x y p q = q
+either_loaded : (t : Bool) (x y : Loaded) → refused_progress x.answer ≡ 0 → refused_progress y.answer ≡ 0 → refused_progress (cond t x y).answer ≡ 0
+either_loaded true x y p q = p
+either_loaded false x y p q = q
 
 module _ (k : TileKey) where
-  began-runs : (x : Found) (d : Cache) (g : Pages) (offset len : ℕ) → refusedProgress (beganAt x d g k offset len).answer ≡ 0
-  began-runs Found.Nothing d g offset len = refl
-  began-runs (Found.At slot) d g offset len = refl
+  began_runs : (x : Found) (d : Cache) (g : Pages) (offset len : ℕ) → refused_progress (began_at x d g k offset len).answer ≡ 0
+  began_runs Found.Nothing d g offset len = refl
+  began_runs (Found.At slot) d g offset len = refl
 
-  located-runs : (x : Located) (d : Cache) → refusedProgress (located x d k).answer ≡ 0
+  located_runs : (x : Located) (d : Cache) → refused_progress (located x d k).answer ≡ 0
   unfolding began
-  located-runs Located.NoTile d = refl
-  located-runs (Located.Refused number) d = refl
-  located-runs (Located.Tile offset len) d =
-      let b = begun d.pages k len in either-loaded (ltb 49152 len) _ _ refl (began-runs b.at d b.pages offset len)
+  located_runs Located.NoTile d = refl
+  located_runs (Located.Refused number) d = refl
+  located_runs (Located.Tile offset len) d =
+      let b = begun d.pages k len in either_loaded (ltb 49152 len) _ _ refl (began_runs b.at d b.pages offset len)
 
 module _ (c : Cache) (arena : List ℕ) (h : Header) (k : TileKey) where
-  entry_runs : (failure : ℕ) (bs : List ℕ) → refusedProgress (entryStep c h k failure bs).answer ≡ 0
-  unfolding entryStep
-  entry_runs failure bs = either-loaded (eqb failure 0) _ _ (located-runs k (locateOf h bs) (dropped c)) refl
+  entry_runs : (failure : ℕ) (bs : List ℕ) → refused_progress (entry_step c h k failure bs).answer ≡ 0
+  unfolding entry_step
+  entry_runs failure bs = either_loaded (eqb failure 0) _ _ (located_runs k (locate_of h bs) (dropped c)) refl
 
-  chunk-runs : (l : Loading) (size failure : ℕ) (bs : List ℕ) → refusedProgress (chunkStep c l arena size failure bs).answer ≡ 0
-  unfolding chunkStep
-  chunk-runs l size failure bs = either-after (eqb failure 0) _ _ (either-after (ltb (l.done + chunkLen l) l.len) _ _ refl refl) refl
+  chunk_runs : (l : Loading) (size failure : ℕ) (bs : List ℕ) → refused_progress (chunk_step c l arena size failure bs).answer ≡ 0
+  unfolding chunk_step
+  chunk_runs l size failure bs = either_after (eqb failure 0) _ _ (either_after (ltb (l.done + chunk_len l) l.len) _ _ refl refl) refl
 
-  pub stepped-runs : (failure : ℕ) (bs : List ℕ) (n : Next) → nextPasses c arena h.tile k n ≡ true
-      → refusedProgress (stepped c n arena h k failure bs).answer ≡ 0
-  stepped-runs failure bs (Next.Ready i) e = rw e
-  stepped-runs failure bs Next.Missing e = refl
-  stepped-runs failure bs Next.NoPages e = refl
-  stepped-runs failure bs Next.Entry e = entry_runs failure bs
-  stepped-runs failure bs (Next.Chunk l) e = chunk-runs l h.tile failure bs
+  pub stepped_runs : (failure : ℕ) (bs : List ℕ) (n : Next) → next_passes c arena h.tile k n ≡ true
+      → refused_progress (stepped c n arena h k failure bs).answer ≡ 0
+  stepped_runs failure bs (Next.Ready i) e = rw e
+  stepped_runs failure bs Next.Missing e = refl
+  stepped_runs failure bs Next.NoPages e = refl
+  stepped_runs failure bs Next.Entry e = entry_runs failure bs
+  stepped_runs failure bs (Next.Chunk l) e = chunk_runs l h.tile failure bs
 
-  pub from-runs : (pack : List ℕ) (n : Next) → nextPasses c arena h.tile k n ≡ true → refusedProgress (steppedFrom c n arena h k pack).answer ≡ 0
-  from-runs pack (Next.Ready i) e = rw e
-  from-runs pack Next.Missing e = refl
-  from-runs pack Next.NoPages e = refl
-  from-runs pack Next.Entry e = either-loaded (leb (entry_of h k + 8) (length pack)) _ _ (entry_runs 0 (packBytes pack (entry_of h k) 8)) (entry_runs 2 [])
-  from-runs pack (Next.Chunk l) e =
-      either-after (leb (l.offset + l.done + chunkLen l) (length pack)) _ _
-      (chunk-runs l h.tile 0 (packBytes pack (l.offset + l.done) (chunkLen l))) (chunk-runs l h.tile 2 [])
+  pub from_runs : (pack : List ℕ) (n : Next) → next_passes c arena h.tile k n ≡ true → refused_progress (stepped_from c n arena h k pack).answer ≡ 0
+  from_runs pack (Next.Ready i) e = rw e
+  from_runs pack Next.Missing e = refl
+  from_runs pack Next.NoPages e = refl
+  from_runs pack Next.Entry e = either_loaded (leb (entry_of h k + 8) (length pack)) _ _ (entry_runs 0 (pack_bytes pack (entry_of h k) 8)) (entry_runs 2 [])
+  from_runs pack (Next.Chunk l) e =
+      either_after (leb (l.offset + l.done + chunk_len l) (length pack)) _ _
+      (chunk_runs l h.tile 0 (pack_bytes pack (l.offset + l.done) (chunk_len l))) (chunk_runs l h.tile 2 [])
 
 -- ---- a step of a load that fails
 
@@ -241,11 +241,11 @@ Dropped c arena r = (r.cache ≡ dropped c) × (r.arena ≡ arena)
 
 abbrev Fails : Cache → List ℕ → ℕ → Bool → Bool → After → Type 0
 Fails c arena failure came inside r =
-    Refuses ((failure unless came) ∷ (4 unless inside) ∷ []) (numberOfProgress r.answer) (Dropped c arena r) NothingMore
+    Refuses ((failure unless came) ∷ (4 unless inside) ∷ []) (number_of_progress r.answer) (Dropped c arena r) NothingMore
 
 module _ (c : Cache) (arena : List ℕ) (failure : ℕ) where
   -- a step that answers no failure
-  goes : (r : After) → numberOfProgress r.answer ≡ 0 → Fails c arena failure true true r
+  goes : (r : After) → number_of_progress r.answer ≡ 0 → Fails c arena failure true true r
   unfolding first_of
   goes r z = record { is = z; as_it_was = λ some. absurd (omega (arith, some)); goes_on = λ none. tt }
 
@@ -253,37 +253,37 @@ module _ (c : Cache) (arena : List ℕ) (failure : ℕ) where
   unfolding first_of
   missed inside = record { is = refl; as_it_was = λ some. (refl, refl); goes_on = λ none. tt }
 
-  outside-fails : Fails c arena failure true false (over (failed (dropped c) 4) arena)
+  outside_fails : Fails c arena failure true false (over (failed (dropped c) 4) arena)
   unfolding first_of
-  outside-fails = record { is = refl; as_it_was = λ some. (refl, refl); goes_on = λ none. tt }
+  outside_fails = record { is = refl; as_it_was = λ some. (refl, refl); goes_on = λ none. tt }
 
-  began-fails : (x : Found) (d : Cache) (g : Pages) (k : TileKey) (offset len : ℕ) → numberOfProgress (beganAt x d g k offset len).answer ≡ 0
-  began-fails Found.Nothing d g k offset len = refl
-  began-fails (Found.At slot) d g k offset len = refl
+  began_fails : (x : Found) (d : Cache) (g : Pages) (k : TileKey) (offset len : ℕ) → number_of_progress (began_at x d g k offset len).answer ≡ 0
+  began_fails Found.Nothing d g k offset len = refl
+  began_fails (Found.At slot) d g k offset len = refl
 
-  began-number : (k : TileKey) (offset len : ℕ) → numberOfProgress (began (dropped c) k offset len).answer ≡ 0
+  began_number : (k : TileKey) (offset len : ℕ) → number_of_progress (began (dropped c) k offset len).answer ≡ 0
   unfolding began
-  began-number k offset len =
-      let b = begun (dropped c).pages k len in either (ltb 49152 len) _ _ refl (began-fails b.at (dropped c) b.pages k offset len)
+  began_number k offset len =
+      let b = begun (dropped c).pages k len in either (ltb 49152 len) _ _ refl (began_fails b.at (dropped c) b.pages k offset len)
     where
-      either : (t : Bool) (x y : Loaded) → numberOfProgress x.answer ≡ 0 → numberOfProgress y.answer ≡ 0 → numberOfProgress (cond t x y).answer ≡ 0
+      either : (t : Bool) (x y : Loaded) → number_of_progress x.answer ≡ 0 → number_of_progress y.answer ≡ 0 → number_of_progress (cond t x y).answer ≡ 0
       either true x y p q = p
       either false x y p q = q
 
   -- the entry that came
-  entry-fails : (h : Header) (k : TileKey) (bs : List ℕ) → Fails c arena failure true (entryInside h bs) (over (located (locateOf h bs) (dropped c) k) arena)
-  unfolding locateOf
-  entry-fails h k bs =
-      by (eqb (u32_at bs At.length_at) 0) (leb h.«data» (u32_at bs At.offsetAt) && leb (u32_at bs At.offsetAt + u32_at bs At.length_at) h.total)
+  entry_fails : (h : Header) (k : TileKey) (bs : List ℕ) → Fails c arena failure true (entry_inside h bs) (over (located (locate_of h bs) (dropped c) k) arena)
+  unfolding locate_of
+  entry_fails h k bs =
+      by (eqb (u32_at bs At.length_at) 0) (leb h.«data» (u32_at bs At.offset_at) && leb (u32_at bs At.offset_at + u32_at bs At.length_at) h.total)
     where
-      by : (a b : Bool) → Fails c arena failure true (a || b) (over (located (locatedBy a b (u32_at bs At.offsetAt) (u32_at bs At.length_at)) (dropped c) k) arena)
+      by : (a b : Bool) → Fails c arena failure true (a || b) (over (located (located_by a b (u32_at bs At.offset_at) (u32_at bs At.length_at)) (dropped c) k) arena)
       by true b = goes (over (done (forgot (dropped c) k)) arena) refl
-      by false true = goes (over (began (dropped c) k (u32_at bs At.offsetAt) (u32_at bs At.length_at)) arena) (began-number k (u32_at bs At.offsetAt) (u32_at bs At.length_at))
-      by false false = outside-fails
+      by false true = goes (over (began (dropped c) k (u32_at bs At.offset_at) (u32_at bs At.length_at)) arena) (began_number k (u32_at bs At.offset_at) (u32_at bs At.length_at))
+      by false false = outside_fails
 
-  chunk-number : (t : Bool) (x y : After) → numberOfProgress x.answer ≡ 0 → numberOfProgress y.answer ≡ 0 → numberOfProgress (cond t x y).answer ≡ 0
-  chunk-number true x y p q = p
-  chunk-number false x y p q = q
+  chunk_number : (t : Bool) (x y : After) → number_of_progress x.answer ≡ 0 → number_of_progress y.answer ≡ 0 → number_of_progress (cond t x y).answer ≡ 0
+  chunk_number true x y p q = p
+  chunk_number false x y p q = q
 
 -- the step that a read answered; where none is made, failure is 0
 module _ (c : Cache) (arena : List ℕ) (h : Header) (k : TileKey) (failure : ℕ) (bs : List ℕ) where
@@ -292,51 +292,51 @@ module _ (c : Cache) (arena : List ℕ) (h : Header) (k : TileKey) (failure : �
   no_read false true e = absurd (true≢false (sym e))
   no_read false false e = absurd (true≢false (sym e))
 
-  fails_by : (n : Next) → fits (readLen n) failure (length bs) ≡ true → nextPasses c arena h.tile k n ≡ true
-      → Fails c arena failure (eqb failure 0) (entryRead n h bs) (stepped c n arena h k failure bs)
-  unfolding entryStep chunkStep
+  fails_by : (n : Next) → fits (read_len n) failure (length bs) ≡ true → next_passes c arena h.tile k n ≡ true
+      → Fails c arena failure (eqb failure 0) (entry_read n h bs) (stepped c n arena h k failure bs)
+  unfolding entry_step chunk_step
   fails_by (Next.Ready i) f e =
       rw (no_read (eqb failure 0) (ltb 2 failure) f) (goes c arena failure (stepped c (Next.Ready i) arena h k failure bs) (rw e))
   fails_by Next.Missing f e = rw (no_read (eqb failure 0) (ltb 2 failure) f) (goes c arena failure (stepped c Next.Missing arena h k failure bs) refl)
   fails_by Next.NoPages f e = rw (no_read (eqb failure 0) (ltb 2 failure) f) (goes c arena failure (stepped c Next.NoPages arena h k failure bs) refl)
   fails_by Next.Entry f e = by (eqb failure 0)
     where
-      by : (t : Bool) → Fails c arena failure t (entryInside h bs)
-          (over (cond t (located (locateOf h bs) (dropped c) k) (failed (dropped c) failure)) arena)
-      by true = entry-fails c arena failure h k bs
-      by false = missed c arena failure (entryInside h bs)
-  fails_by (Next.Chunk l) f e = by (eqb failure 0) _ (chunk-number c arena failure (ltb (l.done + chunkLen l) l.len) _ _ refl refl)
+      by : (t : Bool) → Fails c arena failure t (entry_inside h bs)
+          (over (cond t (located (locate_of h bs) (dropped c) k) (failed (dropped c) failure)) arena)
+      by true = entry_fails c arena failure h k bs
+      by false = missed c arena failure (entry_inside h bs)
+  fails_by (Next.Chunk l) f e = by (eqb failure 0) _ (chunk_number c arena failure (ltb (l.done + chunk_len l) l.len) _ _ refl refl)
     where
-      by : (t : Bool) (x : After) → numberOfProgress x.answer ≡ 0 → Fails c arena failure t true (cond t x (over (failed (dropped c) failure) arena))
+      by : (t : Bool) (x : After) → number_of_progress x.answer ≡ 0 → Fails c arena failure t true (cond t x (over (failed (dropped c) failure) arena))
       by true x z = goes c arena failure x z
       by false x z = missed c arena failure true
 
-pub step-fails : (c : Cache) (arena : List ℕ) (h : Header) (k : TileKey) (failure : ℕ) (bs : List ℕ)
-    → takes (nextStep c k) h k failure (length bs) ≡ true → inGrid h k ≡ true → stillPasses (look c arena h.tile k) ≡ true
-    → Fails c arena failure (eqb failure 0) (entryRead (nextStep c k) h bs) (stepped c (nextStep c k) arena h k failure bs)
-step-fails c arena h k failure bs f grid e =
-    fails_by c arena h k failure bs (nextStep c k) (rw grid at f) (sym (still-next c arena h.tile k) ∙ e)
+pub step_fails : (c : Cache) (arena : List ℕ) (h : Header) (k : TileKey) (failure : ℕ) (bs : List ℕ)
+    → takes (next_step c k) h k failure (length bs) ≡ true → in_grid h k ≡ true → still_passes (look c arena h.tile k) ≡ true
+    → Fails c arena failure (eqb failure 0) (entry_read (next_step c k) h bs) (stepped c (next_step c k) arena h k failure bs)
+step_fails c arena h k failure bs f grid e =
+    fails_by c arena h k failure bs (next_step c k) (rw grid at f) (sym (still_next c arena h.tile k) ∙ e)
 
-pub from-fails : (c : Cache) (arena : List ℕ) (h : Header) (k : TileKey) (pack : List ℕ) → stillPasses (look c arena h.tile k) ≡ true
-    → Fails c arena 2 (inPack (fetched c (nextStep c k) arena h k) pack) (entryRead (nextStep c k) h (packBytes pack (entry_of h k) 8))
-    (steppedFrom c (nextStep c k) arena h k pack)
-unfolding entryStep chunkStep
-from-fails c arena h k pack e = by (nextStep c k) (sym (still-next c arena h.tile k) ∙ e)
+pub from_fails : (c : Cache) (arena : List ℕ) (h : Header) (k : TileKey) (pack : List ℕ) → still_passes (look c arena h.tile k) ≡ true
+    → Fails c arena 2 (in_pack (fetched c (next_step c k) arena h k) pack) (entry_read (next_step c k) h (pack_bytes pack (entry_of h k) 8))
+    (stepped_from c (next_step c k) arena h k pack)
+unfolding entry_step chunk_step
+from_fails c arena h k pack e = by (next_step c k) (sym (still_next c arena h.tile k) ∙ e)
   where
-    entry : (t : Bool) → Fails c arena 2 t (entryInside h (packBytes pack (entry_of h k) 8))
-        (over (cond t (entryStep c h k 0 (packBytes pack (entry_of h k) 8)) (entryStep c h k 2 [])) arena)
-    entry true = entry-fails c arena 2 h k (packBytes pack (entry_of h k) 8)
-    entry false = missed c arena 2 (entryInside h (packBytes pack (entry_of h k) 8))
+    entry : (t : Bool) → Fails c arena 2 t (entry_inside h (pack_bytes pack (entry_of h k) 8))
+        (over (cond t (entry_step c h k 0 (pack_bytes pack (entry_of h k) 8)) (entry_step c h k 2 [])) arena)
+    entry true = entry_fails c arena 2 h k (pack_bytes pack (entry_of h k) 8)
+    entry false = missed c arena 2 (entry_inside h (pack_bytes pack (entry_of h k) 8))
 
-    chunk : (t : Bool) (x : After) → numberOfProgress x.answer ≡ 0 → Fails c arena 2 t true (cond t x (over (failed (dropped c) 2) arena))
+    chunk : (t : Bool) (x : After) → number_of_progress x.answer ≡ 0 → Fails c arena 2 t true (cond t x (over (failed (dropped c) 2) arena))
     chunk true x z = goes c arena 2 x z
     chunk false x z = missed c arena 2 true
 
-    by : (n : Next) → nextPasses c arena h.tile k n ≡ true
-        → Fails c arena 2 (inPack (fetched c n arena h k) pack) (entryRead n h (packBytes pack (entry_of h k) 8)) (steppedFrom c n arena h k pack)
+    by : (n : Next) → next_passes c arena h.tile k n ≡ true
+        → Fails c arena 2 (in_pack (fetched c n arena h k) pack) (entry_read n h (pack_bytes pack (entry_of h k) 8)) (stepped_from c n arena h k pack)
     by (Next.Ready i) e = rw e (goes c arena 2 (over (done (touched c i)) arena) refl)
     by Next.Missing e = goes c arena 2 (over (done c) arena) refl
     by Next.NoPages e = goes c arena 2 (over (done (forgot c k)) arena) refl
     by Next.Entry e = entry (leb (entry_of h k + 8) (length pack))
     by (Next.Chunk l) e =
-        chunk (leb (l.offset + l.done + chunkLen l) (length pack)) _ (chunk-number c arena 2 (ltb (l.done + chunkLen l) l.len) _ _ refl refl)
+        chunk (leb (l.offset + l.done + chunk_len l) (length pack)) _ (chunk_number c arena 2 (ltb (l.done + chunk_len l) l.len) _ _ refl refl)

@@ -14,108 +14,108 @@ use Rattle.engine.specs.Deliver.{After}
 use Rattle.engine.specs.declared.Stepped.{Stepped}
 use Rattle.words.specs.Calls as Calls
 use Rattle.words.specs.Calls.{left}
-use Rattle.words.specs.Words.{accepted, matcherOf, matcherWords, sharedOf, engineOf}
-use Rattle.words.proofs.SameLaws.{same-is}
+use Rattle.words.specs.Words.{accepted, matcher_of, matcher_words, shared_of, engine_of}
+use Rattle.words.proofs.SameLaws.{same_is}
 use Rattle.terrain.specs.Host as Host
 use Rattle.terrain.specs.Roads as Roads
 use Rattle.terrain.specs.declared.host.MatchTold.{MatchTold}
 use Rattle.terrain.specs.declared.roads.TerrainHeading.{TerrainHeading}
 
 module _ (ws arena : List ℕ) where
-  moved_told : (b : Bool) (s : Stepped) → Host.statusTold (cond b (Calls.moved s) (Calls.stays ws)).answer ≡ (cond b (Host.moved s) (Host.rests ws)).answer
+  moved_told : (b : Bool) (s : Stepped) → Host.status_told (cond b (Calls.moved s) (Calls.stays ws)).answer ≡ (cond b (Host.moved s) (Host.rests ws)).answer
   moved_told true s = refl
   moved_told false s = refl
 
-  moved-words : (b : Bool) (s : Stepped) → (cond b (Calls.moved s) (Calls.stays ws)).words ≡ (cond b (Host.moved s) (Host.rests ws)).words
-  moved-words true s = refl
-  moved-words false s = refl
+  moved_words : (b : Bool) (s : Stepped) → (cond b (Calls.moved s) (Calls.stays ws)).words ≡ (cond b (Host.moved s) (Host.rests ws)).words
+  moved_words true s = refl
+  moved_words false s = refl
 
-  given-told : (b : Bool) (a : After) → Host.statusTold (cond b (Calls.delivered a) (Calls.keeps ws arena)).answer ≡ (cond b (Host.delivered a) (Host.keeps ws arena)).answer
-  given-told true a = refl
-  given-told false a = refl
+  given_told : (b : Bool) (a : After) → Host.status_told (cond b (Calls.delivered a) (Calls.keeps ws arena)).answer ≡ (cond b (Host.delivered a) (Host.keeps ws arena)).answer
+  given_told true a = refl
+  given_told false a = refl
 
-  given-words : (b : Bool) (a : After) → (cond b (Calls.delivered a) (Calls.keeps ws arena)).words ≡ (cond b (Host.delivered a) (Host.keeps ws arena)).words
-  given-words true a = refl
-  given-words false a = refl
+  given_words : (b : Bool) (a : After) → (cond b (Calls.delivered a) (Calls.keeps ws arena)).words ≡ (cond b (Host.delivered a) (Host.keeps ws arena)).words
+  given_words true a = refl
+  given_words false a = refl
 
-  given-arena : (b : Bool) (a : After) → (cond b (Calls.delivered a) (Calls.keeps ws arena)).arena ≡ (cond b (Host.delivered a) (Host.keeps ws arena)).arena
-  given-arena true a = refl
-  given-arena false a = refl
+  given_arena : (b : Bool) (a : After) → (cond b (Calls.delivered a) (Calls.keeps ws arena)).arena ≡ (cond b (Host.delivered a) (Host.keeps ws arena)).arena
+  given_arena true a = refl
+  given_arena false a = refl
 
-  pub step-told : Host.statusTold (Calls.step ws arena).answer ≡ (Host.step ws arena).answer
+  pub step_told : Host.status_told (Calls.step ws arena).answer ≡ (Host.step ws arena).answer
   unfolding Calls.step Host.step
-  step-told = moved_told (accepted ws) (Engines.step (engineOf ws) arena)
+  step_told = moved_told (accepted ws) (Engines.step (engine_of ws) arena)
 
   pub step_words : (Calls.step ws arena).words ≡ (Host.step ws arena).words
   unfolding Calls.step Host.step
-  step_words = moved-words (accepted ws) (Engines.step (engineOf ws) arena)
+  step_words = moved_words (accepted ws) (Engines.step (engine_of ws) arena)
 
   module _ (failure : ℕ) (bs : List ℕ) where
-    pub deliver-told : Host.statusTold (Calls.deliver ws arena failure bs).answer ≡ (Host.deliver ws arena failure bs).answer
+    pub deliver_told : Host.status_told (Calls.deliver ws arena failure bs).answer ≡ (Host.deliver ws arena failure bs).answer
     unfolding Calls.deliver Host.deliver
-    deliver-told = given-told (accepted ws) (Engines.deliver (engineOf ws) arena failure bs)
+    deliver_told = given_told (accepted ws) (Engines.deliver (engine_of ws) arena failure bs)
 
-    pub deliver-words : (Calls.deliver ws arena failure bs).words ≡ (Host.deliver ws arena failure bs).words
+    pub deliver_words : (Calls.deliver ws arena failure bs).words ≡ (Host.deliver ws arena failure bs).words
     unfolding Calls.deliver Host.deliver
-    deliver-words = given-words (accepted ws) (Engines.deliver (engineOf ws) arena failure bs)
+    deliver_words = given_words (accepted ws) (Engines.deliver (engine_of ws) arena failure bs)
 
-    pub deliver-arena : (Calls.deliver ws arena failure bs).arena ≡ (Host.deliver ws arena failure bs).arena
+    pub deliver_arena : (Calls.deliver ws arena failure bs).arena ≡ (Host.deliver ws arena failure bs).arena
     unfolding Calls.deliver Host.deliver
-    deliver-arena = given-arena (accepted ws) (Engines.deliver (engineOf ws) arena failure bs)
+    deliver_arena = given_arena (accepted ws) (Engines.deliver (engine_of ws) arena failure bs)
 
   module _ (pack : List ℕ) where
-    pub from_told : Host.statusTold (Calls.stepFrom ws arena pack).answer ≡ (Host.stepFrom ws arena pack).answer
-    unfolding Calls.stepFrom Host.stepFrom
-    from_told = given-told (accepted ws) (Engines.stepFrom (engineOf ws) arena pack)
+    pub from_told : Host.status_told (Calls.step_from ws arena pack).answer ≡ (Host.step_from ws arena pack).answer
+    unfolding Calls.step_from Host.step_from
+    from_told = given_told (accepted ws) (Engines.step_from (engine_of ws) arena pack)
 
-    pub from-words : (Calls.stepFrom ws arena pack).words ≡ (Host.stepFrom ws arena pack).words
-    unfolding Calls.stepFrom Host.stepFrom
-    from-words = given-words (accepted ws) (Engines.stepFrom (engineOf ws) arena pack)
+    pub from_words : (Calls.step_from ws arena pack).words ≡ (Host.step_from ws arena pack).words
+    unfolding Calls.step_from Host.step_from
+    from_words = given_words (accepted ws) (Engines.step_from (engine_of ws) arena pack)
 
-    pub from-arena : (Calls.stepFrom ws arena pack).arena ≡ (Host.stepFrom ws arena pack).arena
-    unfolding Calls.stepFrom Host.stepFrom
-    from-arena = given-arena (accepted ws) (Engines.stepFrom (engineOf ws) arena pack)
+    pub from_arena : (Calls.step_from ws arena pack).arena ≡ (Host.step_from ws arena pack).arena
+    unfolding Calls.step_from Host.step_from
+    from_arena = given_arena (accepted ws) (Engines.step_from (engine_of ws) arena pack)
 
 -- ---- a match and a road
 
 -- words that are a matcher's are its words again
-kept : (ms : List ℕ) → Roads.isMatcher ms ≡ true → matcherWords (matcherOf ms 0) ≡ ms
-unfolding Roads.isMatcher
-kept ms is = same-is (matcherWords (matcherOf ms 0)) ms is
+kept : (ms : List ℕ) → Roads.is_matcher ms ≡ true → matcher_words (matcher_of ms 0) ≡ ms
+unfolding Roads.is_matcher
+kept ms is = same_is (matcher_words (matcher_of ms 0)) ms is
 
-module _ (ms ws arena : List ℕ) (h : Header) (fix : Point) (heading : TerrainHeading) (is : Roads.isMatcher ms ≡ true) (known : leb heading.known 1 ≡ true) where
-  pub update-words : Roads.update ms ws arena h fix heading ≡ Calls.update ws arena (matcherOf ms 0) h fix (Roads.headingOf heading)
-  unfolding Calls.update engineOf sharedOf
-  update-words = rw (is, known)
+module _ (ms ws arena : List ℕ) (h : Header) (fix : Point) (heading : TerrainHeading) (is : Roads.is_matcher ms ≡ true) (known : leb heading.known 1 ≡ true) where
+  pub update_words : Roads.update ms ws arena h fix heading ≡ Calls.update ws arena (matcher_of ms 0) h fix (Roads.heading_of heading)
+  unfolding Calls.update engine_of shared_of
+  update_words = rw (is, known)
 
-  pub update-matcher : Roads.matcherAfter ms ws arena h fix heading ≡ matcherWords (Calls.update ws arena (matcherOf ms 0) h fix (Roads.headingOf heading)).matcher
-  unfolding Calls.update engineOf sharedOf
-  update-matcher = by (accepted ws) refl
+  pub update_matcher : Roads.matcher_after ms ws arena h fix heading ≡ matcher_words (Calls.update ws arena (matcher_of ms 0) h fix (Roads.heading_of heading)).matcher
+  unfolding Calls.update engine_of shared_of
+  update_matcher = by (accepted ws) refl
     where
       by : (t : Bool) → accepted ws ≡ t
-          → Roads.matcherAfter ms ws arena h fix heading ≡ matcherWords (Calls.update ws arena (matcherOf ms 0) h fix (Roads.headingOf heading)).matcher
+          → Roads.matcher_after ms ws arena h fix heading ≡ matcher_words (Calls.update ws arena (matcher_of ms 0) h fix (Roads.heading_of heading)).matcher
       by true e = rw (is, known, e)
       by false e = rw (is, known, e) (sym (kept ms is))
 
-  pub update-engine : Roads.engineAfter ms ws arena h fix heading ≡ left ws (Calls.update ws arena (matcherOf ms 0) h fix (Roads.headingOf heading)).cache
-  unfolding Calls.update engineOf sharedOf
-  update-engine = by (accepted ws) refl
+  pub update_engine : Roads.engine_after ms ws arena h fix heading ≡ left ws (Calls.update ws arena (matcher_of ms 0) h fix (Roads.heading_of heading)).cache
+  unfolding Calls.update engine_of shared_of
+  update_engine = by (accepted ws) refl
     where
       by : (t : Bool) → accepted ws ≡ t
-          → Roads.engineAfter ms ws arena h fix heading ≡ left ws (Calls.update ws arena (matcherOf ms 0) h fix (Roads.headingOf heading)).cache
+          → Roads.engine_after ms ws arena h fix heading ≡ left ws (Calls.update ws arena (matcher_of ms 0) h fix (Roads.heading_of heading)).cache
       by true e = rw (is, known, e)
       by false e = rw (is, known, e)
 
-module _ (ws arena : List ℕ) (h : Header) (start : MatchTold) (horizon : Float) (samples behind : List ℤ) (is : Roads.isGiven start ≡ true) where
-  pub predict-words : Roads.predict ws arena h start horizon samples behind ≡ Calls.predict ws arena h (Roads.given start) horizon samples behind
-  unfolding Calls.predict engineOf sharedOf
-  predict-words = rw is
+module _ (ws arena : List ℕ) (h : Header) (start : MatchTold) (horizon : Float) (samples behind : List ℤ) (is : Roads.is_given start ≡ true) where
+  pub predict_words : Roads.predict ws arena h start horizon samples behind ≡ Calls.predict ws arena h (Roads.given start) horizon samples behind
+  unfolding Calls.predict engine_of shared_of
+  predict_words = rw is
 
-  pub predict-engine : Roads.predictAfter ws arena h start horizon samples behind ≡ left ws (Calls.predict ws arena h (Roads.given start) horizon samples behind).predicted.cache
-  unfolding Calls.predict engineOf sharedOf
-  predict-engine = by (accepted ws) refl
+  pub predict_engine : Roads.predict_after ws arena h start horizon samples behind ≡ left ws (Calls.predict ws arena h (Roads.given start) horizon samples behind).predicted.cache
+  unfolding Calls.predict engine_of shared_of
+  predict_engine = by (accepted ws) refl
     where
       by : (t : Bool) → accepted ws ≡ t
-          → Roads.predictAfter ws arena h start horizon samples behind ≡ left ws (Calls.predict ws arena h (Roads.given start) horizon samples behind).predicted.cache
+          → Roads.predict_after ws arena h start horizon samples behind ≡ left ws (Calls.predict ws arena h (Roads.given start) horizon samples behind).predicted.cache
       by true e = rw (is, e)
       by false e = rw (is, e)

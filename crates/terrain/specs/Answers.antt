@@ -17,6 +17,6 @@ flag true = 1
 flag false = 0
 
 -- document 01's number of a refusal, 0 where there is none
-abbrev pub degreesOut : Degrees → TerrainDegrees
-degreesOut (At d) = record { number = 0; degrees = d }
-degreesOut (Refused n) = record { number = n; degrees = zero }
+abbrev pub degrees_out : Degrees → TerrainDegrees
+degrees_out (At d) = record { number = 0; degrees = d }
+degrees_out (Refused n) = record { number = n; degrees = zero }

@@ -26,7 +26,7 @@ use Rattle.tile.specs.declared.EntryRead.{EntryRead}
 use Rattle.tile.specs.declared.EntryRead.TheVariants as EntryRead
 use Rattle.tile.specs.declared.Found.{Found}
 use Rattle.tile.specs.declared.Found.TheVariants as Found
-use Rattle.terrain.specs.Records.{headerOut, keyOut, nodeOut, edgeOut, noKey, no_node, no_edge}
+use Rattle.terrain.specs.Records.{header_out, key_out, node_out, edge_out, no_key, no_node, no_edge}
 use Rattle.terrain.specs.declared.format.TerrainRange.{TerrainRange}
 use Rattle.terrain.specs.declared.format.TerrainHeaderParsed.{TerrainHeaderParsed}
 use Rattle.terrain.specs.declared.format.TerrainKeyed.{TerrainKeyed}
@@ -42,58 +42,58 @@ use Rattle.terrain.specs.declared.format.TerrainFound.{TerrainFound}
 
 -- ---- the pack
 
-abbrev pub rangeOut : Range → TerrainRange
-rangeOut (Range.At at) = record { number = 0; at = at }
-rangeOut (Range.Refused n) = record { number = n; at = 0 }
+abbrev pub range_out : Range → TerrainRange
+range_out (Range.At at) = record { number = 0; at = at }
+range_out (Range.Refused n) = record { number = n; at = 0 }
 
-abbrev pub answerNumber : Answer → ℕ
-answerNumber Answer.Accepted = 0
-answerNumber (Answer.Refused n) = n
+abbrev pub answer_number : Answer → ℕ
+answer_number Answer.Accepted = 0
+answer_number (Answer.Refused n) = n
 
 -- a refused header is all zeros in the library's answer too
-abbrev pub headerParsedOut : Pack.Parsed → TerrainHeaderParsed
-headerParsedOut p = record { number = answerNumber p.answer; header = headerOut p.header }
+abbrev pub header_parsed_out : Pack.Parsed → TerrainHeaderParsed
+header_parsed_out p = record { number = answer_number p.answer; header = header_out p.header }
 
-abbrev pub keyedOut : Keyed → TerrainKeyed
-keyedOut (Keyed.In k) = record { number = 0; key = keyOut k }
-keyedOut Keyed.Outside = record { number = 256; key = noKey }
-keyedOut (Keyed.Refused n) = record { number = n; key = noKey }
+abbrev pub keyed_out : Keyed → TerrainKeyed
+keyed_out (Keyed.In k) = record { number = 0; key = key_out k }
+keyed_out Keyed.Outside = record { number = 256; key = no_key }
+keyed_out (Keyed.Refused n) = record { number = n; key = no_key }
 
-abbrev pub originOut : Origin → TerrainOrigin
-originOut (Origin.At c) = record { number = 0; south = c.south; west = c.west }
-originOut (Origin.Refused n) = record { number = n; south = pos 0; west = pos 0 }
+abbrev pub origin_out : Origin → TerrainOrigin
+origin_out (Origin.At c) = record { number = 0; south = c.south; west = c.west }
+origin_out (Origin.Refused n) = record { number = n; south = pos 0; west = pos 0 }
 
-abbrev pub offsetOut : Offset → TerrainOffset
-offsetOut (Offset.At at) = record { number = 0; at = at }
-offsetOut (Offset.Refused n) = record { number = n; at = 0 }
+abbrev pub offset_out : Offset → TerrainOffset
+offset_out (Offset.At at) = record { number = 0; at = at }
+offset_out (Offset.Refused n) = record { number = n; at = 0 }
 
-abbrev pub locatedOut : Located → TerrainLocated
-locatedOut (Located.Tile offset length) = record { number = 0; offset = offset; length = length }
-locatedOut Located.NoTile = record { number = 256; offset = 0; length = 0 }
-locatedOut (Located.Refused n) = record { number = n; offset = 0; length = 0 }
+abbrev pub located_out : Located → TerrainLocated
+located_out (Located.Tile offset length) = record { number = 0; offset = offset; length = length }
+located_out Located.NoTile = record { number = 256; offset = 0; length = 0 }
+located_out (Located.Refused n) = record { number = n; offset = 0; length = 0 }
 
 -- ---- a tile
 
-abbrev pub tileParsedOut : Parsed → TerrainTileParsed
-tileParsedOut (Parsed.Tile h) = record { number = 0; key = keyOut h.key; nodes = h.nodes; edges = h.edges; vertices = h.vertices; lon_um = h.lon_um }
-tileParsedOut (Parsed.Refused n) = record { number = n; key = noKey; nodes = 0; edges = 0; vertices = 0; lon_um = 0 }
+abbrev pub tile_parsed_out : Parsed → TerrainTileParsed
+tile_parsed_out (Parsed.Tile h) = record { number = 0; key = key_out h.key; nodes = h.nodes; edges = h.edges; vertices = h.vertices; lon_um = h.lon_um }
+tile_parsed_out (Parsed.Refused n) = record { number = n; key = no_key; nodes = 0; edges = 0; vertices = 0; lon_um = 0 }
 
-abbrev pub nodeReadOut : NodeRead → TerrainNodeRead
-nodeReadOut (NodeRead.At n) = record { number = 0; node = nodeOut n }
-nodeReadOut (NodeRead.Refused n) = record { number = n; node = no_node }
+abbrev pub node_read_out : NodeRead → TerrainNodeRead
+node_read_out (NodeRead.At n) = record { number = 0; node = node_out n }
+node_read_out (NodeRead.Refused n) = record { number = n; node = no_node }
 
-abbrev pub edgeReadOut : EdgeRead → TerrainEdgeRead
-edgeReadOut (EdgeRead.At e) = record { number = 0; edge = edgeOut e }
-edgeReadOut (EdgeRead.Refused n) = record { number = n; edge = no_edge }
+abbrev pub edge_read_out : EdgeRead → TerrainEdgeRead
+edge_read_out (EdgeRead.At e) = record { number = 0; edge = edge_out e }
+edge_read_out (EdgeRead.Refused n) = record { number = n; edge = no_edge }
 
-abbrev pub entriesOut : Entries → TerrainEntries
-entriesOut (Entries.Range start end) = record { number = 0; start = start; end = end }
-entriesOut (Entries.Refused n) = record { number = n; start = 0; end = 0 }
+abbrev pub entries_out : Entries → TerrainEntries
+entries_out (Entries.Range start end) = record { number = 0; start = start; end = end }
+entries_out (Entries.Refused n) = record { number = n; start = 0; end = 0 }
 
-abbrev pub entryReadOut : EntryRead → TerrainEntryRead
-entryReadOut (EntryRead.At i) = record { number = 0; edge = i.edge; ends = i.ends }
-entryReadOut (EntryRead.Refused n) = record { number = n; edge = 0; ends = false }
+abbrev pub entry_read_out : EntryRead → TerrainEntryRead
+entry_read_out (EntryRead.At i) = record { number = 0; edge = i.edge; ends = i.ends }
+entry_read_out (EntryRead.Refused n) = record { number = n; edge = 0; ends = false }
 
-abbrev pub foundOut : Found → TerrainFound
-foundOut (Found.At i) = record { number = 0; index = i }
-foundOut Found.Nothing = record { number = 256; index = 0 }
+abbrev pub found_out : Found → TerrainFound
+found_out (Found.At i) = record { number = 0; index = i }
+found_out Found.Nothing = record { number = 256; index = 0 }

@@ -9,7 +9,7 @@ use Rattle.matcher.specs.declared.Current.TheVariants as Current
 use Rattle.matcher.specs.declared.Matched.{Matched}
 use Rattle.engine.specs.Calls as Calls
 use Rattle.engine.specs.Deliver.{After}
-use Rattle.engine.specs.Publish.{onRoad, nothingAhead}
+use Rattle.engine.specs.Publish.{on_road, nothing_ahead}
 use Rattle.engine.specs.State.{no_header}
 use Rattle.engine.specs.declared.Ahead.{Ahead}
 use Rattle.engine.specs.declared.AheadRead.{AheadRead}
@@ -33,43 +33,43 @@ use Rattle.terrain.specs.declared.host.HeaderTold.{HeaderTold}
 use Rattle.terrain.specs.declared.host.HeadingTold.{HeadingTold}
 use Rattle.terrain.specs.declared.host.MatchTold.{MatchTold}
 use Rattle.terrain.specs.declared.host.StepTold.{StepTold}
-use Rattle.words.specs.Words.{words, engineOf, accepted, bit, end_word, forwardWord}
+use Rattle.words.specs.Words.{words, engine_of, accepted, bit, end_word, forward_word}
 
 -- ---- how answers cross
 
-abbrev pub takenNumber : Taken → ℕ
-takenNumber Taken.Done = 0
-takenNumber (Taken.Refused number) = number
+abbrev pub taken_number : Taken → ℕ
+taken_number Taken.Done = 0
+taken_number (Taken.Refused number) = number
 
 abbrev pub told : ℕ → ℕ → StepTold
 told number status = record { number = number; status = status; offset = 0; len = 0 }
 
 -- 0 Idle, 1 Working, 2 NoPack, 3 OffMap, 4 Fetch, 5 refused
-abbrev pub statusTold : Status → StepTold
-statusTold Status.Idle = told 0 0
-statusTold Status.Working = told 0 1
-statusTold Status.NoPack = told 0 2
-statusTold Status.OffMap = told 0 3
-statusTold (Status.Fetch offset len) = record { number = 0; status = 4; offset = offset; len = len }
-statusTold (Status.Refused number) = told number 5
+abbrev pub status_told : Status → StepTold
+status_told Status.Idle = told 0 0
+status_told Status.Working = told 0 1
+status_told Status.NoPack = told 0 2
+status_told Status.OffMap = told 0 3
+status_told (Status.Fetch offset len) = record { number = 0; status = 4; offset = offset; len = len }
+status_told (Status.Refused number) = told number 5
 
-abbrev pub countTold : Count → CountTold
-countTold (Count.Is n) = record { number = 0; count = n }
-countTold (Count.Refused number) = record { number = number; count = 0 }
+abbrev pub count_told : Count → CountTold
+count_told (Count.Is n) = record { number = 0; count = n }
+count_told (Count.Refused number) = record { number = number; count = 0 }
 
 -- the number, and 1 where there is what was asked for
-abbrev pub knownTold : Known → CountTold
-knownTold Known.Nothing = record { number = 0; count = 0 }
-knownTold Known.Is = record { number = 0; count = 1 }
-knownTold (Known.Refused number) = record { number = number; count = 0 }
+abbrev pub known_told : Known → CountTold
+known_told Known.Nothing = record { number = 0; count = 0 }
+known_told Known.Is = record { number = 0; count = 1 }
+known_told (Known.Refused number) = record { number = number; count = 0 }
 
-abbrev pub headingTold : HeadingRead → HeadingTold
-headingTold HeadingRead.Nothing = record { number = 0; known = 0; degrees = of_bits binary32 0 }
-headingTold (HeadingRead.Degrees d) = record { number = 0; known = 1; degrees = d }
-headingTold (HeadingRead.Refused number) = record { number = number; known = 0; degrees = of_bits binary32 0 }
+abbrev pub heading_told : HeadingRead → HeadingTold
+heading_told HeadingRead.Nothing = record { number = 0; known = 0; degrees = of_bits binary32 0 }
+heading_told (HeadingRead.Degrees d) = record { number = 0; known = 1; degrees = d }
+heading_told (HeadingRead.Refused number) = record { number = number; known = 0; degrees = of_bits binary32 0 }
 
-abbrev pub headerTold : CountTold → Header → HeaderTold
-headerTold k h = record {
+abbrev pub header_told : CountTold → Header → HeaderTold
+header_told k h = record {
   number = k.number;
   known = k.count;
   tile = h.tile;
@@ -87,8 +87,8 @@ headerTold k h = record {
 }
 
 -- a match; zeros where there is none
-abbrev pub matchedTold : Matched → MatchTold
-matchedTold m = record {
+abbrev pub matched_told : Matched → MatchTold
+matched_told m = record {
   matched = 1;
   row = m.tile.key.row;
   col = m.tile.key.col;
@@ -97,7 +97,7 @@ matchedTold m = record {
   edge = m.edge;
   segment = m.segment;
   fraction = m.fraction;
-  forward = forwardWord m.forward;
+  forward = forward_word m.forward;
   offset_m = m.offset_m;
   z_dm = m.z_dm;
   class = m.class;
@@ -125,16 +125,16 @@ unmatched = record {
   ridden_m = of_bits binary32 0;
 }
 
-abbrev pub currentTold : Current → MatchTold
-currentTold Current.Nothing = unmatched
-currentTold (Current.Is m) = matchedTold m
+abbrev pub current_told : Current → MatchTold
+current_told Current.Nothing = unmatched
+current_told (Current.Is m) = matched_told m
 
-unfoldable pub roadTold : ℕ → Ahead → AheadTold
-roadTold number a = record {
+unfoldable pub road_told : ℕ → Ahead → AheadTold
+road_told number a = record {
   number = number;
   generation = a.generation;
   at_ms = a.at_ms;
-  matched = currentTold a.matched;
+  matched = current_told a.matched;
   start_z_dm = a.start_z_dm;
   samples = a.samples;
   len = a.len;
@@ -144,7 +144,7 @@ roadTold number a = record {
   end = end_word a.end;
   end_m = a.end_m;
   confidence = a.confidence;
-  on_road = bit (onRoad a);
+  on_road = bit (on_road a);
 }
 
 -- ---- what a call answers, and the words and the arena that it leaves
@@ -163,13 +163,13 @@ pub record Delivered : Type 0 where
   pub arena : List ℕ
 
 abbrev pub changed : Changed → Called
-changed c = record { answer = takenNumber c.answer; words = words c.engine }
+changed c = record { answer = taken_number c.answer; words = words c.engine }
 
 abbrev pub moved : Stepped → Moved
-moved s = record { answer = statusTold s.answer; words = words s.engine }
+moved s = record { answer = status_told s.answer; words = words s.engine }
 
 abbrev pub delivered : After → Delivered
-delivered a = record { answer = statusTold (Calls.told a).answer; words = words (Calls.told a).engine; arena = a.arena }
+delivered a = record { answer = status_told (Calls.told a).answer; words = words (Calls.told a).engine; arena = a.arena }
 
 abbrev pub stays : List ℕ → Called
 stays ws = record { answer = 12; words = ws }
@@ -185,50 +185,50 @@ keeps ws arena = record { answer = told 12 5; words = ws; arena = arena }
 unfoldable pub new : List ℕ → Float → List ℕ
 new arena horizon = words (Calls.new arena horizon)
 
-abbrev pub fixOf : ℤ → ℤ → ℕ → Fix
-fixOf lat lon at = record { lat = lat; lon = lon; at_ms = at }
+abbrev pub fix_of : ℤ → ℤ → ℕ → Fix
+fix_of lat lon at = record { lat = lat; lon = lon; at_ms = at }
 
 abbrev pub given : Fix → FixGiven
 given f = record { lat = f.lat; lon = f.lon; at_ms = f.at_ms }
 
 unfoldable pub fix : List ℕ → List ℕ → Fix → Called
-fix ws arena f = cond (accepted ws) (changed (Calls.fix (engineOf ws) arena f)) (stays ws)
+fix ws arena f = cond (accepted ws) (changed (Calls.fix (engine_of ws) arena f)) (stays ws)
 
 unfoldable pub lost : List ℕ → List ℕ → Called
-lost ws arena = cond (accepted ws) (changed (Calls.lost (engineOf ws) arena)) (stays ws)
+lost ws arena = cond (accepted ws) (changed (Calls.lost (engine_of ws) arena)) (stays ws)
 
 unfoldable pub reset : List ℕ → List ℕ → Called
-reset ws arena = cond (accepted ws) (changed (Calls.reset (engineOf ws) arena)) (stays ws)
+reset ws arena = cond (accepted ws) (changed (Calls.reset (engine_of ws) arena)) (stays ws)
 
 unfoldable pub step : List ℕ → List ℕ → Moved
-step ws arena = cond (accepted ws) (moved (Calls.step (engineOf ws) arena)) (rests ws)
+step ws arena = cond (accepted ws) (moved (Calls.step (engine_of ws) arena)) (rests ws)
 
 unfoldable pub deliver : List ℕ → List ℕ → ℕ → List ℕ → Delivered
-deliver ws arena failure bs = cond (accepted ws) (delivered (Calls.deliver (engineOf ws) arena failure bs)) (keeps ws arena)
+deliver ws arena failure bs = cond (accepted ws) (delivered (Calls.deliver (engine_of ws) arena failure bs)) (keeps ws arena)
 
-unfoldable pub stepFrom : List ℕ → List ℕ → List ℕ → Delivered
-stepFrom ws arena pack = cond (accepted ws) (delivered (Calls.stepFrom (engineOf ws) arena pack)) (keeps ws arena)
+unfoldable pub step_from : List ℕ → List ℕ → List ℕ → Delivered
+step_from ws arena pack = cond (accepted ws) (delivered (Calls.step_from (engine_of ws) arena pack)) (keeps ws arena)
 
 -- ---- what is held
 
-abbrev pub aheadTold : AheadRead → AheadTold
-aheadTold a = roadTold (knownTold a.answer).number a.ahead
+abbrev pub ahead_told : AheadRead → AheadTold
+ahead_told a = road_told (known_told a.answer).number a.ahead
 
 unfoldable pub ahead : List ℕ → List ℕ → AheadTold
-ahead ws arena = cond (accepted ws) (aheadTold (Calls.ahead (engineOf ws) arena)) (roadTold 12 (nothingAhead 0))
+ahead ws arena = cond (accepted ws) (ahead_told (Calls.ahead (engine_of ws) arena)) (road_told 12 (nothing_ahead 0))
 
 unfoldable pub header : List ℕ → List ℕ → HeaderTold
 header ws arena =
     cond
     (accepted ws)
-    (headerTold (knownTold (Calls.header (engineOf ws) arena).answer) (Calls.header (engineOf ws) arena).header)
-    (headerTold (knownTold (Known.Refused 12)) no_header)
+    (header_told (known_told (Calls.header (engine_of ws) arena).answer) (Calls.header (engine_of ws) arena).header)
+    (header_told (known_told (Known.Refused 12)) no_header)
 
 unfoldable pub heading : List ℕ → List ℕ → HeadingTold
-heading ws arena = cond (accepted ws) (headingTold (Calls.heading (engineOf ws) arena)) (headingTold (HeadingRead.Refused 12))
+heading ws arena = cond (accepted ws) (heading_told (Calls.heading (engine_of ws) arena)) (heading_told (HeadingRead.Refused 12))
 
 unfoldable pub loads : List ℕ → List ℕ → CountTold
-loads ws arena = cond (accepted ws) (countTold (Calls.loads (engineOf ws) arena)) (countTold (Count.Refused 12))
+loads ws arena = cond (accepted ws) (count_told (Calls.loads (engine_of ws) arena)) (count_told (Count.Refused 12))
 
 unfoldable pub steps : List ℕ → List ℕ → CountTold
-steps ws arena = cond (accepted ws) (countTold (Calls.steps (engineOf ws) arena)) (countTold (Count.Refused 12))
+steps ws arena = cond (accepted ws) (count_told (Calls.steps (engine_of ws) arena)) (count_told (Count.Refused 12))

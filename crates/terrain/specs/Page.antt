@@ -3,6 +3,6 @@ use Rattle.profile_text.specs.declared.page.Printed.{Printed}
 use Rattle.profile_text.specs.declared.page.Printed.TheVariants.{Length, Refused}
 use Rattle.terrain.specs.declared.page.TerrainPrinted.{TerrainPrinted}
 
-abbrev pub printedOut : Printed → TerrainPrinted
-printedOut (Length n) = record { number = 0; length = n }
-printedOut (Refused k) = record { number = k; length = 0 }
+abbrev pub printed_out : Printed → TerrainPrinted
+printed_out (Length n) = record { number = 0; length = n }
+printed_out (Refused k) = record { number = k; length = 0 }

@@ -18,7 +18,7 @@ use Rattle.cache.specs.declared.Request.TheVariants as Request
 use Rattle.cache.specs.declared.Progress.{Progress}
 use Rattle.cache.specs.declared.Progress.TheVariants as Progress
 use Rattle.engine.specs.declared.Engine.{Engine}
-use Rattle.words.specs.Words.{words, engineOf, accepted}
+use Rattle.words.specs.Words.{words, engine_of, accepted}
 use Rattle.terrain.specs.declared.parts.TerrainCount.{TerrainCount}
 use Rattle.terrain.specs.declared.parts.TerrainLookup.{TerrainLookup}
 use Rattle.terrain.specs.declared.parts.TerrainRequest.{TerrainRequest}
@@ -26,82 +26,82 @@ use Rattle.terrain.specs.declared.parts.TerrainProgress.{TerrainProgress}
 
 -- ---- answers: a number, the variant's place in its enum, and the variant's fields
 
-abbrev pub countOut : Count → TerrainCount
-countOut (Count.Is n) = record { number = 0; count = n }
-countOut (Count.Refused n) = record { number = n; count = 0 }
+abbrev pub count_out : Count → TerrainCount
+count_out (Count.Is n) = record { number = 0; count = n }
+count_out (Count.Refused n) = record { number = n; count = 0 }
 
 abbrev pub lookup : ℕ → ℕ → TerrainLookup
 lookup number tag = record { number = number; lookup = tag; first = 0; len = 0 }
 
-abbrev pub lookupOut : Lookup → TerrainLookup
-lookupOut (Lookup.Ready first len) = record { number = 0; lookup = 0; first = first; len = len }
-lookupOut Lookup.Missing = lookup 0 1
-lookupOut Lookup.Absent = lookup 0 2
-lookupOut (Lookup.Refused n) = lookup n 3
+abbrev pub lookup_out : Lookup → TerrainLookup
+lookup_out (Lookup.Ready first len) = record { number = 0; lookup = 0; first = first; len = len }
+lookup_out Lookup.Missing = lookup 0 1
+lookup_out Lookup.Absent = lookup 0 2
+lookup_out (Lookup.Refused n) = lookup n 3
 
 abbrev pub request : ℕ → ℕ → TerrainRequest
 request number tag = record { number = number; request = tag; offset = 0; len = 0 }
 
-abbrev pub requestOut : Request → TerrainRequest
-requestOut Request.Settled = request 0 0
-requestOut (Request.Read offset len) = record { number = 0; request = 1; offset = offset; len = len }
-requestOut (Request.Refused n) = request n 2
+abbrev pub request_out : Request → TerrainRequest
+request_out Request.Settled = request 0 0
+request_out (Request.Read offset len) = record { number = 0; request = 1; offset = offset; len = len }
+request_out (Request.Refused n) = request n 2
 
 abbrev pub progress : ℕ → ℕ → TerrainProgress
 progress number tag = record { number = number; progress = tag }
 
 -- the number of a failed step is why it failed: 1 or 2 for the read, 4 for the entry
-abbrev pub progressOut : Progress → TerrainProgress
-progressOut Progress.Done = progress 0 0
-progressOut Progress.More = progress 0 1
-progressOut (Progress.Failed n) = progress n 2
-progressOut (Progress.Refused n) = progress n 3
+abbrev pub progress_out : Progress → TerrainProgress
+progress_out Progress.Done = progress 0 0
+progress_out Progress.More = progress 0 1
+progress_out (Progress.Failed n) = progress n 2
+progress_out (Progress.Refused n) = progress n 3
 
-abbrev pub clearingOut : Clearing → ℕ
-clearingOut Clearing.Done = 0
-clearingOut (Clearing.Refused n) = n
+abbrev pub clearing_out : Clearing → ℕ
+clearing_out Clearing.Done = 0
+clearing_out (Clearing.Refused n) = n
 
 -- ---- the words
 
-abbrev pub cacheIn : Engine → Cache
-cacheIn e = e.shared.cache
+abbrev pub cache_in : Engine → Cache
+cache_in e = e.shared.cache
 
-abbrev pub withCache : Cache → Engine → Engine
-withCache c e = record { shared = record { phase = e.shared.phase; header = e.shared.header; cache = c }; follower = e.follower }
+abbrev pub with_cache : Cache → Engine → Engine
+with_cache c e = record { shared = record { phase = e.shared.phase; header = e.shared.header; cache = c }; follower = e.follower }
 
 -- the cache that the words hold
-abbrev pub cacheOf : List ℕ → Cache
-cacheOf ws = cacheIn (engineOf ws)
+abbrev pub cache_of : List ℕ → Cache
+cache_of ws = cache_in (engine_of ws)
 
 -- the words after a call that left the cache c
 abbrev pub after : List ℕ → Cache → List ℕ
-after ws c = cond (accepted ws) (words (withCache c (engineOf ws))) ws
+after ws c = cond (accepted ws) (words (with_cache c (engine_of ws))) ws
 
 -- ---- the calls
 
 abbrev pub capacity : List ℕ → List ℕ → Count
-capacity ws arena = cond (accepted ws) (Calls.capacity (cacheOf ws) arena) (Count.Refused 12)
+capacity ws arena = cond (accepted ws) (Calls.capacity (cache_of ws) arena) (Count.Refused 12)
 
 abbrev pub loads : List ℕ → List ℕ → Count
-loads ws arena = cond (accepted ws) (Calls.loads (cacheOf ws) arena) (Count.Refused 12)
+loads ws arena = cond (accepted ws) (Calls.loads (cache_of ws) arena) (Count.Refused 12)
 
 abbrev pub pages : List ℕ → List ℕ → Header → TileKey → Count
-pages ws arena h key = cond (accepted ws) (Calls.pages (cacheOf ws) arena h key) (Count.Refused 12)
+pages ws arena h key = cond (accepted ws) (Calls.pages (cache_of ws) arena h key) (Count.Refused 12)
 
 abbrev pub get : List ℕ → List ℕ → Header → TileKey → Got
-get ws arena h key = cond (accepted ws) (Calls.get (cacheOf ws) arena h key) (Calls.gotNothing (cacheOf ws) 12)
+get ws arena h key = cond (accepted ws) (Calls.get (cache_of ws) arena h key) (Calls.got_nothing (cache_of ws) 12)
 
 abbrev pub clear : List ℕ → List ℕ → Cleared
-clear ws arena = cond (accepted ws) (Calls.clear (cacheOf ws) arena) (record { answer = Clearing.Refused 12; cache = cacheOf ws })
+clear ws arena = cond (accepted ws) (Calls.clear (cache_of ws) arena) (record { answer = Clearing.Refused 12; cache = cache_of ws })
 
 abbrev pub fetch : List ℕ → List ℕ → Header → TileKey → Request
-fetch ws arena h key = cond (accepted ws) (Calls.fetch (cacheOf ws) arena h key) (Request.Refused 12)
+fetch ws arena h key = cond (accepted ws) (Calls.fetch (cache_of ws) arena h key) (Request.Refused 12)
 
-abbrev pub refusedLoad : List ℕ → List ℕ → Loads.After
-refusedLoad ws arena = Loads.over (Loads.refused (cacheOf ws) 12) arena
+abbrev pub refused_load : List ℕ → List ℕ → Loads.After
+refused_load ws arena = Loads.over (Loads.refused (cache_of ws) 12) arena
 
 abbrev pub load : List ℕ → List ℕ → Header → TileKey → ℕ → List ℕ → Loads.After
-load ws arena h key failure bs = cond (accepted ws) (Calls.load (cacheOf ws) arena h key failure bs) (refusedLoad ws arena)
+load ws arena h key failure bs = cond (accepted ws) (Calls.load (cache_of ws) arena h key failure bs) (refused_load ws arena)
 
-abbrev pub loadFrom : List ℕ → List ℕ → Header → TileKey → List ℕ → Loads.After
-loadFrom ws arena h key pack = cond (accepted ws) (Calls.loadFrom (cacheOf ws) arena h key pack) (refusedLoad ws arena)
+abbrev pub load_from : List ℕ → List ℕ → Header → TileKey → List ℕ → Loads.After
+load_from ws arena h key pack = cond (accepted ws) (Calls.load_from (cache_of ws) arena h key pack) (refused_load ws arena)

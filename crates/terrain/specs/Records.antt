@@ -17,8 +17,8 @@ use Rattle.terrain.specs.declared.records.TerrainMetres.{TerrainMetres}
 
 -- ---- the library's records from C's
 
-abbrev pub headerOf : TerrainHeader → Header
-headerOf h = record {
+abbrev pub header_of : TerrainHeader → Header
+header_of h = record {
   tile = h.tile;
   south = h.south;
   west = h.west;
@@ -50,13 +50,13 @@ edge_of e = record {
 abbrev pub point_of : TerrainPoint → Point
 point_of p = record { lat = p.lat; lon = p.lon }
 
-abbrev pub metresOf : TerrainMetres → Metres
-metresOf m = record { east = m.east; north = m.north }
+abbrev pub metres_of : TerrainMetres → Metres
+metres_of m = record { east = m.east; north = m.north }
 
 -- ---- C's records from the library's
 
-abbrev pub headerOut : Header → TerrainHeader
-headerOut h = record {
+abbrev pub header_out : Header → TerrainHeader
+header_out h = record {
   tile = h.tile;
   south = h.south;
   west = h.west;
@@ -71,14 +71,14 @@ headerOut h = record {
   attribution_len = h.attribution_len;
 }
 
-abbrev pub keyOut : TileKey → TerrainKey
-keyOut k = record { row = k.row; col = k.col }
+abbrev pub key_out : TileKey → TerrainKey
+key_out k = record { row = k.row; col = k.col }
 
-abbrev pub nodeOut : Node → TerrainNode
-nodeOut n = record { x = n.x; y = n.y; z = n.z }
+abbrev pub node_out : Node → TerrainNode
+node_out n = record { x = n.x; y = n.y; z = n.z }
 
-abbrev pub edgeOut : Edge → TerrainEdge
-edgeOut e = record {
+abbrev pub edge_out : Edge → TerrainEdge
+edge_out e = record {
   from = e.from;
   to = e.to;
   first_vertex = e.first_vertex;
@@ -88,19 +88,19 @@ edgeOut e = record {
   group = e.group;
 }
 
-abbrev pub pointOut : Point → TerrainPoint
-pointOut p = record { lat = p.lat; lon = p.lon }
+abbrev pub point_out : Point → TerrainPoint
+point_out p = record { lat = p.lat; lon = p.lon }
 
-abbrev pub metresOut : Metres → TerrainMetres
-metresOut m = record { east = m.east; north = m.north }
+abbrev pub metres_out : Metres → TerrainMetres
+metres_out m = record { east = m.east; north = m.north }
 
 -- ---- zeros, for a result that there is none of
 
 abbrev pub zero : Float
 zero = of_bits binary32 0
 
-abbrev pub noKey : TerrainKey
-noKey = record { row = 0; col = 0 }
+abbrev pub no_key : TerrainKey
+no_key = record { row = 0; col = 0 }
 
 abbrev pub no_node : TerrainNode
 no_node = record { x = 0; y = 0; z = 0 }
@@ -108,8 +108,8 @@ no_node = record { x = 0; y = 0; z = 0 }
 abbrev pub no_edge : TerrainEdge
 no_edge = record { from = 0; to = 0; first_vertex = 0; vertices = 0; class = 0; flags = 0; group = 0 }
 
-abbrev pub noPoint : TerrainPoint
-noPoint = record { lat = pos 0; lon = pos 0 }
+abbrev pub no_point : TerrainPoint
+no_point = record { lat = pos 0; lon = pos 0 }
 
-abbrev pub noMetres : TerrainMetres
-noMetres = record { east = zero; north = zero }
+abbrev pub no_metres : TerrainMetres
+no_metres = record { east = zero; north = zero }

@@ -25,10 +25,10 @@ use Rattle.predict.specs.Predict as Predict
 use Rattle.predict.specs.declared.Outcome as Road
 use Rattle.predict.specs.declared.Outcome.TheVariants as Road'
 use Rattle.predict.specs.declared.Prediction.{Prediction}
-use Rattle.terrain.specs.Records.{zero, keyOut, noKey}
-use Rattle.words.specs.Words.{accepted, same_words, matcherOf, matcherWords, forwardOf, end_word}
-use Rattle.terrain.specs.Host.{matchedTold, unmatched}
-use Rattle.terrain.specs.Parts.{cacheOf, after}
+use Rattle.terrain.specs.Records.{zero, key_out, no_key}
+use Rattle.words.specs.Words.{accepted, same_words, matcher_of, matcher_words, forward_of, end_word}
+use Rattle.terrain.specs.Host.{matched_told, unmatched}
+use Rattle.terrain.specs.Parts.{cache_of, after}
 use Rattle.terrain.specs.declared.host.MatchTold.{MatchTold}
 use Rattle.terrain.specs.declared.records.TerrainKey.{TerrainKey}
 use Rattle.terrain.specs.declared.roads.TerrainNear.{TerrainNear}
@@ -39,8 +39,8 @@ use Rattle.terrain.specs.declared.roads.TerrainPredicted.{TerrainPredicted}
 
 -- ---- a match
 
-unfoldable pub isGiven : MatchTold → Bool
-isGiven m = eqb m.matched 1 && ltb m.forward 3
+unfoldable pub is_given : MatchTold → Bool
+is_given m = eqb m.matched 1 && ltb m.forward 3
 
 abbrev pub given : MatchTold → Matched
 given m = record {
@@ -48,7 +48,7 @@ given m = record {
   edge = m.edge;
   segment = m.segment;
   fraction = m.fraction;
-  forward = forwardOf m.forward;
+  forward = forward_of m.forward;
   offset_m = m.offset_m;
   z_dm = m.z_dm;
   class = m.class;
@@ -59,44 +59,44 @@ given m = record {
 
 -- ---- a matcher's words, as those of an engine: accepted where what is read from them has the same words again
 
-unfoldable pub isMatcher : List ℕ → Bool
-isMatcher ms = same_words (matcherWords (matcherOf ms 0)) ms
+unfoldable pub is_matcher : List ℕ → Bool
+is_matcher ms = same_words (matcher_words (matcher_of ms 0)) ms
 
 -- ---- answers: a number, the variant's place in its enum, and the variant's fields
 
-abbrev pub answerNumber : Answer → ℕ
-answerNumber Answer.Accepted = 0
-answerNumber (Answer.Refused n) = n
+abbrev pub answer_number : Answer → ℕ
+answer_number Answer.Accepted = 0
+answer_number (Answer.Refused n) = n
 
-abbrev pub nearKeyBy : MaybeKey → TerrainKey
-nearKeyBy MaybeKey.Nothing = noKey
-nearKeyBy (MaybeKey.Key k) = keyOut k
+abbrev pub near_key_by : MaybeKey → TerrainKey
+near_key_by MaybeKey.Nothing = no_key
+near_key_by (MaybeKey.Key k) = key_out k
 
-abbrev pub nearKey : NearKey → TerrainKey
-nearKey place = nearKeyBy place.key
+abbrev pub near_key : NearKey → TerrainKey
+near_key place = near_key_by place.key
 
-abbrev pub nearKeys : NearKeys → List TerrainKey
-nearKeys n = nearKeyBy (key_at n 0) ∷ nearKeyBy (key_at n 1) ∷ nearKeyBy (key_at n 2) ∷ nearKeyBy (key_at n 3) ∷ []
+abbrev pub near_keys : NearKeys → List TerrainKey
+near_keys n = near_key_by (key_at n 0) ∷ near_key_by (key_at n 1) ∷ near_key_by (key_at n 2) ∷ near_key_by (key_at n 3) ∷ []
 
-abbrev pub nearOut : NearRead → TerrainNear
-nearOut r = record { number = answerNumber r.answer; len = r.near.len; keys = nearKeys r.near }
+abbrev pub near_out : NearRead → TerrainNear
+near_out r = record { number = answer_number r.answer; len = r.near.len; keys = near_keys r.near }
 
-abbrev pub currentOut : CurrentRead → TerrainCurrent
-currentOut CurrentRead.Nothing = record { number = 256; matched = unmatched }
-currentOut (CurrentRead.Is m) = record { number = 0; matched = matchedTold m }
-currentOut (CurrentRead.Refused n) = record { number = n; matched = unmatched }
+abbrev pub current_out : CurrentRead → TerrainCurrent
+current_out CurrentRead.Nothing = record { number = 256; matched = unmatched }
+current_out (CurrentRead.Is m) = record { number = 0; matched = matched_told m }
+current_out (CurrentRead.Refused n) = record { number = n; matched = unmatched }
 
-abbrev pub noMatch : ℕ → ℕ → TerrainKey → TerrainUpdated
-noMatch number outcome key = record { number = number; outcome = outcome; matched = unmatched; key = key }
+abbrev pub no_match : ℕ → ℕ → TerrainKey → TerrainUpdated
+no_match number outcome key = record { number = number; outcome = outcome; matched = unmatched; key = key }
 
-abbrev pub updatedOut : Matching.Outcome → TerrainUpdated
-updatedOut (Matching'.Found m) = record { number = 0; outcome = 0; matched = matchedTold m; key = noKey }
-updatedOut Matching'.Nothing = noMatch 256 1 noKey
-updatedOut (Matching'.Need k) = noMatch 5 2 (keyOut k)
-updatedOut (Matching'.Refused n) = noMatch n 3 noKey
+abbrev pub updated_out : Matching.Outcome → TerrainUpdated
+updated_out (Matching'.Found m) = record { number = 0; outcome = 0; matched = matched_told m; key = no_key }
+updated_out Matching'.Nothing = no_match 256 1 no_key
+updated_out (Matching'.Need k) = no_match 5 2 (key_out k)
+updated_out (Matching'.Refused n) = no_match n 3 no_key
 
-abbrev pub noRoad : ℕ → ℕ → TerrainKey → TerrainPredicted
-noRoad number outcome key = record {
+abbrev pub no_road : ℕ → ℕ → TerrainKey → TerrainPredicted
+no_road number outcome key = record {
   number = number;
   outcome = outcome;
   key = key;
@@ -112,7 +112,7 @@ abbrev pub road : Prediction → TerrainPredicted
 road p = record {
   number = 0;
   outcome = 0;
-  key = noKey;
+  key = no_key;
   len = p.len;
   behind = p.behind;
   behind_m = p.behind_m;
@@ -121,40 +121,40 @@ road p = record {
   confidence = p.confidence;
 }
 
-abbrev pub predictedOut : Road.Outcome → TerrainPredicted
-predictedOut (Road'.Road p) = road p
-predictedOut (Road'.Need k) = noRoad 5 1 (keyOut k)
-predictedOut Road'.Rematch = noRoad 6 2 noKey
-predictedOut (Road'.Refused n) = noRoad n 3 noKey
+abbrev pub predicted_out : Road.Outcome → TerrainPredicted
+predicted_out (Road'.Road p) = road p
+predicted_out (Road'.Need k) = no_road 5 1 (key_out k)
+predicted_out Road'.Rematch = no_road 6 2 no_key
+predicted_out (Road'.Refused n) = no_road n 3 no_key
 
 -- ---- the calls
 
 abbrev pub current : List ℕ → CurrentRead
-current ms = cond (isMatcher ms) (Calls.current (matcherOf ms 0)) (CurrentRead.Refused 12)
+current ms = cond (is_matcher ms) (Calls.current (matcher_of ms 0)) (CurrentRead.Refused 12)
 
-abbrev pub headingOf : TerrainHeading → Heading
-headingOf h = cond (eqb h.known 1) (Heading.Degrees h.degrees) Heading.Nothing
+abbrev pub heading_of : TerrainHeading → Heading
+heading_of h = cond (eqb h.known 1) (Heading.Degrees h.degrees) Heading.Nothing
 
 -- a matcher's words, a heading that is none or degrees, and an engine's words
 abbrev pub can_match : List ℕ → List ℕ → TerrainHeading → Bool
-can_match ms ws heading = isMatcher ms && (leb heading.known 1 && accepted ws)
+can_match ms ws heading = is_matcher ms && (leb heading.known 1 && accepted ws)
 
 abbrev pub update : List ℕ → List ℕ → List ℕ → Header → Point → TerrainHeading → Updated
 update ms ws arena h fix heading =
-    cond (can_match ms ws heading) (Calls.update (matcherOf ms 0) (cacheOf ws) arena h fix (headingOf heading)) (State.refused (matcherOf ms 0) (cacheOf ws) 12)
+    cond (can_match ms ws heading) (Calls.update (matcher_of ms 0) (cache_of ws) arena h fix (heading_of heading)) (State.refused (matcher_of ms 0) (cache_of ws) 12)
 
-abbrev pub matcherAfter : List ℕ → List ℕ → List ℕ → Header → Point → TerrainHeading → List ℕ
-matcherAfter ms ws arena h fix heading = cond (can_match ms ws heading) (matcherWords (update ms ws arena h fix heading).matcher) ms
+abbrev pub matcher_after : List ℕ → List ℕ → List ℕ → Header → Point → TerrainHeading → List ℕ
+matcher_after ms ws arena h fix heading = cond (can_match ms ws heading) (matcher_words (update ms ws arena h fix heading).matcher) ms
 
-abbrev pub engineAfter : List ℕ → List ℕ → List ℕ → Header → Point → TerrainHeading → List ℕ
-engineAfter ms ws arena h fix heading = cond (can_match ms ws heading) (after ws (update ms ws arena h fix heading).cache) ws
+abbrev pub engine_after : List ℕ → List ℕ → List ℕ → Header → Point → TerrainHeading → List ℕ
+engine_after ms ws arena h fix heading = cond (can_match ms ws heading) (after ws (update ms ws arena h fix heading).cache) ws
 
 abbrev pub predict : List ℕ → List ℕ → Header → MatchTold → Float → List ℤ → List ℤ → Predict.After
 predict ws arena h start horizon samples behind =
-    cond (isGiven start && accepted ws)
-    (Predict.predict (cacheOf ws) arena h (given start) horizon samples behind)
-    (record { predicted = record { answer = Road'.Refused 12; cache = cacheOf ws }; samples = samples; behind = behind })
+    cond (is_given start && accepted ws)
+    (Predict.predict (cache_of ws) arena h (given start) horizon samples behind)
+    (record { predicted = record { answer = Road'.Refused 12; cache = cache_of ws }; samples = samples; behind = behind })
 
-abbrev pub predictAfter : List ℕ → List ℕ → Header → MatchTold → Float → List ℤ → List ℤ → List ℕ
-predictAfter ws arena h start horizon samples behind =
-    cond (isGiven start && accepted ws) (after ws (predict ws arena h start horizon samples behind).predicted.cache) ws
+abbrev pub predict_after : List ℕ → List ℕ → Header → MatchTold → Float → List ℤ → List ℤ → List ℕ
+predict_after ws arena h start horizon samples behind =
+    cond (is_given start && accepted ws) (after ws (predict ws arena h start horizon samples behind).predicted.cache) ws

@@ -8,12 +8,12 @@ use Rattle.crossing.specs.declared.Crossed.{Crossed}
 use Rattle.crossing.specs.declared.Crossed.TheVariants as Crossed
 use Rattle.terrain.specs.declared.transect.TerrainCrossed.{TerrainCrossed}
 
-abbrev pub crossedOut : Crossed → TerrainCrossed
-crossedOut (Crossed.At edge segment) = record { number = 0; edge = edge; segment = segment }
-crossedOut Crossed.Nothing = record { number = 256; edge = 0; segment = 0 }
-crossedOut (Crossed.Refused n) = record { number = n; edge = 0; segment = 0 }
+abbrev pub crossed_out : Crossed → TerrainCrossed
+crossed_out (Crossed.At edge segment) = record { number = 0; edge = edge; segment = segment }
+crossed_out Crossed.Nothing = record { number = 256; edge = 0; segment = 0 }
+crossed_out (Crossed.Refused n) = record { number = n; edge = 0; segment = 0 }
 
 pub record Told (first second : Point) (h : Header) (k : TileKey) (bs : List ℕ) (told : TerrainCrossed) : Type 0 where
   pub answer : Crossed
   pub crosses : Crosses first second h k bs answer
-  pub told_is : told ≡ crossedOut answer
+  pub told_is : told ≡ crossed_out answer

@@ -3,6 +3,6 @@ use Rattle.writer.specs.declared.Answer.{Answer}
 use Rattle.writer.specs.declared.Answer.TheVariants.{Length, Refused}
 use Rattle.terrain.specs.declared.write.TerrainWritten.{TerrainWritten}
 
-abbrev pub writtenOut : Answer → TerrainWritten
-writtenOut (Length n) = record { number = 0; length = n }
-writtenOut (Refused k) = record { number = k; length = 0 }
+abbrev pub written_out : Answer → TerrainWritten
+written_out (Length n) = record { number = 0; length = n }
+written_out (Refused k) = record { number = k; length = 0 }

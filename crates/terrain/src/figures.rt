@@ -42,7 +42,7 @@ pub struct TerrainProjectedRead {
 }
 
 fn figure_out(answer: Figure) -> TerrainFigure
-    ensures { result ≡ Figures.figureOut answer }
+    ensures { result ≡ Figures.figure_out answer }
 {
     match answer {
         Figure::Is(value) => TerrainFigure { number: 0, value },
@@ -60,7 +60,7 @@ pub extern "C" fn terrain_edge_point(
     edge: TerrainEdge,
     index: usize,
 ) -> TerrainEdgePoint
-    ensures { result ≡ Figures.edgePointOut (Points.edgePoint (Records.headerOf header) bytes.now (Records.edge_of edge) index) }
+    ensures { result ≡ Figures.edge_point_out (Points.edge_point (Records.header_of header) bytes.now (Records.edge_of edge) index) }
 {
     let h = crate::records::header_of(header);
     let e = crate::records::edge_of(edge);
@@ -88,7 +88,7 @@ pub extern "C" fn terrain_metres_from(
     origin: TerrainPoint,
     lon_um: u32,
 ) -> TerrainMetresRead
-    ensures { result ≡ Figures.metresReadOut (Flat.metresFrom (Records.point_of point) (Records.point_of origin) lon_um) }
+    ensures { result ≡ Figures.metres_read_out (Flat.metres_from (Records.point_of point) (Records.point_of origin) lon_um) }
 {
     let p = crate::records::point_of(point);
     let answer = p.metres_from(crate::records::point_of(origin), lon_um);
@@ -112,14 +112,14 @@ pub extern "C" fn terrain_metres_from(
 
 #[unsafe(no_mangle)]
 pub extern "C" fn terrain_length(east: f32, north: f32) -> TerrainFigure
-    ensures { result ≡ Figures.figureOut (Flat.length east north) }
+    ensures { result ≡ Figures.figure_out (Flat.length east north) }
 {
     figure_out(geo::length(east, north))
 }
 
 #[unsafe(no_mangle)]
 pub extern "C" fn terrain_turn(from: f32, to: f32) -> TerrainFigure
-    ensures { result ≡ Figures.figureOut (Flat.turn from to) }
+    ensures { result ≡ Figures.figure_out (Flat.turn from to) }
 {
     figure_out(geo::turn(from, to))
 }
@@ -130,7 +130,7 @@ pub extern "C" fn terrain_project(
     a: TerrainMetres,
     b: TerrainMetres,
 ) -> TerrainProjectedRead
-    ensures { result ≡ Figures.projectedReadOut (Flat.project (Records.metresOf p) (Records.metresOf a) (Records.metresOf b)) }
+    ensures { result ≡ Figures.projected_read_out (Flat.project (Records.metres_of p) (Records.metres_of a) (Records.metres_of b)) }
 {
     let first = crate::records::metres_of(a);
     let second = crate::records::metres_of(b);

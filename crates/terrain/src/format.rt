@@ -109,7 +109,7 @@ pub struct TerrainFound {
 }
 
 fn keyed_out(answer: Keyed) -> TerrainKeyed
-    ensures { result ≡ Format.keyedOut answer }
+    ensures { result ≡ Format.keyed_out answer }
 {
     let none = TerrainKey { row: 0, col: 0 };
     match answer {
@@ -129,7 +129,7 @@ fn keyed_out(answer: Keyed) -> TerrainKeyed
 }
 
 fn node_out(answer: NodeRead) -> TerrainNodeRead
-    ensures { result ≡ Format.nodeReadOut answer }
+    ensures { result ≡ Format.node_read_out answer }
 {
     match answer {
         NodeRead::At(n) => TerrainNodeRead {
@@ -149,7 +149,7 @@ fn node_out(answer: NodeRead) -> TerrainNodeRead
 
 #[unsafe(no_mangle)]
 pub extern "C" fn terrain_pack_read(pack: &[u8], offset: u64, len: usize) -> TerrainRange
-    ensures { result ≡ Format.rangeOut (Grid.read pack.now offset len) }
+    ensures { result ≡ Format.range_out (Grid.read pack.now offset len) }
 {
     let answer = pack::read(pack, offset, len);
     match answer {
@@ -160,7 +160,7 @@ pub extern "C" fn terrain_pack_read(pack: &[u8], offset: u64, len: usize) -> Ter
 
 #[unsafe(no_mangle)]
 pub extern "C" fn terrain_header_parse(sector: &[u8; 512]) -> TerrainHeaderParsed
-    ensures { result ≡ Format.headerParsedOut (Sector.parse sector.now) }
+    ensures { result ≡ Format.header_parsed_out (Sector.parse sector.now) }
 {
     let parsed = Header::parse(sector);
     let header = crate::records::header_out(parsed.header);
@@ -173,7 +173,7 @@ pub extern "C" fn terrain_header_parse(sector: &[u8; 512]) -> TerrainHeaderParse
 
 #[unsafe(no_mangle)]
 pub extern "C" fn terrain_header_key(header: TerrainHeader, point: TerrainPoint) -> TerrainKeyed
-    ensures { result ≡ Format.keyedOut (Grid.key (Records.headerOf header) point.lat point.lon) }
+    ensures { result ≡ Format.keyed_out (Grid.key (Records.header_of header) point.lat point.lon) }
 {
     let h = crate::records::header_of(header);
     keyed_out(h.key(point.lat, point.lon))
@@ -181,7 +181,7 @@ pub extern "C" fn terrain_header_key(header: TerrainHeader, point: TerrainPoint)
 
 #[unsafe(no_mangle)]
 pub extern "C" fn terrain_header_checked(header: TerrainHeader, row: i64, col: i64) -> TerrainKeyed
-    ensures { result ≡ Format.keyedOut (Grid.checked (Records.headerOf header) row col) }
+    ensures { result ≡ Format.keyed_out (Grid.checked (Records.header_of header) row col) }
 {
     let h = crate::records::header_of(header);
     keyed_out(h.checked(row, col))
@@ -189,7 +189,7 @@ pub extern "C" fn terrain_header_checked(header: TerrainHeader, row: i64, col: i
 
 #[unsafe(no_mangle)]
 pub extern "C" fn terrain_header_origin(header: TerrainHeader, key: TerrainKey) -> TerrainOrigin
-    ensures { result ≡ Format.originOut (Grid.origin (Records.headerOf header) (Records.key_of key)) }
+    ensures { result ≡ Format.origin_out (Grid.origin (Records.header_of header) (Records.key_of key)) }
 {
     let h = crate::records::header_of(header);
     let answer = h.origin(crate::records::key_of(key));
@@ -209,7 +209,7 @@ pub extern "C" fn terrain_header_origin(header: TerrainHeader, key: TerrainKey) 
 
 #[unsafe(no_mangle)]
 pub extern "C" fn terrain_header_entry(header: TerrainHeader, key: TerrainKey) -> TerrainOffset
-    ensures { result ≡ Format.offsetOut (Grid.entry (Records.headerOf header) (Records.key_of key)) }
+    ensures { result ≡ Format.offset_out (Grid.entry (Records.header_of header) (Records.key_of key)) }
 {
     let h = crate::records::header_of(header);
     let answer = h.entry(crate::records::key_of(key));
@@ -221,7 +221,7 @@ pub extern "C" fn terrain_header_entry(header: TerrainHeader, key: TerrainKey) -
 
 #[unsafe(no_mangle)]
 pub extern "C" fn terrain_header_locate(header: TerrainHeader, entry: &[u8; 8]) -> TerrainLocated
-    ensures { result ≡ Format.locatedOut (Grid.locate (Records.headerOf header) entry.now) }
+    ensures { result ≡ Format.located_out (Grid.locate (Records.header_of header) entry.now) }
 {
     let h = crate::records::header_of(header);
     let answer = h.locate(entry);
@@ -246,7 +246,7 @@ pub extern "C" fn terrain_header_locate(header: TerrainHeader, entry: &[u8; 8]) 
 
 #[unsafe(no_mangle)]
 pub extern "C" fn terrain_tile_parse(bytes: &[u8], key: TerrainKey, size: u32) -> TerrainTileParsed
-    ensures { result ≡ Format.tileParsedOut (Parse.parse bytes.now (Records.key_of key) size) }
+    ensures { result ≡ Format.tile_parsed_out (Parse.parse bytes.now (Records.key_of key) size) }
 {
     let answer = tile::parse(bytes, crate::records::key_of(key), size);
     match answer {
@@ -271,14 +271,14 @@ pub extern "C" fn terrain_tile_parse(bytes: &[u8], key: TerrainKey, size: u32) -
 
 #[unsafe(no_mangle)]
 pub extern "C" fn terrain_tile_node(bytes: &[u8], index: u16) -> TerrainNodeRead
-    ensures { result ≡ Format.nodeReadOut (Readers.node bytes.now index) }
+    ensures { result ≡ Format.node_read_out (Readers.node bytes.now index) }
 {
     node_out(view::through::node(bytes, index))
 }
 
 #[unsafe(no_mangle)]
 pub extern "C" fn terrain_tile_edge(bytes: &[u8], index: u16) -> TerrainEdgeRead
-    ensures { result ≡ Format.edgeReadOut (Readers.edge bytes.now index) }
+    ensures { result ≡ Format.edge_read_out (Readers.edge bytes.now index) }
 {
     let answer = view::through::edge(bytes, index);
     match answer {
@@ -299,7 +299,7 @@ pub extern "C" fn terrain_tile_point(
     edge: TerrainEdge,
     index: usize,
 ) -> TerrainNodeRead
-    ensures { result ≡ Format.nodeReadOut (Readers.point bytes.now (Records.edge_of edge) index) }
+    ensures { result ≡ Format.node_read_out (Readers.point bytes.now (Records.edge_of edge) index) }
 {
     let e = crate::records::edge_of(edge);
     node_out(view::through::point(bytes, e, index))
@@ -307,7 +307,7 @@ pub extern "C" fn terrain_tile_point(
 
 #[unsafe(no_mangle)]
 pub extern "C" fn terrain_tile_incident(bytes: &[u8], node: u16) -> TerrainEntries
-    ensures { result ≡ Format.entriesOut (Readers.incident bytes.now node) }
+    ensures { result ≡ Format.entries_out (Readers.incident bytes.now node) }
 {
     let answer = view::through::incident(bytes, node);
     match answer {
@@ -326,7 +326,7 @@ pub extern "C" fn terrain_tile_incident(bytes: &[u8], node: u16) -> TerrainEntri
 
 #[unsafe(no_mangle)]
 pub extern "C" fn terrain_tile_entry(bytes: &[u8], entry: u32) -> TerrainEntryRead
-    ensures { result ≡ Format.entryReadOut (Readers.incidentEntry bytes.now entry) }
+    ensures { result ≡ Format.entry_read_out (Readers.incident_entry bytes.now entry) }
 {
     let answer = view::through::incident_entry(bytes, entry);
     match answer {
@@ -345,7 +345,7 @@ pub extern "C" fn terrain_tile_entry(bytes: &[u8], entry: u32) -> TerrainEntryRe
 
 #[unsafe(no_mangle)]
 pub extern "C" fn terrain_tile_node_at(bytes: &[u8], x: u16, y: u16) -> TerrainFound
-    ensures { result ≡ Format.foundOut (Readers.nodeAt bytes.now x y) }
+    ensures { result ≡ Format.found_out (Readers.node_at bytes.now x y) }
 {
     let answer = view::through::node_at(bytes, x, y);
     match answer {

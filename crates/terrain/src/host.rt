@@ -111,7 +111,7 @@ pub struct CountTold {
 // ---- answers
 
 fn taken(answer: Taken) -> u32
-    ensures { result ≡ Host.takenNumber answer }
+    ensures { result ≡ Host.taken_number answer }
 {
     match answer {
         Taken::Done => 0,
@@ -142,7 +142,7 @@ fn told(number: u32, status: u32) -> StepTold
 }
 
 fn status(answer: Status) -> StepTold
-    ensures { result ≡ Host.statusTold answer }
+    ensures { result ≡ Host.status_told answer }
 {
     match answer {
         Status::Idle => told(0, 0),
@@ -160,7 +160,7 @@ fn status(answer: Status) -> StepTold
 }
 
 fn known(answer: Known) -> CountTold
-    ensures { result ≡ Host.knownTold answer }
+    ensures { result ≡ Host.known_told answer }
 {
     match answer {
         Known::Nothing => CountTold {
@@ -176,7 +176,7 @@ fn known(answer: Known) -> CountTold
 }
 
 fn counted(answer: Count) -> CountTold
-    ensures { result ≡ Host.countTold answer }
+    ensures { result ≡ Host.count_told answer }
 {
     match answer {
         Count::Is(count) => CountTold { number: 0, count },
@@ -185,7 +185,7 @@ fn counted(answer: Count) -> CountTold
 }
 
 fn forward(way: Forward) -> u32
-    ensures { result ≡ Words.forwardWord way }
+    ensures { result ≡ Words.forward_word way }
 {
     match way {
         Forward::Unknown => 0,
@@ -199,7 +199,7 @@ fn forward(way: Forward) -> u32
 }
 
 pub(crate) fn matched(m: Matched) -> MatchTold
-    ensures { result ≡ Host.matchedTold m }
+    ensures { result ≡ Host.matched_told m }
 {
     let tile = m.tile;
     let key = tile.key;
@@ -246,7 +246,7 @@ pub(crate) fn unmatched() -> MatchTold
 }
 
 fn current(c: Current) -> MatchTold
-    ensures { result ≡ Host.currentTold c }
+    ensures { result ≡ Host.current_told c }
 {
     match c {
         Current::Nothing => unmatched(),
@@ -277,7 +277,7 @@ fn bit(b: bool) -> u32
 }
 
 fn road(number: u32, a: Ahead) -> AheadTold
-    ensures { result ≡ Host.roadTold number a }
+    ensures { result ≡ Host.road_told number a }
 {
     let held = a.matched;
     let why = a.end;
@@ -304,7 +304,7 @@ fn road(number: u32, a: Ahead) -> AheadTold
 
 // The road that stands beside a refusal.
 fn no_road() -> Ahead
-    ensures { result ≡ Publish.nothingAhead 0 }
+    ensures { result ≡ Publish.nothing_ahead 0 }
 {
     let samples = [0i16; predict::MAX_SAMPLES];
     let behind = [0i16; predict::BEHIND_SAMPLES];
@@ -325,7 +325,7 @@ fn no_road() -> Ahead
 }
 
 fn header(known: CountTold, h: Header) -> HeaderTold
-    ensures { result ≡ Host.headerTold known h }
+    ensures { result ≡ Host.header_told known h }
 {
     HeaderTold {
         number: known.number,
@@ -378,7 +378,7 @@ pub extern "C" fn terrain_new(engine: &mut [u32; words::WORDS], arena: &[u8], ho
 // A fix of 1e-7 degrees, cut toward zero.
 #[unsafe(no_mangle)]
 pub extern "C" fn terrain_from_e7(lat_e7: i32, lon_e7: i32, at_ms: u64) -> FixGiven
-    ensures { result ≡ Host.given (Fixes.fromE7 lat_e7 lon_e7 at_ms) }
+    ensures { result ≡ Host.given (Fixes.from_e7 lat_e7 lon_e7 at_ms) }
 {
     let f = Fix::from_e7(lat_e7, lon_e7, at_ms);
     FixGiven {
@@ -397,8 +397,8 @@ pub extern "C" fn terrain_fix(
     lon: i32,
     at_ms: u64,
 ) -> u32
-    ensures value { result ≡ (Host.fix engine.old arena.now (Host.fixOf lat lon at_ms)).answer }
-    ensures engine_after { engine.new ≡ (Host.fix engine.old arena.now (Host.fixOf lat lon at_ms)).words }
+    ensures value { result ≡ (Host.fix engine.old arena.now (Host.fix_of lat lon at_ms)).answer }
+    ensures engine_after { engine.new ≡ (Host.fix engine.old arena.now (Host.fix_of lat lon at_ms)).words }
 {
     let r = words::read(&*engine);
     if !r.accepted {
@@ -471,9 +471,9 @@ pub extern "C" fn terrain_step_from(
     arena: &mut [u8],
     pack: &[u8],
 ) -> StepTold
-    ensures value { result ≡ (Host.stepFrom engine.old arena.old pack.now).answer }
-    ensures engine_after { engine.new ≡ (Host.stepFrom engine.old arena.old pack.now).words }
-    ensures arena_after { arena.new ≡ (Host.stepFrom engine.old arena.old pack.now).arena }
+    ensures value { result ≡ (Host.step_from engine.old arena.old pack.now).answer }
+    ensures engine_after { engine.new ≡ (Host.step_from engine.old arena.old pack.now).words }
+    ensures arena_after { arena.new ≡ (Host.step_from engine.old arena.old pack.now).arena }
 {
     status(words::deliver::step_from(engine, arena, pack))
 }
@@ -533,7 +533,7 @@ pub extern "C" fn terrain_heading(engine: &[u32; words::WORDS], arena: &[u8]) ->
 }
 
 fn heading(answer: HeadingRead) -> HeadingTold
-    ensures { result ≡ Host.headingTold answer }
+    ensures { result ≡ Host.heading_told answer }
 {
     match answer {
         HeadingRead::Nothing => HeadingTold {

@@ -9,7 +9,7 @@ ghost use Rattle.num.specs.Order as Order;
 ghost use Rattle.num.specs.Root as Root;
 ghost use Rattle.angle.specs.Bearing as Bearing;
 ghost use Rattle.angle.specs.Cosine as Cosine;
-ghost use Rattle.terrain.specs.Answers.{sign, flag, degreesOut};
+ghost use Rattle.terrain.specs.Answers.{sign, flag, degrees_out};
 
 // Degrees clockwise from north, 0 to 360; or the refusal's number, and 0.
 #[repr(C)]
@@ -28,7 +28,7 @@ pub extern "C" fn terrain_crc32(bytes: &[u8]) -> u32
 
 #[unsafe(no_mangle)]
 pub extern "C" fn terrain_crc32_skipping(bytes: &[u8], at: usize) -> u32
-    ensures { result ≡ Fcs.crc32Skipping bytes.now at }
+    ensures { result ≡ Fcs.crc32_skipping bytes.now at }
 {
     crc::crc32_skipping(bytes, at)
 }
@@ -134,7 +134,7 @@ pub extern "C" fn terrain_fabs(x: f32) -> f32
 // -1, 0 or 1.
 #[unsafe(no_mangle)]
 pub extern "C" fn terrain_total_cmp(a: f32, b: f32) -> i32
-    ensures { result ≡ sign (Order.totalCmp a b) }
+    ensures { result ≡ sign (Order.total_cmp a b) }
 {
     let order = num::order::total_cmp(a, b);
     match order {
@@ -157,14 +157,14 @@ pub extern "C" fn terrain_is_finite(x: f32) -> u32
 
 #[unsafe(no_mangle)]
 pub extern "C" fn terrain_sqrt(x: f32) -> f32
-    ensures { result ≡ Root.squareRoot binary32 x }
+    ensures { result ≡ Root.square_root binary32 x }
 {
     num::root::sqrt(x)
 }
 
 #[unsafe(no_mangle)]
 pub extern "C" fn terrain_bearing(east: f32, north: f32) -> TerrainDegrees
-    ensures { result ≡ degreesOut (Bearing.bearing east north) }
+    ensures { result ≡ degrees_out (Bearing.bearing east north) }
 {
     let answer = angle::bearing(east, north);
     match answer {
@@ -178,7 +178,7 @@ pub extern "C" fn terrain_bearing(east: f32, north: f32) -> TerrainDegrees
 
 #[unsafe(no_mangle)]
 pub extern "C" fn terrain_lon_scale_um(lat: i32) -> u32
-    ensures { result ≡ Cosine.lonScaleUm lat }
+    ensures { result ≡ Cosine.lon_scale_um lat }
 {
     angle::lon_scale_um(lat)
 }

@@ -1,7 +1,7 @@
 // The printed profile page for other languages.
 ghost use Rattle.std.specs.Prelude.{◌≡◌, length};
 ghost use Rattle.profile_text.specs.Page as Page;
-ghost use Rattle.terrain.specs.Page.{printedOut};
+ghost use Rattle.terrain.specs.Page.{printed_out};
 
 use profile_text::page::Printed;
 
@@ -15,7 +15,7 @@ pub struct TerrainPrinted {
 
 #[unsafe(no_mangle)]
 pub extern "C" fn terrain_profile_page(samples: &[i16], page: u32, out: &mut [u8]) -> TerrainPrinted
-    ensures value { result ≡ printedOut (Page.printed samples.now page (length out.old)) }
+    ensures value { result ≡ printed_out (Page.printed samples.now page (length out.old)) }
     ensures out_after { out.new ≡ Page.written samples.now page out.old }
 {
     let answer = profile_text::page::page(samples, page, out);

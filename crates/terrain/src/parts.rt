@@ -45,7 +45,7 @@ pub struct TerrainProgress {
 // ---- answers
 
 fn count_out(answer: Count) -> TerrainCount
-    ensures { result ≡ Parts.countOut answer }
+    ensures { result ≡ Parts.count_out answer }
 {
     match answer {
         Count::Is(count) => TerrainCount { number: 0, count },
@@ -68,7 +68,7 @@ fn lookup(number: u32, tag: u32) -> TerrainLookup
 }
 
 fn lookup_out(answer: Lookup) -> TerrainLookup
-    ensures { result ≡ Parts.lookupOut answer }
+    ensures { result ≡ Parts.lookup_out answer }
 {
     match answer {
         Lookup::Ready(first, len) => TerrainLookup {
@@ -95,7 +95,7 @@ fn request(number: u32, tag: u32) -> TerrainRequest
 }
 
 fn request_out(answer: Request) -> TerrainRequest
-    ensures { result ≡ Parts.requestOut answer }
+    ensures { result ≡ Parts.request_out answer }
 {
     match answer {
         Request::Settled => request(0, 0),
@@ -119,7 +119,7 @@ fn progress(number: u32, tag: u32) -> TerrainProgress
 }
 
 fn progress_out(answer: Progress) -> TerrainProgress
-    ensures { result ≡ Parts.progressOut answer }
+    ensures { result ≡ Parts.progress_out answer }
 {
     match answer {
         Progress::Done => progress(0, 0),
@@ -130,7 +130,7 @@ fn progress_out(answer: Progress) -> TerrainProgress
 }
 
 fn clearing_out(answer: Clearing) -> u32
-    ensures { result ≡ Parts.clearingOut answer }
+    ensures { result ≡ Parts.clearing_out answer }
 {
     match answer {
         Clearing::Done => 0,
@@ -149,7 +149,7 @@ pub(crate) struct Cached {
 
 pub(crate) fn held(ws: &[u32; words::WORDS]) -> Cached
     ensures accepted_value { result.accepted ≡ Words.accepted ws.now }
-    ensures cache_value { result.cache ≡ Parts.cacheOf ws.now }
+    ensures cache_value { result.cache ≡ Parts.cache_of ws.now }
 {
     let accepted = words::accepted(ws);
     let cache = words::cache(ws);
@@ -159,7 +159,7 @@ pub(crate) fn held(ws: &[u32; words::WORDS]) -> Cached
 // The words of the engine with another cache: the cache's alone are written.
 pub(crate) fn leave(c: Cache, ws: &mut [u32; words::WORDS])
     requires { Words.accepted ws.old ≡ true }
-    ensures { ws.new ≡ Words.words (Parts.withCache c (Words.engineOf ws.old)) }
+    ensures { ws.new ≡ Words.words (Parts.with_cache c (Words.engine_of ws.old)) }
 {
     words::put_cache(c, ws);
 }
@@ -168,7 +168,7 @@ pub(crate) fn leave(c: Cache, ws: &mut [u32; words::WORDS])
 
 #[unsafe(no_mangle)]
 pub extern "C" fn terrain_cache_capacity(engine: &[u32; words::WORDS], arena: &[u8]) -> TerrainCount
-    ensures { result ≡ Parts.countOut (Parts.capacity engine.now arena.now) }
+    ensures { result ≡ Parts.count_out (Parts.capacity engine.now arena.now) }
 {
     let at = held(engine);
     if !at.accepted {
@@ -179,7 +179,7 @@ pub extern "C" fn terrain_cache_capacity(engine: &[u32; words::WORDS], arena: &[
 
 #[unsafe(no_mangle)]
 pub extern "C" fn terrain_cache_loads(engine: &[u32; words::WORDS], arena: &[u8]) -> TerrainCount
-    ensures { result ≡ Parts.countOut (Parts.loads engine.now arena.now) }
+    ensures { result ≡ Parts.count_out (Parts.loads engine.now arena.now) }
 {
     let at = held(engine);
     if !at.accepted {
@@ -196,7 +196,7 @@ pub extern "C" fn terrain_cache_pages(
     header: TerrainHeader,
     key: TerrainKey,
 ) -> TerrainCount
-    ensures { result ≡ Parts.countOut (Parts.pages engine.now arena.now (Records.headerOf header) (Records.key_of key)) }
+    ensures { result ≡ Parts.count_out (Parts.pages engine.now arena.now (Records.header_of header) (Records.key_of key)) }
 {
     let at = held(engine);
     if !at.accepted {
@@ -214,8 +214,8 @@ pub extern "C" fn terrain_cache_get(
     header: TerrainHeader,
     key: TerrainKey,
 ) -> TerrainLookup
-    ensures value { result ≡ Parts.lookupOut (Parts.get engine.old arena.now (Records.headerOf header) (Records.key_of key)).answer }
-    ensures engine_after { engine.new ≡ Parts.after engine.old (Parts.get engine.old arena.now (Records.headerOf header) (Records.key_of key)).cache }
+    ensures value { result ≡ Parts.lookup_out (Parts.get engine.old arena.now (Records.header_of header) (Records.key_of key)).answer }
+    ensures engine_after { engine.new ≡ Parts.after engine.old (Parts.get engine.old arena.now (Records.header_of header) (Records.key_of key)).cache }
 {
     let at = held(&*engine);
     if !at.accepted {
@@ -232,7 +232,7 @@ pub extern "C" fn terrain_cache_get(
 // Drop everything, for a pack that changed.
 #[unsafe(no_mangle)]
 pub extern "C" fn terrain_cache_clear(engine: &mut [u32; words::WORDS], arena: &[u8]) -> u32
-    ensures value { result ≡ Parts.clearingOut (Parts.clear engine.old arena.now).answer }
+    ensures value { result ≡ Parts.clearing_out (Parts.clear engine.old arena.now).answer }
     ensures engine_after { engine.new ≡ Parts.after engine.old (Parts.clear engine.old arena.now).cache }
 {
     let at = held(&*engine);
@@ -255,7 +255,7 @@ pub extern "C" fn terrain_cache_fetch(
     header: TerrainHeader,
     key: TerrainKey,
 ) -> TerrainRequest
-    ensures { result ≡ Parts.requestOut (Parts.fetch engine.now arena.now (Records.headerOf header) (Records.key_of key)) }
+    ensures { result ≡ Parts.request_out (Parts.fetch engine.now arena.now (Records.header_of header) (Records.key_of key)) }
 {
     let at = held(engine);
     if !at.accepted {
@@ -276,9 +276,9 @@ pub extern "C" fn terrain_cache_load(
     failure: u32,
     bytes: &[u8],
 ) -> TerrainProgress
-    ensures value { result ≡ Parts.progressOut (Parts.load engine.old arena.old (Records.headerOf header) (Records.key_of key) failure bytes.now).answer }
-    ensures engine_after { engine.new ≡ Parts.after engine.old (Parts.load engine.old arena.old (Records.headerOf header) (Records.key_of key) failure bytes.now).cache }
-    ensures arena_after { arena.new ≡ (Parts.load engine.old arena.old (Records.headerOf header) (Records.key_of key) failure bytes.now).arena }
+    ensures value { result ≡ Parts.progress_out (Parts.load engine.old arena.old (Records.header_of header) (Records.key_of key) failure bytes.now).answer }
+    ensures engine_after { engine.new ≡ Parts.after engine.old (Parts.load engine.old arena.old (Records.header_of header) (Records.key_of key) failure bytes.now).cache }
+    ensures arena_after { arena.new ≡ (Parts.load engine.old arena.old (Records.header_of header) (Records.key_of key) failure bytes.now).arena }
 {
     let at = held(&*engine);
     if !at.accepted {
@@ -301,9 +301,9 @@ pub extern "C" fn terrain_cache_load_from(
     key: TerrainKey,
     pack: &[u8],
 ) -> TerrainProgress
-    ensures value { result ≡ Parts.progressOut (Parts.loadFrom engine.old arena.old (Records.headerOf header) (Records.key_of key) pack.now).answer }
-    ensures engine_after { engine.new ≡ Parts.after engine.old (Parts.loadFrom engine.old arena.old (Records.headerOf header) (Records.key_of key) pack.now).cache }
-    ensures arena_after { arena.new ≡ (Parts.loadFrom engine.old arena.old (Records.headerOf header) (Records.key_of key) pack.now).arena }
+    ensures value { result ≡ Parts.progress_out (Parts.load_from engine.old arena.old (Records.header_of header) (Records.key_of key) pack.now).answer }
+    ensures engine_after { engine.new ≡ Parts.after engine.old (Parts.load_from engine.old arena.old (Records.header_of header) (Records.key_of key) pack.now).cache }
+    ensures arena_after { arena.new ≡ (Parts.load_from engine.old arena.old (Records.header_of header) (Records.key_of key) pack.now).arena }
 {
     let at = held(&*engine);
     if !at.accepted {

@@ -66,7 +66,7 @@ pub struct TerrainMetres {
 }
 
 pub fn header_of(h: TerrainHeader) -> Header
-    ensures { result ≡ Records.headerOf h }
+    ensures { result ≡ Records.header_of h }
 {
     Header {
         tile: h.tile,
@@ -85,7 +85,7 @@ pub fn header_of(h: TerrainHeader) -> Header
 }
 
 pub fn header_out(h: Header) -> TerrainHeader
-    ensures { result ≡ Records.headerOut h }
+    ensures { result ≡ Records.header_out h }
 {
     TerrainHeader {
         tile: h.tile,
@@ -113,7 +113,7 @@ pub fn key_of(k: TerrainKey) -> TileKey
 }
 
 pub fn key_out(k: TileKey) -> TerrainKey
-    ensures { result ≡ Records.keyOut k }
+    ensures { result ≡ Records.key_out k }
 {
     TerrainKey {
         row: k.row,
@@ -136,7 +136,7 @@ pub fn edge_of(e: TerrainEdge) -> Edge
 }
 
 pub fn edge_out(e: Edge) -> TerrainEdge
-    ensures { result ≡ Records.edgeOut e }
+    ensures { result ≡ Records.edge_out e }
 {
     TerrainEdge {
         from: e.from,
@@ -174,7 +174,7 @@ pub fn point_of(p: TerrainPoint) -> Point
 }
 
 pub fn metres_of(m: TerrainMetres) -> Metres
-    ensures { result ≡ Records.metresOf m }
+    ensures { result ≡ Records.metres_of m }
 {
     Metres {
         east: m.east,

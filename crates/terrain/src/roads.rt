@@ -70,7 +70,7 @@ pub struct TerrainPredicted {
 
 // A match as it is given: none where the flag does not say one, or the direction is none of the three.
 fn is_given(m: MatchTold) -> bool
-    ensures { result ≡ Roads.isGiven m }
+    ensures { result ≡ Roads.is_given m }
 {
     if m.matched != 1 {
         return false;
@@ -109,7 +109,7 @@ fn given(m: MatchTold) -> Matched
 // ---- a matcher's words
 
 fn matched_in(ws: &[u32; MATCHER_WORDS]) -> Matched
-    ensures { result ≡ Words.matchedBy (Words.from ws.now 0) }
+    ensures { result ≡ Words.matched_by (Words.from ws.now 0) }
 {
     let tile = words::decode::id(ws[1], ws[2], ws[3]);
     let forward = words::decode::forward(ws[7]);
@@ -129,7 +129,7 @@ fn matched_in(ws: &[u32; MATCHER_WORDS]) -> Matched
 }
 
 fn current_in(ws: &[u32; MATCHER_WORDS]) -> Current
-    ensures { result ≡ Words.currentBy (Words.from ws.now 0) }
+    ensures { result ≡ Words.current_by (Words.from ws.now 0) }
 {
     if ws[0] == 1 {
         let found = matched_in(ws);
@@ -139,7 +139,7 @@ fn current_in(ws: &[u32; MATCHER_WORDS]) -> Current
 }
 
 fn challenger_in(ws: &[u32; MATCHER_WORDS]) -> Challenger
-    ensures { result ≡ Words.challengerBy (Words.from ws.now 14) }
+    ensures { result ≡ Words.challenger_by (Words.from ws.now 14) }
 {
     if ws[14] == 1 {
         let tile = words::decode::id(ws[15], ws[16], ws[17]);
@@ -153,7 +153,7 @@ fn challenger_in(ws: &[u32; MATCHER_WORDS]) -> Challenger
 }
 
 fn matcher_in(ws: &[u32; MATCHER_WORDS]) -> Matcher
-    ensures { result ≡ Words.matcherOf ws.now 0 }
+    ensures { result ≡ Words.matcher_of ws.now 0 }
 {
     let current = current_in(ws);
     let challenger = challenger_in(ws);
@@ -166,7 +166,7 @@ fn matcher_in(ws: &[u32; MATCHER_WORDS]) -> Matcher
 }
 
 fn matcher_out(m: Matcher) -> [u32; MATCHER_WORDS]
-    ensures { result ≡ Words.matcherWords m }
+    ensures { result ≡ Words.matcher_words m }
 {
     let held = m.current;
     let c = words::encode::current(held);
@@ -198,14 +198,14 @@ fn same(a: &[u32], b: &[u32]) -> bool
 
 // What was read is written again: words that no matcher has come out as others.
 fn is_matcher(ws: &[u32; MATCHER_WORDS]) -> bool
-    ensures { result ≡ Roads.isMatcher ws.now }
+    ensures { result ≡ Roads.is_matcher ws.now }
 {
     let again = matcher_out(matcher_in(ws));
     same(&again, ws)
 }
 
 fn put_matcher(m: Matcher, out: &mut [u32; MATCHER_WORDS])
-    ensures { out.new ≡ Words.matcherWords m }
+    ensures { out.new ≡ Words.matcher_words m }
 {
     *out = matcher_out(m);
 }
@@ -213,7 +213,7 @@ fn put_matcher(m: Matcher, out: &mut [u32; MATCHER_WORDS])
 // ---- answers
 
 fn near_key(place: NearKey) -> TerrainKey
-    ensures { result ≡ Roads.nearKey place }
+    ensures { result ≡ Roads.near_key place }
 {
     let key = place.key;
     match key {
@@ -223,7 +223,7 @@ fn near_key(place: NearKey) -> TerrainKey
 }
 
 fn near_keys(near: NearKeys) -> [TerrainKey; 4]
-    ensures { result ≡ Roads.nearKeys near }
+    ensures { result ≡ Roads.near_keys near }
 {
     let a = near_key(near.keys[0]);
     let b = near_key(near.keys[1]);
@@ -233,7 +233,7 @@ fn near_keys(near: NearKeys) -> [TerrainKey; 4]
 }
 
 fn answer_number(answer: Answer) -> u32
-    ensures { result ≡ Roads.answerNumber answer }
+    ensures { result ≡ Roads.answer_number answer }
 {
     match answer {
         Answer::Accepted => 0,
@@ -242,7 +242,7 @@ fn answer_number(answer: Answer) -> u32
 }
 
 fn current_out(answer: CurrentRead) -> TerrainCurrent
-    ensures { result ≡ Roads.currentOut answer }
+    ensures { result ≡ Roads.current_out answer }
 {
     match answer {
         CurrentRead::Nothing => TerrainCurrent {
@@ -261,7 +261,7 @@ fn current_out(answer: CurrentRead) -> TerrainCurrent
 }
 
 fn no_match(number: u32, outcome: u32, key: TerrainKey) -> TerrainUpdated
-    ensures { result ≡ Roads.noMatch number outcome key }
+    ensures { result ≡ Roads.no_match number outcome key }
 {
     TerrainUpdated {
         number,
@@ -272,7 +272,7 @@ fn no_match(number: u32, outcome: u32, key: TerrainKey) -> TerrainUpdated
 }
 
 fn updated_out(answer: matcher::Outcome) -> TerrainUpdated
-    ensures { result ≡ Roads.updatedOut answer }
+    ensures { result ≡ Roads.updated_out answer }
 {
     let none = TerrainKey { row: 0, col: 0 };
     match answer {
@@ -289,7 +289,7 @@ fn updated_out(answer: matcher::Outcome) -> TerrainUpdated
 }
 
 fn no_road(number: u32, outcome: u32, key: TerrainKey) -> TerrainPredicted
-    ensures { result ≡ Roads.noRoad number outcome key }
+    ensures { result ≡ Roads.no_road number outcome key }
 {
     TerrainPredicted {
         number,
@@ -322,7 +322,7 @@ fn road(p: Prediction) -> TerrainPredicted
 }
 
 fn predicted_out(answer: predict::Outcome) -> TerrainPredicted
-    ensures { result ≡ Roads.predictedOut answer }
+    ensures { result ≡ Roads.predicted_out answer }
 {
     let none = TerrainKey { row: 0, col: 0 };
     match answer {
@@ -334,7 +334,7 @@ fn predicted_out(answer: predict::Outcome) -> TerrainPredicted
 }
 
 fn heading_of(heading: TerrainHeading) -> Heading
-    ensures { result ≡ Roads.headingOf heading }
+    ensures { result ≡ Roads.heading_of heading }
 {
     if heading.known == 1 {
         return Heading::Degrees(heading.degrees);
@@ -347,7 +347,7 @@ fn heading_of(heading: TerrainHeading) -> Heading
 // The tiles that a search around a fix needs: 12 for the header, 8 for the point.
 #[unsafe(no_mangle)]
 pub extern "C" fn terrain_nearby(header: TerrainHeader, fix: TerrainPoint) -> TerrainNear
-    ensures { result ≡ Roads.nearOut (Calls.nearby (Records.headerOf header) (Records.point_of fix)) }
+    ensures { result ≡ Roads.near_out (Calls.nearby (Records.header_of header) (Records.point_of fix)) }
 {
     let h = crate::records::header_of(header);
     let read = matcher::nearby(h, crate::records::point_of(fix));
@@ -363,7 +363,7 @@ pub extern "C" fn terrain_nearby(header: TerrainHeader, fix: TerrainPoint) -> Te
 // The words of a matcher that has matched nothing.
 #[unsafe(no_mangle)]
 pub extern "C" fn terrain_matcher_reset(matcher: &mut [u32; MATCHER_WORDS])
-    ensures { matcher.new ≡ Words.matcherWords Calls.reset }
+    ensures { matcher.new ≡ Words.matcher_words Calls.reset }
 {
     put_matcher(Matcher::reset(), matcher);
 }
@@ -371,7 +371,7 @@ pub extern "C" fn terrain_matcher_reset(matcher: &mut [u32; MATCHER_WORDS])
 // The match as it stands.
 #[unsafe(no_mangle)]
 pub extern "C" fn terrain_matcher_current(matcher: &[u32; MATCHER_WORDS]) -> TerrainCurrent
-    ensures { result ≡ Roads.currentOut (Roads.current matcher.now) }
+    ensures { result ≡ Roads.current_out (Roads.current matcher.now) }
 {
     if !is_matcher(matcher) {
         return current_out(CurrentRead::Refused(12));
@@ -389,9 +389,9 @@ pub extern "C" fn terrain_matcher_update(
     fix: TerrainPoint,
     heading: TerrainHeading,
 ) -> TerrainUpdated
-    ensures value { result ≡ Roads.updatedOut (Roads.update matcher.old engine.old arena.now (Records.headerOf header) (Records.point_of fix) heading).answer }
-    ensures matcher_after { matcher.new ≡ Roads.matcherAfter matcher.old engine.old arena.now (Records.headerOf header) (Records.point_of fix) heading }
-    ensures engine_after { engine.new ≡ Roads.engineAfter matcher.old engine.old arena.now (Records.headerOf header) (Records.point_of fix) heading }
+    ensures value { result ≡ Roads.updated_out (Roads.update matcher.old engine.old arena.now (Records.header_of header) (Records.point_of fix) heading).answer }
+    ensures matcher_after { matcher.new ≡ Roads.matcher_after matcher.old engine.old arena.now (Records.header_of header) (Records.point_of fix) heading }
+    ensures engine_after { engine.new ≡ Roads.engine_after matcher.old engine.old arena.now (Records.header_of header) (Records.point_of fix) heading }
 {
     let none = TerrainKey { row: 0, col: 0 };
     if !is_matcher(&*matcher) {
@@ -420,10 +420,10 @@ pub extern "C" fn terrain_predict(
     samples: &mut [i16; predict::MAX_SAMPLES],
     behind: &mut [i16; predict::BEHIND_SAMPLES],
 ) -> TerrainPredicted
-    ensures value { result ≡ Roads.predictedOut (Roads.predict engine.old arena.now (Records.headerOf header) start horizon_m samples.old behind.old).predicted.answer }
-    ensures engine_after { engine.new ≡ Roads.predictAfter engine.old arena.now (Records.headerOf header) start horizon_m samples.old behind.old }
-    ensures samples_after { samples.new ≡ (Roads.predict engine.old arena.now (Records.headerOf header) start horizon_m samples.old behind.old).samples }
-    ensures behind_after { behind.new ≡ (Roads.predict engine.old arena.now (Records.headerOf header) start horizon_m samples.old behind.old).behind }
+    ensures value { result ≡ Roads.predicted_out (Roads.predict engine.old arena.now (Records.header_of header) start horizon_m samples.old behind.old).predicted.answer }
+    ensures engine_after { engine.new ≡ Roads.predict_after engine.old arena.now (Records.header_of header) start horizon_m samples.old behind.old }
+    ensures samples_after { samples.new ≡ (Roads.predict engine.old arena.now (Records.header_of header) start horizon_m samples.old behind.old).samples }
+    ensures behind_after { behind.new ≡ (Roads.predict engine.old arena.now (Records.header_of header) start horizon_m samples.old behind.old).behind }
 {
     let none = TerrainKey { row: 0, col: 0 };
     if !is_given(start) {

@@ -15,7 +15,7 @@ pub struct TerrainCrossed {
 }
 
 fn crossed_out(answer: Crossed) -> TerrainCrossed
-    ensures { result ≡ Transects.crossedOut answer }
+    ensures { result ≡ Transects.crossed_out answer }
 {
     match answer {
         Crossed::At(edge, segment) => TerrainCrossed {
@@ -44,7 +44,7 @@ pub extern "C" fn terrain_crossing(
     key: TerrainKey,
     bytes: &[u8],
 ) -> TerrainCrossed
-    ensures { Transects.Told (Records.point_of first) (Records.point_of second) (Records.headerOf header) (Records.key_of key) bytes.now result }
+    ensures { Transects.Told (Records.point_of first) (Records.point_of second) (Records.header_of header) (Records.key_of key) bytes.now result }
 {
     let h = crate::records::header_of(header);
     let k = crate::records::key_of(key);

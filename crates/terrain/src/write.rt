@@ -4,7 +4,7 @@ ghost use Rattle.std.specs.Prelude.{◌≡◌};
 ghost use Rattle.writer.specs.TileWritten as TileWritten;
 ghost use Rattle.writer.specs.PackWritten as PackWritten;
 ghost use Rattle.terrain.specs.Records as Records;
-ghost use Rattle.terrain.specs.Write.{writtenOut};
+ghost use Rattle.terrain.specs.Write.{written_out};
 
 use crate::records::TerrainKey;
 use writer::Answer;
@@ -18,7 +18,7 @@ pub struct TerrainWritten {
 }
 
 fn written_out(answer: Answer) -> TerrainWritten
-    ensures { result ≡ writtenOut answer }
+    ensures { result ≡ written_out answer }
 {
     match answer {
         Answer::Length(n) => TerrainWritten {
@@ -42,7 +42,7 @@ pub extern "C" fn terrain_write_tile(
     vertices: &[u16],
     out: &mut [u8],
 ) -> TerrainWritten
-    ensures value { result ≡ writtenOut (TileWritten.tile (TileWritten.given (Records.key_of key) size lon_um nodes.now edges.now vertices.now) out.old).answer }
+    ensures value { result ≡ written_out (TileWritten.tile (TileWritten.given (Records.key_of key) size lon_um nodes.now edges.now vertices.now) out.old).answer }
     ensures out_after { out.new ≡ (TileWritten.tile (TileWritten.given (Records.key_of key) size lon_um nodes.now edges.now vertices.now) out.old).out }
 {
     let k = crate::records::key_of(key);
@@ -60,7 +60,7 @@ pub extern "C" fn terrain_write_pack(
     lengths: &[u32],
     out: &mut [u8],
 ) -> TerrainWritten
-    ensures value { result ≡ writtenOut (PackWritten.pack (PackWritten.given south west size rows cols tiles.now lengths.now) out.old).answer }
+    ensures value { result ≡ written_out (PackWritten.pack (PackWritten.given south west size rows cols tiles.now lengths.now) out.old).answer }
     ensures out_after { out.new ≡ (PackWritten.pack (PackWritten.given south west size rows cols tiles.now lengths.now) out.old).out }
 {
     written_out(writer::pack(south, west, size, rows, cols, tiles, lengths, out))

@@ -10,6 +10,6 @@ pub either_true : {A : Type 0} (P : A → Type 0) (t : Bool) (a b : A) → (t �
 either_true P true a b p q = p refl
 either_true P false a b p q = q
 
-pub either-false : {A : Type 0} (P : A → Type 0) (t : Bool) (a b : A) → P a → (t ≡ false → P b) → P (cond t a b)
-either-false P true a b p q = p
-either-false P false a b p q = q refl
+pub either_false : {A : Type 0} (P : A → Type 0) (t : Bool) (a b : A) → P a → (t ≡ false → P b) → P (cond t a b)
+either_false P true a b p q = p
+either_false P false a b p q = q refl

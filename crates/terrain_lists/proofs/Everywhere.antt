@@ -46,10 +46,10 @@ module _ {A : Type 0} (P : A → Type 0) (d : A) where
   all_replicate zero v p q = all_none p
   all_replicate (suc n) v p q = all_cons v (replicate n v) q (all_replicate n v p q)
 
-  pub all-fill : (n at : ℕ) (v : A) (xs : List A) → All xs → P v → All (fill n at v xs)
+  pub all_fill : (n at : ℕ) (v : A) (xs : List A) → All xs → P v → All (fill n at v xs)
   unfolding fill
-  all-fill zero at v xs all p = all
-  all-fill (suc n) at v xs all p = all-fill n (at + 1) v (set xs at v) (all_set xs at v all p) p
+  all_fill zero at v xs all p = all
+  all_fill (suc n) at v xs all p = all_fill n (at + 1) v (set xs at v) (all_set xs at v all p) p
 
   -- within the length, and past it
   pub beyond : (n : ℕ) (xs : List A) → length xs ≡ n → P d → ((i : ℕ) → i < n → P (get_or xs i d)) → All xs

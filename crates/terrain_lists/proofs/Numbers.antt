@@ -10,97 +10,97 @@ use lib.Ieee.Fits.{odd-fits, cond-fits, nan-fits, inf-fits, add-fits, of_int-fit
 use borrow.Author.Tests.{ltb-true, ltb-false}
 use Rattle.num.specs.Cast.{low16, low_bits}
 use Rattle.num.specs.Order as Order
-use Rattle.num.specs.Root.{squareRoot, nearRoot, wholeRoot, square}
+use Rattle.num.specs.Root.{square_root, near_root, whole_root, square}
 use Rattle.angle.specs.Bearing as Bearing
-use Rattle.geo.specs.Flat.{whole, length_of, bearingOf, figureOf}
+use Rattle.geo.specs.Flat.{whole, length_of, bearing_of, figure_of}
 use Rattle.angle.specs.declared.Degrees.{Degrees}
 use Rattle.angle.specs.declared.Degrees.TheVariants as Degrees
 use Rattle.pack.specs.Bytes.{signed32}
-use Rattle.pack.specs.Grid.{inGrid}
+use Rattle.pack.specs.Grid.{in_grid}
 use Rattle.pack.specs.declared.Header.{Header}
 use Rattle.pack.specs.declared.TileKey.{TileKey}
-use Rattle.pack.proofs.Laws.{row_below, col-below}
+use Rattle.pack.proofs.Laws.{row_below, col_below}
 use Rattle.words.specs.Typed.{Signed, Height, Single, TypedKey, TypedHeader}
 
 -- ---- floats
 
-pub single-whole : (n : ℕ) → Single (whole n)
-single-whole n = of_int-fits binary32 (pos n)
+pub single_whole : (n : ℕ) → Single (whole n)
+single_whole n = of_int-fits binary32 (pos n)
 
-pub single-min : (a b : Float) → Single a → Single b → Single (Order.min a b)
-single-min a b p q = cond-fits binary32 (is_nan a) b (cond (lt b a) b a) q (cond-fits binary32 (lt b a) b a q p)
+pub single_min : (a b : Float) → Single a → Single b → Single (Order.min a b)
+single_min a b p q = cond-fits binary32 (is_nan a) b (cond (lt b a) b a) q (cond-fits binary32 (lt b a) b a q p)
 
-pub single-max : (a b : Float) → Single a → Single b → Single (Order.max a b)
-single-max a b p q = cond-fits binary32 (is_nan a) b (cond (lt a b) b a) q (cond-fits binary32 (lt a b) b a q p)
+pub single_max : (a b : Float) → Single a → Single b → Single (Order.max a b)
+single_max a b p q = cond-fits binary32 (is_nan a) b (cond (lt a b) b a) q (cond-fits binary32 (lt a b) b a q p)
 
-pub single-clamp : (x lo hi : Float) → Single x → Single lo → Single hi → Single (Order.clamp x lo hi)
-single-clamp x lo hi p q r = cond-fits binary32 (lt x lo) lo (cond (lt hi x) hi x) q (cond-fits binary32 (lt hi x) hi x r p)
+pub single_clamp : (x lo hi : Float) → Single x → Single lo → Single hi → Single (Order.clamp x lo hi)
+single_clamp x lo hi p q r = cond-fits binary32 (lt x lo) lo (cond (lt hi x) hi x) q (cond-fits binary32 (lt hi x) hi x r p)
 
-units-single : (q k : ℕ) → q ≤ 2 ^ 24 → Single (units binary32 false q k)
+units_single : (q k : ℕ) → q ≤ 2 ^ 24 → Single (units binary32 false q k)
 unfolding units
-units-single q k h = by (ltb (q * 2 ^ k) (2 ^ 277)) refl
+units_single q k h = by (ltb (q * 2 ^ k) (2 ^ 277)) refl
   where
     by : (b : Bool) → ltb (q * 2 ^ k) (2 ^ 277) ≡ b → Single (cond b (odd 25 false q k 149) (inf false))
     by true e = odd-fits binary32 25 false q k (omega arith) h (ltb-true (q * 2 ^ k) (2 ^ 277) e)
     by false e = inf-fits binary32 false
 
-near-single : (n : ℕ) → Single (nearRoot binary32 n)
-unfolding nearRoot
-near-single n =
-    let r = wholeRoot n in
+near_single : (n : ℕ) → Single (near_root binary32 n)
+unfolding near_root
+near_single n =
+    let r = whole_root n in
     let k = size r - 24 in
     let q = r / 2 ^ k in
     let c = compare (4 * n) (square ((2 * q + 1) * 2 ^ k)) in
-    units-single (nearest q c) k (omega (arith, nearest-le q c, kept-lt 24 r))
+    units_single (nearest q c) k (omega (arith, nearest-le q c, kept-lt 24 r))
 
-pub single-root : (x : Float) → Single x → Single (squareRoot binary32 x)
-unfolding squareRoot
-single-root nan h = nan-fits binary32
-single-root (inf false) h = inf-fits binary32 false
-single-root (inf true) h = nan-fits binary32
-single-root (fin s zero e) h = h
-single-root (fin true (suc m) e) h = nan-fits binary32
-single-root (fin false (suc m) e) h = near-single (suc m * up e * 2 ^ (2 * 149) / down e)
+pub single_root : (x : Float) → Single x → Single (square_root binary32 x)
+unfolding square_root
+single_root nan h = nan-fits binary32
+single_root (inf false) h = inf-fits binary32 false
+single_root (inf true) h = nan-fits binary32
+single_root (fin s zero e) h = h
+single_root (fin true (suc m) e) h = nan-fits binary32
+single_root (fin false (suc m) e) h = near_single (suc m * up e * 2 ^ (2 * 149) / down e)
 
-pub single-length : (east north : Float) → Single (length_of east north)
+pub single_length : (east north : Float) → Single (length_of east north)
 unfolding length_of
-single-length east north = single-root _ (add-fits binary32 (mul binary32 east east) (mul binary32 north north))
+single_length east north = single_root _ (add-fits binary32 (mul binary32 east east) (mul binary32 north north))
 
-degrees-single : (east north : Float) → Single east → Single (Bearing.degrees east north)
+degrees_single : (east north : Float) → Single east → Single (Bearing.degrees east north)
 unfolding Bearing.degrees
-degrees-single east north h =
-    cond-fits binary32 (eq east Bearing.zero) _ _ (cond-fits binary32 (Order.isSignNegative north) _ _ (of_int-fits binary32 (pos 180)) h)
+degrees_single east north h =
+    cond-fits binary32 (eq east Bearing.zero) _ _ (cond-fits binary32 (Order.is_sign_negative north) _ _ (of_int-fits binary32 (pos 180)) h)
     (round-fits binary32 false (Bearing.angle east north) Bearing.degree)
 
-figure-single : (b : Bool) (d : Float) → Single d → Single (figureOf (cond b (Degrees.At d) (Degrees.Refused 8)))
-figure-single true d h = h
-figure-single false d h = single-whole 0
+figure_single : (b : Bool) (d : Float) → Single d → Single (figure_of (cond b (Degrees.At d) (Degrees.Refused 8)))
+figure_single true d h = h
+figure_single false d h = single_whole 0
 
-pub single-bearing : (east north : Float) → Single east → Single (bearingOf east north)
-unfolding bearingOf Bearing.bearing
-single-bearing east north h = figure-single (Order.is_finite east && Order.is_finite north) _ (degrees-single east north h)
+pub single_bearing : (east north : Float) → Single east → Single (bearing_of east north)
+unfolding bearing_of Bearing.bearing
+single_bearing east north h = figure_single (Order.is_finite east && Order.is_finite north) _ (degrees_single east north h)
 
 -- ---- whole numbers
 
-pub signed-read : (n : ℕ) → n < 4294967296 → Signed (signed32 n)
-signed-read n h = by (ltb n 2147483648) refl
+pub signed_read : (n : ℕ) → n < 4294967296 → Signed (signed32 n)
+signed_read n h = by (ltb n 2147483648) refl
   where
     by : (b : Bool) → ltb n 2147483648 ≡ b → Signed (cond b (pos n) (negsuc (4294967295 - n)))
     by true e = ltb-true n 2147483648 e
     by false e = omega (arith, ltb-false n 2147483648 e)
 
-low-bits : (z : ℤ) → low_bits z < 65536
-low-bits (pos n) = omega arith
-low-bits (negsuc n) = omega arith
+low_bits_lem : (z : ℤ) → low_bits z < 65536
+low_bits_lem (pos n) = omega arith
+low_bits_lem (negsuc n) = omega arith
 
-pub height-low : (z : ℤ) → Height (low16 z)
-height-low z = by (ltb (low_bits z) 32768) refl
+pub height_low : (z : ℤ) → Height (low16 z)
+height_low z = by (ltb (low_bits z) 32768) refl
   where
     by : (b : Bool) → ltb (low_bits z) 32768 ≡ b → Height (cond b (pos (low_bits z)) (negsuc (65535 - low_bits z)))
     by true e = ltb-true (low_bits z) 32768 e
-    by false e = omega (arith, ltb-false (low_bits z) 32768 e, low-bits z)
+    by false e = omega (arith, ltb-false (low_bits z) 32768 e, low_bits_lem z)
 
 -- ---- keys
 
-pub grid-key : (h : Header) (key : TileKey) → TypedHeader h → inGrid h key ≡ true → TypedKey key
-grid-key h key t e = (omega (arith, row_below h key e, t.rows), omega (arith, col-below h key e, t.cols))
+pub grid_key : (h : Header) (key : TileKey) → TypedHeader h → in_grid h key ≡ true → TypedKey key
+grid_key h key t e = (omega (arith, row_below h key e, t.rows), omega (arith, col_below h key e, t.cols))

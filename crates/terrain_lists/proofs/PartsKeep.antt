@@ -1,5 +1,5 @@
--- A refused call of a part through C leaves the engine's words, the arena and a matcher's words as they were (`get_keeps`, `clear-keeps`, `load-keeps`, `load-from-keeps`, `update-keeps`,
--- `predict-keeps`; those of the engine's calls are crate terrain's KeepLaws). A road that is refused with 10 has moved clock and ages, as document 01 says. The idea: where words are no engine's it is
+-- A refused call of a part through C leaves the engine's words, the arena and a matcher's words as they were (`get_keeps`, `clear_keeps`, `load_keeps`, `load_from_keeps`, `update_keeps`,
+-- `predict_keeps`; those of the engine's calls are crate terrain's KeepLaws). A road that is refused with 10 has moved clock and ages, as document 01 says. The idea: where words are no engine's it is
 -- so by definition; else the library's own refused call leaves the cache, and the words of an engine with its own cache are the engine's words.
 use Prim.Native.Nat.{ℕ, ◌+◌}
 use mathlib.Core.Path.{◌≡◌, refl, ap, ◌∙◌}
@@ -12,7 +12,7 @@ use lib.Dec.{eqb, ltb}
 use lib.Ieee.{Float}
 use lib.IntN.{ℤ, pos}
 use lib.ListN.{length}
-use Rattle.pack.specs.Grid.{inGrid, isPoint, locateOf, read}
+use Rattle.pack.specs.Grid.{in_grid, is_point, locate_of, read}
 use Rattle.pack.specs.declared.Header.{Header}
 use Rattle.pack.specs.declared.Located.{Located}
 use Rattle.pack.specs.declared.Located.TheVariants as Located
@@ -23,10 +23,10 @@ use Rattle.geo.specs.declared.Point.{Point}
 use Rattle.cache.specs.Begin.{begun}
 use Rattle.cache.specs.Calls as Caches
 use Rattle.cache.specs.Direct.{Look, ready, missing, absent, stale, look, looked}
-use Rattle.cache.specs.Loads.{After, over, done, refused, chunkLen, dropped, beganAt, began, located, entryStep, chunkStep, stepped, packBytes, takes}
-use Rattle.cache.specs.Lookups.{landsOn, passes, len_at, touched, gotReady, gotAt, got, nextStep}
+use Rattle.cache.specs.Loads.{After, over, done, refused, chunk_len, dropped, began_at, began, located, entry_step, chunk_step, stepped, pack_bytes, takes}
+use Rattle.cache.specs.Lookups.{lands_on, passes, len_at, touched, got_ready, got_at, got, next_step}
 use Rattle.cache.specs.Reader.{Reader, plain}
-use Rattle.cache.specs.State.{lentOk, cacheOk, cleared}
+use Rattle.cache.specs.State.{lent_ok, cache_ok, cleared}
 use Rattle.cache.specs.declared.Cache.{Cache}
 use Rattle.cache.specs.declared.Cleared.{Cleared}
 use Rattle.cache.specs.declared.Clearing.{Clearing}
@@ -51,8 +51,8 @@ use Rattle.tile.specs.declared.Edge.{Edge}
 use Rattle.geo.specs.Flat.{whole}
 use Rattle.matcher.specs.Calls as Matching
 use Rattle.matcher.specs.Gather as Gather
-use Rattle.matcher.specs.Gather.{Run, outcome, matchingBy, runOver, updateOver, updated}
-use Rattle.matcher.specs.Score.{sameId}
+use Rattle.matcher.specs.Gather.{Run, outcome, matching_by, run_over, update_over, updated}
+use Rattle.matcher.specs.Score.{same_id}
 use Rattle.matcher.specs.Settle.{matched}
 use Rattle.matcher.specs.State as Matchers
 use Rattle.matcher.specs.declared.Current.{Current}
@@ -70,12 +70,12 @@ use Rattle.matcher.specs.declared.gather.Ending.{Ending}
 use Rattle.matcher.specs.declared.gather.Ending.TheVariants as Ending
 use Rattle.predict.specs.Predict as Predict
 use Rattle.predict.specs.Meets.{budget}
-use Rattle.predict.specs.Ridden.{noMark, ridden}
+use Rattle.predict.specs.Ridden.{no_mark, ridden}
 use Rattle.predict.specs.Samples.{Pushed, pushed}
 use Rattle.predict.specs.Walk as Walks
-use Rattle.predict.specs.Walk.{walkOver}
-use Rattle.predict.specs.Predict.{Forecast, trackFrom, walkFrom, outcomeBy, roadOver, startLook, directedOver, forecastOver, predictOver, predictedIn, tripOf}
-use Rattle.predict.specs.Start.{startOk, place}
+use Rattle.predict.specs.Walk.{walk_over}
+use Rattle.predict.specs.Predict.{Forecast, track_from, walk_from, outcome_by, road_over, start_look, directed_over, forecast_over, predict_over, predicted_in, trip_of}
+use Rattle.predict.specs.Start.{start_ok, place}
 use Rattle.predict.specs.declared.Ending as Ends
 use Rattle.predict.specs.declared.Ending.TheVariants as Ends'
 use Rattle.predict.specs.declared.Outcome as Roads'
@@ -85,13 +85,13 @@ use Rattle.predict.specs.declared.Track.{Track}
 use Rattle.predict.specs.declared.Walk.{Walk}
 use Rattle.predict.specs.declared.ridden.Behind.{Behind}
 use Rattle.terrain.specs.Parts as Parts
-use Rattle.terrain.specs.Parts.{cacheOf, after}
+use Rattle.terrain.specs.Parts.{cache_of, after}
 use Rattle.terrain.specs.Roads as Roads
-use Rattle.words.specs.Words.{accepted, matcherOf, matcherWords}
+use Rattle.words.specs.Words.{accepted, matcher_of, matcher_words}
 use Rattle.terrain.specs.declared.host.MatchTold.{MatchTold}
 use Rattle.terrain.specs.declared.roads.TerrainHeading.{TerrainHeading}
 use Rattle.terrain.proofs.PartLaws.{after_kept}
-use Rattle.words.proofs.SameLaws.{both, same-is}
+use Rattle.words.proofs.SameLaws.{both, same_is}
 use Rattle.terrain_lists.proofs.Either.{either}
 
 -- ---- the library's own refused calls
@@ -107,19 +107,19 @@ module _ (c : Cache) (arena : List ℕ) where
   abbrev Gets : Got → Type 0
   Gets x = GotSame c x.answer x.cache
 
-  at_same : (x : Landing) (size : ℕ) (key : TileKey) → Gets (gotAt x c arena size key)
+  at_same : (x : Landing) (size : ℕ) (key : TileKey) → Gets (got_at x c arena size key)
   at_same Landing.Missing size key = tt
   at_same Landing.Nothing size key = tt
   at_same (Landing.At i) size key = by (passes arena i (len_at c i) key size)
     where
-      by : (b : Bool) → Gets (gotReady b c i)
+      by : (b : Bool) → Gets (got_ready b c i)
       by true = tt
       by false = refl
 
-  get-same : (h : Header) (key : TileKey) → Gets (Caches.get c arena h key)
+  get_same : (h : Header) (key : TileKey) → Gets (Caches.get c arena h key)
   unfolding Caches.get got
-  get-same h key =
-      either Gets (cacheOk c h (length arena)) _ _ (either Gets (inGrid h key) _ _ (at_same (landsOn c key) h.tile key) refl) refl
+  get_same h key =
+      either Gets (cache_ok c h (length arena)) _ _ (either Gets (in_grid h key) _ _ (at_same (lands_on c key) h.tile key) refl) refl
 
   -- a step of a load
   abbrev LoadSame : Progress → After → Type 0
@@ -131,48 +131,48 @@ module _ (c : Cache) (arena : List ℕ) where
   abbrev Loaded' : After → Type 0
   Loaded' x = LoadSame x.answer x
 
-  began-same : (x : Found) (d : Cache) (g : Pages) (key : TileKey) (offset len : ℕ) → Loaded' (over (beganAt x d g key offset len) arena)
-  began-same Found.Nothing d g key offset len = tt
-  began-same (Found.At s) d g key offset len = tt
+  began_same : (x : Found) (d : Cache) (g : Pages) (key : TileKey) (offset len : ℕ) → Loaded' (over (began_at x d g key offset len) arena)
+  began_same Found.Nothing d g key offset len = tt
+  began_same (Found.At s) d g key offset len = tt
 
-  located-same : (x : Located) (d : Cache) (key : TileKey) → Loaded' (over (located x d key) arena)
+  located_same : (x : Located) (d : Cache) (key : TileKey) → Loaded' (over (located x d key) arena)
   unfolding began
-  located-same Located.NoTile d key = tt
-  located-same (Located.Refused n) d key = tt
-  located-same (Located.Tile offset len) d key =
-      either (λ (x : Loaded). Loaded' (over x arena)) (ltb 49152 len) _ _ tt (began-same (begun d.pages key len).at d (begun d.pages key len).pages key offset len)
+  located_same Located.NoTile d key = tt
+  located_same (Located.Refused n) d key = tt
+  located_same (Located.Tile offset len) d key =
+      either (λ (x : Loaded). Loaded' (over x arena)) (ltb 49152 len) _ _ tt (began_same (begun d.pages key len).at d (begun d.pages key len).pages key offset len)
 
   step_same : (n : Next) (h : Header) (key : TileKey) (failure : ℕ) (bs : List ℕ) → Loaded' (stepped c n arena h key failure bs)
-  unfolding entryStep chunkStep
+  unfolding entry_step chunk_step
   step_same (Next.Ready i) h key failure bs =
       either (λ (x : Loaded). Loaded' (over x arena)) (passes arena i (len_at c i) key h.tile) (done (touched c i)) (refused c 12) tt (refl, refl)
   step_same Next.Missing h key failure bs = tt
   step_same Next.NoPages h key failure bs = tt
   step_same Next.Entry h key failure bs =
-      either (λ (x : Loaded). Loaded' (over x arena)) (eqb failure 0) _ _ (located-same (locateOf h bs) (dropped c) key) tt
+      either (λ (x : Loaded). Loaded' (over x arena)) (eqb failure 0) _ _ (located_same (locate_of h bs) (dropped c) key) tt
   step_same (Next.Chunk l) h key failure bs =
-      either Loaded' (eqb failure 0) _ _ (either Loaded' (ltb (l.done + chunkLen l) l.len) _ _ tt tt) tt
+      either Loaded' (eqb failure 0) _ _ (either Loaded' (ltb (l.done + chunk_len l) l.len) _ _ tt tt) tt
 
   load_same : (h : Header) (key : TileKey) (failure : ℕ) (bs : List ℕ) → Loaded' (Caches.load c arena h key failure bs)
   unfolding Caches.load
   load_same h key failure bs =
-      either Loaded' (cacheOk c h (length arena)) _ _
-      (either Loaded' (takes (nextStep c key) h key failure (length bs)) _ _
-      (either Loaded' (inGrid h key) _ _ (step_same (nextStep c key) h key failure bs) (refl, refl)) (refl, refl))
+      either Loaded' (cache_ok c h (length arena)) _ _
+      (either Loaded' (takes (next_step c key) h key failure (length bs)) _ _
+      (either Loaded' (in_grid h key) _ _ (step_same (next_step c key) h key failure bs) (refl, refl)) (refl, refl))
       (refl, refl)
 
-  range_same : (r : Range) (h : Header) (key : TileKey) (n : ℕ) (pack : List ℕ) → Loaded' (Caches.loadBy r c arena h key n pack)
-  range_same (Range.At offset) h key n pack = load_same h key 0 (packBytes pack offset n)
+  range_same : (r : Range) (h : Header) (key : TileKey) (n : ℕ) (pack : List ℕ) → Loaded' (Caches.load_by r c arena h key n pack)
+  range_same (Range.At offset) h key n pack = load_same h key 0 (pack_bytes pack offset n)
   range_same (Range.Refused number) h key n pack = load_same h key 2 []
 
-  request-same : (r : Request) (h : Header) (key : TileKey) (pack : List ℕ) → Loaded' (Caches.requestLoad r c arena h key pack)
-  request-same Request.Settled h key pack = load_same h key 0 []
-  request-same (Request.Refused number) h key pack = (refl, refl)
-  request-same (Request.Read offset n) h key pack = range_same (read pack offset n) h key n pack
+  request_same : (r : Request) (h : Header) (key : TileKey) (pack : List ℕ) → Loaded' (Caches.request_load r c arena h key pack)
+  request_same Request.Settled h key pack = load_same h key 0 []
+  request_same (Request.Refused number) h key pack = (refl, refl)
+  request_same (Request.Read offset n) h key pack = range_same (read pack offset n) h key n pack
 
-  load-from-same : (h : Header) (key : TileKey) (pack : List ℕ) → Loaded' (Caches.loadFrom c arena h key pack)
-  unfolding Caches.loadFrom
-  load-from-same h key pack = request-same (Caches.fetch c arena h key) h key pack
+  load_from_same : (h : Header) (key : TileKey) (pack : List ℕ) → Loaded' (Caches.load_from c arena h key pack)
+  unfolding Caches.load_from
+  load_from_same h key pack = request_same (Caches.fetch c arena h key) h key pack
 
 -- a match
 abbrev MatchSame : Matcher → Cache → Matching'.Outcome → Matcher → Cache → Type 0
@@ -185,23 +185,23 @@ module _ (m : Matcher) (c : Cache) where
   abbrev Matches : Updated → Type 0
   Matches u = MatchSame m c u.answer u.matcher u.cache
 
-  outcome-same : (x : Current) (w : Matcher) (d : Cache) → MatchSame m c (outcome x) w d
-  outcome-same Current.Nothing w d = tt
-  outcome-same (Current.Is f) w d = tt
+  outcome_same : (x : Current) (w : Matcher) (d : Cache) → MatchSame m c (outcome x) w d
+  outcome_same Current.Nothing w d = tt
+  outcome_same (Current.Is f) w d = tt
 
-  ending-same : (x : Ending) (k : Kept) (heading : Heading) (d : Cache)
-      → MatchSame m c (matchingBy x k m heading).answer (matchingBy x k m heading).matcher (Gather.cacheAfter x c d)
-  ending-same Ending.All k heading d = outcome-same (matched m k heading).current (matched m k heading) d
-  ending-same (Ending.Need key) k heading d = tt
-  ending-same Ending.Stale k heading d = (refl, refl)
+  ending_same : (x : Ending) (k : Kept) (heading : Heading) (d : Cache)
+      → MatchSame m c (matching_by x k m heading).answer (matching_by x k m heading).matcher (Gather.cache_after x c d)
+  ending_same Ending.All k heading d = outcome_same (matched m k heading).current (matched m k heading) d
+  ending_same (Ending.Need key) k heading d = tt
+  ending_same Ending.Stale k heading d = (refl, refl)
 
   update_same : (arena : List ℕ) (h : Header) (p : Point) (heading : Heading) → Matches (Matching.update m c arena h p heading)
-  unfolding Matching.update updated updateOver
+  unfolding Matching.update updated update_over
   update_same arena h p heading =
-      let r : Run = runOver (look c arena h.tile) m h p heading in
-      either Matches (Matchers.callOk m c h (length arena)) _ _
-      (either Matches (isPoint p.lat p.lon && Matchers.headingOk heading) _ _
-      (ending-same r.end r.kept heading (looked c arena h.tile r.found)) (refl, refl))
+      let r : Run = run_over (look c arena h.tile) m h p heading in
+      either Matches (Matchers.call_ok m c h (length arena)) _ _
+      (either Matches (is_point p.lat p.lon && Matchers.heading_ok heading) _ _
+      (ending_same r.end r.kept heading (looked c arena h.tile r.found)) (refl, refl))
       (refl, refl)
 
 -- a road is refused with 10 or late with 12
@@ -211,40 +211,40 @@ LateOnly (Road.Road p) = Unit
 LateOnly (Road.Need key) = Unit
 LateOnly Road.Rematch = Unit
 
-ended-late : (x : Ends.Ending) (w : Walk) (t : Track) (b : Behind) → LateOnly (outcomeBy x w t b)
-ended-late Ends'.Going w t b = tt
-ended-late (Ends'.Stops end) w t b = tt
-ended-late (Ends'.Need key) w t b = tt
-ended-late Ends'.Stale w t b = λ h. refl
+ended_late : (x : Ends.Ending) (w : Walk) (t : Track) (b : Behind) → LateOnly (outcome_by x w t b)
+ended_late Ends'.Going w t b = tt
+ended_late (Ends'.Stops end) w t b = tt
+ended_late (Ends'.Need key) w t b = tt
+ended_late Ends'.Stale w t b = λ h. refl
 
 module _ {S : Type 0} (rd : Reader S) (n : ℕ) (samples behind : List ℤ) (m : Matched) where
   abbrev Late : Forecast S → Type 0
   Late f = LateOnly f.answer
 
-  road-late : (trip : Trip) (forward : Bool) (s : S) (bs : List ℕ) → Late (roadOver rd n trip m forward s bs samples behind)
-  unfolding roadOver
-  road-late trip forward s bs =
+  road_late : (trip : Trip) (forward : Bool) (s : S) (bs : List ℕ) → Late (road_over rd n trip m forward s bs samples behind)
+  unfolding road_over
+  road_late trip forward s bs =
       let e : Edge = Layout.edge_of bs m.edge in
       let here : Point = place trip.header bs e m in
-      let p : Pushed = pushed noMark samples (whole 0) (pos 0) in
-      let r : Walks.Run S = walkOver rd trip (budget n) (walkFrom m (Predict.legOf trip.header m e forward)) (trackFrom here p.mark) s p.heights in
-      ended-late r.walk.ending r.walk r.track (ridden trip (Predict.legOf trip.header m e (not forward)) bs (Layout.head_of bs).lon_um m here behind).behind
+      let p : Pushed = pushed no_mark samples (whole 0) (pos 0) in
+      let r : Walks.Run S = walk_over rd trip (budget n) (walk_from m (Predict.leg_of trip.header m e forward)) (track_from here p.mark) s p.heights in
+      ended_late r.walk.ending r.walk r.track (ridden trip (Predict.leg_of trip.header m e (not forward)) bs (Layout.head_of bs).lon_um m here behind).behind
 
-  start-late : (l : Look) (h : Header) (forward : Bool) (horizon : Float) (s : S) → Late (startLook rd n l h m forward horizon s samples behind)
-  start-late (ready bs) h forward horizon s =
-      either Late (sameId (Layout.id_of bs) m.tile) _ _
-      (either Late (startOk bs m) _ _ (road-late (tripOf h m horizon) forward _ bs) (λ no10. absurd (no10 refl))) tt
-  start-late missing h forward horizon s = tt
-  start-late absent h forward horizon s = tt
-  start-late stale h forward horizon s = λ no10. refl
+  start_late : (l : Look) (h : Header) (forward : Bool) (horizon : Float) (s : S) → Late (start_look rd n l h m forward horizon s samples behind)
+  start_late (ready bs) h forward horizon s =
+      either Late (same_id (Layout.id_of bs) m.tile) _ _
+      (either Late (start_ok bs m) _ _ (road_late (trip_of h m horizon) forward _ bs) (λ no10. absurd (no10 refl))) tt
+  start_late missing h forward horizon s = tt
+  start_late absent h forward horizon s = tt
+  start_late stale h forward horizon s = λ no10. refl
 
-  directed-late : (forward : Forward) (h : Header) (horizon : Float) (s : S) → Late (directedOver rd n forward h m horizon s samples behind)
-  directed-late Forward.Unknown h horizon s = tt
-  directed-late (Forward.Is forward) h horizon s = start-late (rd.at s m.tile.key) h forward horizon s
+  directed_late : (forward : Forward) (h : Header) (horizon : Float) (s : S) → Late (directed_over rd n forward h m horizon s samples behind)
+  directed_late Forward.Unknown h horizon s = tt
+  directed_late (Forward.Is forward) h horizon s = start_late (rd.at s m.tile.key) h forward horizon s
 
-  forecast-late : (h : Header) (horizon : Float) (s : S) → Late (forecastOver rd n h m horizon s samples behind)
-  unfolding forecastOver
-  forecast-late h horizon s = directed-late m.forward h horizon s
+  forecast_late : (h : Header) (horizon : Float) (s : S) → Late (forecast_over rd n h m horizon s samples behind)
+  unfolding forecast_over
+  forecast_late h horizon s = directed_late m.forward h horizon s
 
 abbrev RoadSame : Cache → Roads'.Outcome → Cache → Type 0
 RoadSame c (Road.Refused n) d = (n ≡ 10 → ⊥) → d ≡ c
@@ -256,131 +256,131 @@ module _ (c : Cache) where
   abbrev Predicts : Predict.After → Type 0
   Predicts x = RoadSame c x.predicted.answer x.predicted.cache
 
-  late-same : (x : Roads'.Outcome) (d : Cache) → LateOnly x → RoadSame c x (Predict.cacheAfter x c d)
-  late-same (Road.Road p) d l = tt
-  late-same (Road.Need key) d l = tt
-  late-same Road.Rematch d l = tt
-  late-same (Road.Refused n) d l = λ no10. rw (eq-eqb n 12 (l no10))
+  late_same : (x : Roads'.Outcome) (d : Cache) → LateOnly x → RoadSame c x (Predict.cache_after x c d)
+  late_same (Road.Road p) d l = tt
+  late_same (Road.Need key) d l = tt
+  late_same Road.Rematch d l = tt
+  late_same (Road.Refused n) d l = λ no10. rw (eq-eqb n 12 (l no10))
 
-  predict-same : (arena : List ℕ) (h : Header) (m : Matched) (horizon : Float) (samples behind : List ℤ) → Predicts (Predict.predict c arena h m horizon samples behind)
-  unfolding Predict.predict predictedIn
-  predict-same arena h m horizon samples behind =
-      let f : Forecast (List TileKey) = predictOver (look c arena h.tile) c.pages.count h m horizon samples behind in
-      either Predicts (cacheOk c h (length arena)) _ _
-      (either Predicts (inGrid h m.tile.key) _ _
-      (late-same f.answer (looked c arena h.tile f.carried) (forecast-late (plain (look c arena h.tile)) c.pages.count samples behind m h horizon []))
+  predict_same : (arena : List ℕ) (h : Header) (m : Matched) (horizon : Float) (samples behind : List ℤ) → Predicts (Predict.predict c arena h m horizon samples behind)
+  unfolding Predict.predict predicted_in
+  predict_same arena h m horizon samples behind =
+      let f : Forecast (List TileKey) = predict_over (look c arena h.tile) c.pages.count h m horizon samples behind in
+      either Predicts (cache_ok c h (length arena)) _ _
+      (either Predicts (in_grid h m.tile.key) _ _
+      (late_same f.answer (looked c arena h.tile f.carried) (forecast_late (plain (look c arena h.tile)) c.pages.count samples behind m h horizon []))
       (λ no10. refl))
       (λ no10. refl)
 
 -- ---- through C
 
-got-told : (x : Lookup) (c d : Cache) → (Parts.lookupOut x).lookup ≡ 3 → GotSame c x d → d ≡ c
-got-told (Lookup.Refused n) c d e same = same
-got-told (Lookup.Ready first len) c d e same = absurd (omega (arith, e))
-got-told Lookup.Missing c d e same = absurd (omega (arith, e))
-got-told Lookup.Absent c d e same = absurd (omega (arith, e))
+got_told : (x : Lookup) (c d : Cache) → (Parts.lookup_out x).lookup ≡ 3 → GotSame c x d → d ≡ c
+got_told (Lookup.Refused n) c d e same = same
+got_told (Lookup.Ready first len) c d e same = absurd (omega (arith, e))
+got_told Lookup.Missing c d e same = absurd (omega (arith, e))
+got_told Lookup.Absent c d e same = absurd (omega (arith, e))
 
-load_told : (x : Progress) (c : Cache) (arena : List ℕ) (r : After) → (Parts.progressOut x).progress ≡ 3 → LoadSame c arena x r → (r.cache ≡ c) × (r.arena ≡ arena)
+load_told : (x : Progress) (c : Cache) (arena : List ℕ) (r : After) → (Parts.progress_out x).progress ≡ 3 → LoadSame c arena x r → (r.cache ≡ c) × (r.arena ≡ arena)
 load_told (Progress.Refused n) c arena r e same = same
 load_told Progress.Done c arena r e same = absurd (omega (arith, e))
 load_told Progress.More c arena r e same = absurd (omega (arith, e))
 load_told (Progress.Failed n) c arena r e same = absurd (omega (arith, e))
 
-match-told : (x : Matching'.Outcome) (m w : Matcher) (c d : Cache) → (Roads.updatedOut x).outcome ≡ 3 → MatchSame m c x w d → (w ≡ m) × (d ≡ c)
-match-told (Match.Refused n) m w c d e same = same
-match-told (Match.Found f) m w c d e same = absurd (omega (arith, e))
-match-told Match.Nothing m w c d e same = absurd (omega (arith, e))
-match-told (Match.Need key) m w c d e same = absurd (omega (arith, e))
+match_told : (x : Matching'.Outcome) (m w : Matcher) (c d : Cache) → (Roads.updated_out x).outcome ≡ 3 → MatchSame m c x w d → (w ≡ m) × (d ≡ c)
+match_told (Match.Refused n) m w c d e same = same
+match_told (Match.Found f) m w c d e same = absurd (omega (arith, e))
+match_told Match.Nothing m w c d e same = absurd (omega (arith, e))
+match_told (Match.Need key) m w c d e same = absurd (omega (arith, e))
 
-road-told : (x : Roads'.Outcome) (c d : Cache) → (Roads.predictedOut x).outcome ≡ 3 → (Roads.predictedOut x).number ≢ 10 → RoadSame c x d → d ≡ c
-road-told (Road.Refused n) c d e no10 same = same no10
-road-told (Road.Road p) c d e no10 same = absurd (omega (arith, e))
-road-told (Road.Need key) c d e no10 same = absurd (omega (arith, e))
-road-told Road.Rematch c d e no10 same = absurd (omega (arith, e))
+road_told : (x : Roads'.Outcome) (c d : Cache) → (Roads.predicted_out x).outcome ≡ 3 → (Roads.predicted_out x).number ≢ 10 → RoadSame c x d → d ≡ c
+road_told (Road.Refused n) c d e no10 same = same no10
+road_told (Road.Road p) c d e no10 same = absurd (omega (arith, e))
+road_told (Road.Need key) c d e no10 same = absurd (omega (arith, e))
+road_told Road.Rematch c d e no10 same = absurd (omega (arith, e))
 
 module _ (ws : List ℕ) (arena : List ℕ) where
   -- words with their own cache are the words
-  back : (c : Cache) → c ≡ cacheOf ws → after ws c ≡ ws
+  back : (c : Cache) → c ≡ cache_of ws → after ws c ≡ ws
   back c e = ap (after ws) e ∙ after_kept ws
 
-  pub get_keeps : (h : Header) (key : TileKey) → (Parts.lookupOut (Parts.get ws arena h key).answer).lookup ≡ 3 → after ws (Parts.get ws arena h key).cache ≡ ws
-  get_keeps h key e = back _ (got-told (Parts.get ws arena h key).answer (cacheOf ws) _ e (by (accepted ws)))
+  pub get_keeps : (h : Header) (key : TileKey) → (Parts.lookup_out (Parts.get ws arena h key).answer).lookup ≡ 3 → after ws (Parts.get ws arena h key).cache ≡ ws
+  get_keeps h key e = back _ (got_told (Parts.get ws arena h key).answer (cache_of ws) _ e (by (accepted ws)))
     where
-      by : (b : Bool) → Gets (cacheOf ws) arena (cond b (Caches.get (cacheOf ws) arena h key) (Caches.gotNothing (cacheOf ws) 12))
-      by true = get-same (cacheOf ws) arena h key
+      by : (b : Bool) → Gets (cache_of ws) arena (cond b (Caches.get (cache_of ws) arena h key) (Caches.got_nothing (cache_of ws) 12))
+      by true = get_same (cache_of ws) arena h key
       by false = refl
 
-  pub clear-keeps : Parts.clearingOut (Parts.clear ws arena).answer ≢ 0 → after ws (Parts.clear ws arena).cache ≡ ws
+  pub clear_keeps : Parts.clearing_out (Parts.clear ws arena).answer ≢ 0 → after ws (Parts.clear ws arena).cache ≡ ws
   unfolding Caches.clear
-  clear-keeps n = back _ (by (accepted ws) (lentOk (cacheOf ws) (length arena)) n)
+  clear_keeps n = back _ (by (accepted ws) (lent_ok (cache_of ws) (length arena)) n)
     where
       none : Cleared
-      none = record { answer = Clearing.Refused 12; cache = cacheOf ws }
+      none = record { answer = Clearing.Refused 12; cache = cache_of ws }
 
       emptied : Cleared
-      emptied = record { answer = Clearing.Done; cache = cleared (cacheOf ws) }
+      emptied = record { answer = Clearing.Done; cache = cleared (cache_of ws) }
 
-      by : (b p : Bool) → Parts.clearingOut (cond b (cond p emptied none) none).answer ≢ 0 → (cond b (cond p emptied none) none).cache ≡ cacheOf ws
+      by : (b p : Bool) → Parts.clearing_out (cond b (cond p emptied none) none).answer ≢ 0 → (cond b (cond p emptied none) none).cache ≡ cache_of ws
       by true true n = absurd (n refl)
       by true false n = refl
       by false p n = refl
 
-  pub load-keeps : (h : Header) (key : TileKey) (failure : ℕ) (bs : List ℕ) → (Parts.progressOut (Parts.load ws arena h key failure bs).answer).progress ≡ 3
+  pub load_keeps : (h : Header) (key : TileKey) (failure : ℕ) (bs : List ℕ) → (Parts.progress_out (Parts.load ws arena h key failure bs).answer).progress ≡ 3
       → (after ws (Parts.load ws arena h key failure bs).cache ≡ ws) × ((Parts.load ws arena h key failure bs).arena ≡ arena)
-  load-keeps h key failure bs e =
+  load_keeps h key failure bs e =
       let x : After = Parts.load ws arena h key failure bs in
-      let same : (x.cache ≡ cacheOf ws) × (x.arena ≡ arena) = load_told x.answer (cacheOf ws) arena x e (by (accepted ws)) in
+      let same : (x.cache ≡ cache_of ws) × (x.arena ≡ arena) = load_told x.answer (cache_of ws) arena x e (by (accepted ws)) in
       (back _ same.0, same.1)
     where
-      by : (b : Bool) → Loaded' (cacheOf ws) arena (cond b (Caches.load (cacheOf ws) arena h key failure bs) (Parts.refusedLoad ws arena))
-      by true = load_same (cacheOf ws) arena h key failure bs
+      by : (b : Bool) → Loaded' (cache_of ws) arena (cond b (Caches.load (cache_of ws) arena h key failure bs) (Parts.refused_load ws arena))
+      by true = load_same (cache_of ws) arena h key failure bs
       by false = (refl, refl)
 
-  pub load-from-keeps : (h : Header) (key : TileKey) (Q : List ℕ) → (Parts.progressOut (Parts.loadFrom ws arena h key Q).answer).progress ≡ 3
-      → (after ws (Parts.loadFrom ws arena h key Q).cache ≡ ws) × ((Parts.loadFrom ws arena h key Q).arena ≡ arena)
-  load-from-keeps h key Q e =
-      let x : After = Parts.loadFrom ws arena h key Q in
-      let same : (x.cache ≡ cacheOf ws) × (x.arena ≡ arena) = load_told x.answer (cacheOf ws) arena x e (by (accepted ws)) in
+  pub load_from_keeps : (h : Header) (key : TileKey) (Q : List ℕ) → (Parts.progress_out (Parts.load_from ws arena h key Q).answer).progress ≡ 3
+      → (after ws (Parts.load_from ws arena h key Q).cache ≡ ws) × ((Parts.load_from ws arena h key Q).arena ≡ arena)
+  load_from_keeps h key Q e =
+      let x : After = Parts.load_from ws arena h key Q in
+      let same : (x.cache ≡ cache_of ws) × (x.arena ≡ arena) = load_told x.answer (cache_of ws) arena x e (by (accepted ws)) in
       (back _ same.0, same.1)
     where
-      by : (b : Bool) → Loaded' (cacheOf ws) arena (cond b (Caches.loadFrom (cacheOf ws) arena h key Q) (Parts.refusedLoad ws arena))
-      by true = load-from-same (cacheOf ws) arena h key Q
+      by : (b : Bool) → Loaded' (cache_of ws) arena (cond b (Caches.load_from (cache_of ws) arena h key Q) (Parts.refused_load ws arena))
+      by true = load_from_same (cache_of ws) arena h key Q
       by false = (refl, refl)
 
   -- the engine's words, and the matcher's
-  pub update-keeps : (ms : List ℕ) (h : Header) (p : Point) (heading : TerrainHeading) → (Roads.updatedOut (Roads.update ms ws arena h p heading).answer).outcome ≡ 3
-      → (Roads.engineAfter ms ws arena h p heading ≡ ws) × (Roads.matcherAfter ms ws arena h p heading ≡ ms)
-  unfolding Roads.isMatcher
-  update-keeps ms h p heading e = by (Roads.can_match ms ws heading) refl e
+  pub update_keeps : (ms : List ℕ) (h : Header) (p : Point) (heading : TerrainHeading) → (Roads.updated_out (Roads.update ms ws arena h p heading).answer).outcome ≡ 3
+      → (Roads.engine_after ms ws arena h p heading ≡ ws) × (Roads.matcher_after ms ws arena h p heading ≡ ms)
+  unfolding Roads.is_matcher
+  update_keeps ms h p heading e = by (Roads.can_match ms ws heading) refl e
     where
       m : Matcher
-      m = matcherOf ms 0
+      m = matcher_of ms 0
 
       u : Bool → Updated
-      u b = cond b (Matching.update m (cacheOf ws) arena h p (Roads.headingOf heading)) (Matchers.refused m (cacheOf ws) 12)
+      u b = cond b (Matching.update m (cache_of ws) arena h p (Roads.heading_of heading)) (Matchers.refused m (cache_of ws) 12)
 
-      by : (b : Bool) → Roads.can_match ms ws heading ≡ b → (Roads.updatedOut (u b).answer).outcome ≡ 3
-          → (cond b (after ws (u b).cache) ws ≡ ws) × (cond b (matcherWords (u b).matcher) ms ≡ ms)
+      by : (b : Bool) → Roads.can_match ms ws heading ≡ b → (Roads.updated_out (u b).answer).outcome ≡ 3
+          → (cond b (after ws (u b).cache) ws ≡ ws) × (cond b (matcher_words (u b).matcher) ms ≡ ms)
       by true q e =
-          let same : ((u true).matcher ≡ m) × ((u true).cache ≡ cacheOf ws) =
-          match-told (u true).answer m (u true).matcher (cacheOf ws) (u true).cache e (update_same m (cacheOf ws) arena h p (Roads.headingOf heading)) in
-          (back _ same.1, ap matcherWords same.0 ∙ same-is (matcherWords m) ms (both (Roads.isMatcher ms) _ q).0)
+          let same : ((u true).matcher ≡ m) × ((u true).cache ≡ cache_of ws) =
+          match_told (u true).answer m (u true).matcher (cache_of ws) (u true).cache e (update_same m (cache_of ws) arena h p (Roads.heading_of heading)) in
+          (back _ same.1, ap matcher_words same.0 ∙ same_is (matcher_words m) ms (both (Roads.is_matcher ms) _ q).0)
       by false q e = (refl, refl)
 
   -- 10 has moved clock and ages
-  pub predict-keeps : (h : Header) (start : MatchTold) (horizon : Float) (samples behind : List ℤ)
-      → (Roads.predictedOut (Roads.predict ws arena h start horizon samples behind).predicted.answer).outcome ≡ 3
-      → (Roads.predictedOut (Roads.predict ws arena h start horizon samples behind).predicted.answer).number ≢ 10
-      → Roads.predictAfter ws arena h start horizon samples behind ≡ ws
-  predict-keeps h start horizon samples behind e no10 = by (Roads.isGiven start && accepted ws) e no10
+  pub predict_keeps : (h : Header) (start : MatchTold) (horizon : Float) (samples behind : List ℤ)
+      → (Roads.predicted_out (Roads.predict ws arena h start horizon samples behind).predicted.answer).outcome ≡ 3
+      → (Roads.predicted_out (Roads.predict ws arena h start horizon samples behind).predicted.answer).number ≢ 10
+      → Roads.predict_after ws arena h start horizon samples behind ≡ ws
+  predict_keeps h start horizon samples behind e no10 = by (Roads.is_given start && accepted ws) e no10
     where
       x : Bool → Predict.After
       x b =
-          cond b (Predict.predict (cacheOf ws) arena h (Roads.given start) horizon samples behind)
-          (record { predicted = record { answer = Road.Refused 12; cache = cacheOf ws }; samples = samples; behind = behind })
+          cond b (Predict.predict (cache_of ws) arena h (Roads.given start) horizon samples behind)
+          (record { predicted = record { answer = Road.Refused 12; cache = cache_of ws }; samples = samples; behind = behind })
 
-      by : (b : Bool) → (Roads.predictedOut (x b).predicted.answer).outcome ≡ 3 → (Roads.predictedOut (x b).predicted.answer).number ≢ 10
+      by : (b : Bool) → (Roads.predicted_out (x b).predicted.answer).outcome ≡ 3 → (Roads.predicted_out (x b).predicted.answer).number ≢ 10
           → cond b (after ws (x b).predicted.cache) ws ≡ ws
       by true e no10 =
-          back _ (road-told (x true).predicted.answer (cacheOf ws) (x true).predicted.cache e no10 (predict-same (cacheOf ws) arena h (Roads.given start) horizon samples behind))
+          back _ (road_told (x true).predicted.answer (cache_of ws) (x true).predicted.cache e no10 (predict_same (cache_of ws) arena h (Roads.given start) horizon samples behind))
       by false e no10 = refl

@@ -6,7 +6,7 @@ use mathlib.Core.List.{List, [], ◌∷◌}
 use lib.ListN.{get_or}
 use Rattle.pack.specs.Sector.{all_of}
 use Rattle.pack.specs.declared.TileKey.{TileKey}
-use Rattle.tile.specs.Parse.{accepts, parse, clauses, isLong, isMagic, isVersion, isSum, is_key, isLength, hasLon, nodesGood, edgesGood, entriesGood, nodesOrdered}
+use Rattle.tile.specs.Parse.{accepts, parse, clauses, is_long, is_magic, is_version, is_sum, is_key, is_length, has_lon, nodes_good, edges_good, entries_good, nodes_ordered}
 use Rattle.tile.specs.declared.Parsed.TheVariants as Parsed
 use Rattle.tile.proofs.Laws.{broken}
 
@@ -16,24 +16,24 @@ first_three true false d rest = refl
 first_three false b d rest = refl
 
 module _ (bs : List ℕ) (key : TileKey) (size : ℕ) where
-  pub refused-by : (k : ℕ) → get_or (clauses bs key size) k true ≡ false → Parsed.Refused 4 ≡ parse bs key size
+  pub refused_by : (k : ℕ) → get_or (clauses bs key size) k true ≡ false → Parsed.Refused 4 ≡ parse bs key size
   unfolding parse accepts
-  refused-by k e = rw (broken k (clauses bs key size) e)
+  refused_by k e = rw (broken k (clauses bs key size) e)
 
   pub head_first : accepts bs key size
-      ≡ ((isLong bs && (isMagic bs && isVersion bs))
-      && all_of (isSum bs ∷ is_key bs key ∷ isLength bs ∷ hasLon bs ∷ nodesGood bs size ∷ edgesGood bs ∷ entriesGood bs ∷ nodesOrdered bs ∷ []))
+      ≡ ((is_long bs && (is_magic bs && is_version bs))
+      && all_of (is_sum bs ∷ is_key bs key ∷ is_length bs ∷ has_lon bs ∷ nodes_good bs size ∷ edges_good bs ∷ entries_good bs ∷ nodes_ordered bs ∷ []))
   unfolding accepts
-  head_first = first_three (isLong bs) (isMagic bs) (isVersion bs) _
+  head_first = first_three (is_long bs) (is_magic bs) (is_version bs) _
 
   -- one pass over the nodes tests both
-  pub refused-by-nodes : (nodesGood bs size && nodesOrdered bs) ≡ false → Parsed.Refused 4 ≡ parse bs key size
-  refused-by-nodes e = go (nodesGood bs size) refl
+  pub refused_by_nodes : (nodes_good bs size && nodes_ordered bs) ≡ false → Parsed.Refused 4 ≡ parse bs key size
+  refused_by_nodes e = go (nodes_good bs size) refl
     where
-      go : (good : Bool) → nodesGood bs size ≡ good → Parsed.Refused 4 ≡ parse bs key size
-      go true q = refused-by 10 (rw q at e)
-      go false q = refused-by 7 q
+      go : (good : Bool) → nodes_good bs size ≡ good → Parsed.Refused 4 ≡ parse bs key size
+      go true q = refused_by 10 (rw q at e)
+      go false q = refused_by 7 q
 
   -- document 02, request 7: whatever else a tile holds, nodes out of order refuse it
-  pub unordered-refused : nodesOrdered bs ≡ false → parse bs key size ≡ Parsed.Refused 4
-  unordered-refused e = sym (refused-by 10 e)
+  pub unordered_refused : nodes_ordered bs ≡ false → parse bs key size ≡ Parsed.Refused 4
+  unordered_refused e = sym (refused_by 10 e)

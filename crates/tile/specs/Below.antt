@@ -7,6 +7,6 @@ all_below p zero = true
 all_below p (suc n) = all_below p n && p n
 
 -- some number below n has it
-unfoldable pub anyBelow : (ℕ → Bool) → ℕ → Bool
-anyBelow p zero = false
-anyBelow p (suc n) = anyBelow p n || p n
+unfoldable pub any_below : (ℕ → Bool) → ℕ → Bool
+any_below p zero = false
+any_below p (suc n) = any_below p n || p n

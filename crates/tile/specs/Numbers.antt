@@ -13,26 +13,26 @@ use Rattle.tile.specs.declared.EntryRead.TheVariants as EntryRead
 use Rattle.tile.specs.declared.Found.{Found}
 use Rattle.tile.specs.declared.Found.TheVariants as Found
 
-abbrev pub numberOfParsed : Parsed → ℕ
-numberOfParsed (Parsed.Tile head) = 0
-numberOfParsed (Parsed.Refused number) = number
+abbrev pub number_of_parsed : Parsed → ℕ
+number_of_parsed (Parsed.Tile head) = 0
+number_of_parsed (Parsed.Refused number) = number
 
-abbrev pub numberOfNodeRead : NodeRead → ℕ
-numberOfNodeRead (NodeRead.At node) = 0
-numberOfNodeRead (NodeRead.Refused number) = number
+abbrev pub number_of_node_read : NodeRead → ℕ
+number_of_node_read (NodeRead.At node) = 0
+number_of_node_read (NodeRead.Refused number) = number
 
-abbrev pub numberOfEdgeRead : EdgeRead → ℕ
-numberOfEdgeRead (EdgeRead.At edge) = 0
-numberOfEdgeRead (EdgeRead.Refused number) = number
+abbrev pub number_of_edge_read : EdgeRead → ℕ
+number_of_edge_read (EdgeRead.At edge) = 0
+number_of_edge_read (EdgeRead.Refused number) = number
 
-abbrev pub numberOfEntries : Entries → ℕ
-numberOfEntries (Entries.Range first last) = 0
-numberOfEntries (Entries.Refused number) = number
+abbrev pub number_of_entries : Entries → ℕ
+number_of_entries (Entries.Range first last) = 0
+number_of_entries (Entries.Refused number) = number
 
-abbrev pub numberOfEntryRead : EntryRead → ℕ
-numberOfEntryRead (EntryRead.At entry) = 0
-numberOfEntryRead (EntryRead.Refused number) = number
+abbrev pub number_of_entry_read : EntryRead → ℕ
+number_of_entry_read (EntryRead.At entry) = 0
+number_of_entry_read (EntryRead.Refused number) = number
 
-abbrev pub numberOfFound : Found → ℕ
-numberOfFound (Found.At index) = 0
-numberOfFound Found.Nothing = 0
+abbrev pub number_of_found : Found → ℕ
+number_of_found (Found.At index) = 0
+number_of_found Found.Nothing = 0

@@ -4,29 +4,29 @@ use Rattle.std.specs.Prelude.{ℕ}
 -- ---- in the head, of 32 bytes
 
 -- "VT"
-abbrev pub magicAt : ℕ
-magicAt = 0
+abbrev pub magic_at : ℕ
+magic_at = 0
 
-abbrev pub versionAt : ℕ
-versionAt = 2
+abbrev pub version_at : ℕ
+version_at = 2
 
 abbrev pub row_at : ℕ
 row_at = 4
 
-abbrev pub colAt : ℕ
-colAt = 6
+abbrev pub col_at : ℕ
+col_at = 6
 
-abbrev pub nodesAt : ℕ
-nodesAt = 8
+abbrev pub nodes_at : ℕ
+nodes_at = 8
 
 abbrev pub edges_at : ℕ
 edges_at = 10
 
-abbrev pub verticesAt : ℕ
-verticesAt = 12
+abbrev pub vertices_at : ℕ
+vertices_at = 12
 
-abbrev pub lonUmAt : ℕ
-lonUmAt = 16
+abbrev pub lon_um_at : ℕ
+lon_um_at = 16
 
 -- CRC, taken as zero when summed
 abbrev pub sum_at : ℕ
@@ -34,11 +34,11 @@ sum_at = 24
 
 -- ---- in a node, of 8 bytes, and in a vertex, of 6, which has no adjacency start: x stands first, where the record does
 
-abbrev pub yAt : ℕ
-yAt = 2
+abbrev pub y_at : ℕ
+y_at = 2
 
-abbrev pub zAt : ℕ
-zAt = 4
+abbrev pub z_at : ℕ
+z_at = 4
 
 abbrev pub start_at : ℕ
 start_at = 6
@@ -48,17 +48,17 @@ start_at = 6
 abbrev pub to_at : ℕ
 to_at = 2
 
-abbrev pub firstVertexAt : ℕ
-firstVertexAt = 4
+abbrev pub first_vertex_at : ℕ
+first_vertex_at = 4
 
-abbrev pub edgeVerticesAt : ℕ
-edgeVerticesAt = 8
+abbrev pub edge_vertices_at : ℕ
+edge_vertices_at = 8
 
 abbrev pub class_at : ℕ
 class_at = 10
 
-abbrev pub flagsAt : ℕ
-flagsAt = 11
+abbrev pub flags_at : ℕ
+flags_at = 11
 
-abbrev pub groupAt : ℕ
-groupAt = 12
+abbrev pub group_at : ℕ
+group_at = 12

@@ -9,14 +9,14 @@ abbrev pub before : ℕ → ℕ → ℕ → ℕ → Bool
 before ay ax by bx = ltb ay by || (eqb ay by && ltb ax bx)
 
 -- one node lies below another
-abbrev pub isBelow : Node → Node → Bool
-isBelow a b = before a.y a.x b.y b.x
+abbrev pub is_below : Node → Node → Bool
+is_below a b = before a.y a.x b.y b.x
 
 -- a node is not below the one before it
 unfoldable pub follows : (ℕ → Node) → ℕ → Bool
 follows node zero = true
-follows node (suc i) = not (isBelow (node (suc i)) (node i))
+follows node (suc i) = not (is_below (node (suc i)) (node i))
 
 -- the first n nodes
-abbrev pub inOrder : (ℕ → Node) → ℕ → Bool
-inOrder node n = all_below (follows node) n
+abbrev pub in_order : (ℕ → Node) → ℕ → Bool
+in_order node n = all_below (follows node) n

@@ -1,8 +1,8 @@
 -- The public readers, each with its refusal: "index past the tile" is 7 (document 01, "Refused"), which is an index past its count, and a record that does
 -- not end within the bytes, whatever the counts of the head claim. In bytes that `parse` accepts every record ends within them.
 use Rattle.std.specs.Prelude.{ℕ, zero, suc, ◌+◌, ◌-◌, ◌*◌, ◌/◌, min, max, Bool, true, false, ◌&&◌, cond, List, leb, ltb, eqb, length}
-use Rattle.tile.specs.Layout.{nodesOf, edgesOf, verticesOf, nodeStart, edgeStart, entryStart, vertexStart, nodeOf, edge_of, entry_of, point_of, adjacencyStart, adjacencyEnd}
-use Rattle.tile.specs.Below.{anyBelow}
+use Rattle.tile.specs.Layout.{nodes_of, edges_of, vertices_of, node_start, edge_start, entry_start, vertex_start, node_of, edge_of, entry_of, point_of, adjacency_start, adjacency_end}
+use Rattle.tile.specs.Below.{any_below}
 pub use Rattle.tile.specs.Order.{before}
 use Rattle.tile.specs.declared.Edge.{Edge}
 use Rattle.tile.specs.declared.NodeRead.{NodeRead}
@@ -22,47 +22,47 @@ use Rattle.tile.specs.declared.Found.TheVariants as Found
 abbrev pub inside : List ℕ → ℕ → ℕ → Bool
 inside bs at size = leb (at + size) (length bs)
 
-abbrev pub hasNode : List ℕ → ℕ → Bool
-hasNode bs i = ltb i (nodesOf bs) && inside bs (nodeStart i) 8
+abbrev pub has_node : List ℕ → ℕ → Bool
+has_node bs i = ltb i (nodes_of bs) && inside bs (node_start i) 8
 
-abbrev pub hasEdge : List ℕ → ℕ → Bool
-hasEdge bs i = ltb i (edgesOf bs) && inside bs (edgeStart bs i) 16
+abbrev pub has_edge : List ℕ → ℕ → Bool
+has_edge bs i = ltb i (edges_of bs) && inside bs (edge_start bs i) 16
 
-abbrev pub hasEntry : List ℕ → ℕ → Bool
-hasEntry bs j = ltb j (edgesOf bs * 2) && inside bs (entryStart bs j) 2
+abbrev pub has_entry : List ℕ → ℕ → Bool
+has_entry bs j = ltb j (edges_of bs * 2) && inside bs (entry_start bs j) 2
 
-abbrev pub hasVertex : List ℕ → ℕ → Bool
-hasVertex bs v = ltb v (verticesOf bs) && inside bs (vertexStart bs v) 6
+abbrev pub has_vertex : List ℕ → ℕ → Bool
+has_vertex bs v = ltb v (vertices_of bs) && inside bs (vertex_start bs v) 6
 
 -- ---- the readers
 
 unfoldable pub node : List ℕ → ℕ → NodeRead
-node bs i = cond (hasNode bs i) (NodeRead.At (nodeOf bs i)) (NodeRead.Refused 7)
+node bs i = cond (has_node bs i) (NodeRead.At (node_of bs i)) (NodeRead.Refused 7)
 
 unfoldable pub edge : List ℕ → ℕ → EdgeRead
-edge bs i = cond (hasEdge bs i) (EdgeRead.At (edge_of bs i)) (EdgeRead.Refused 7)
+edge bs i = cond (has_edge bs i) (EdgeRead.At (edge_of bs i)) (EdgeRead.Refused 7)
 
 -- the node whose record is read last for a node's entries: the next one where there is one, else the node itself
-abbrev pub lastRead : List ℕ → ℕ → ℕ
-lastRead bs i = cond (ltb (i + 1) (nodesOf bs)) (i + 1) i
+abbrev pub last_read : List ℕ → ℕ → ℕ
+last_read bs i = cond (ltb (i + 1) (nodes_of bs)) (i + 1) i
 
 -- a node's entries, from the first up to the last: where starts fall there are none
 unfoldable pub incident : List ℕ → ℕ → Entries
 incident bs i =
-    cond (hasNode bs (lastRead bs i)) (Entries.Range (adjacencyStart bs i) (max (adjacencyEnd bs i) (adjacencyStart bs i)))
+    cond (has_node bs (last_read bs i)) (Entries.Range (adjacency_start bs i) (max (adjacency_end bs i) (adjacency_start bs i)))
     (Entries.Refused 7)
 
-unfoldable pub incidentEntry : List ℕ → ℕ → EntryRead
-incidentEntry bs j = cond (hasEntry bs j) (EntryRead.At (entry_of bs j)) (EntryRead.Refused 7)
+unfoldable pub incident_entry : List ℕ → ℕ → EntryRead
+incident_entry bs j = cond (has_entry bs j) (EntryRead.At (entry_of bs j)) (EntryRead.Refused 7)
 
 -- whether what a point number reads is there: the start node, the end node, or a vertex
-unfoldable pub hasPoint : List ℕ → Edge → ℕ → Bool
-hasPoint bs e index =
-    cond (eqb index 0) (hasNode bs e.from)
-    (cond (ltb e.vertices index) (hasNode bs e.to) (hasVertex bs (e.first_vertex + index - 1)))
+unfoldable pub has_point : List ℕ → Edge → ℕ → Bool
+has_point bs e index =
+    cond (eqb index 0) (has_node bs e.from)
+    (cond (ltb e.vertices index) (has_node bs e.to) (has_vertex bs (e.first_vertex + index - 1)))
 
 unfoldable pub point : List ℕ → Edge → ℕ → NodeRead
-point bs e index = cond (hasPoint bs e index) (NodeRead.At (point_of bs e index)) (NodeRead.Refused 7)
+point bs e index = cond (has_point bs e index) (NodeRead.At (point_of bs e index)) (NodeRead.Refused 7)
 
 -- ---- node_at: the binary search over the order of y, then x
 
@@ -71,29 +71,29 @@ unfoldable pub search : ℕ → List ℕ → ℕ → ℕ → ℕ → ℕ → Fou
 search zero bs x y low high = Found.Nothing
 search (suc left) bs x y low high =
     let middle = (low + high) / 2 in
-    let n = nodeOf bs middle in
+    let n = node_of bs middle in
     cond (ltb low high)
     (cond (before n.y n.x y x) (search left bs x y (middle + 1) high)
     (cond (before y x n.y n.x) (search left bs x y low middle) (Found.At middle)))
     Found.Nothing
 
 -- how many nodes are there: those of the count whose records end within the bytes
-abbrev pub nodesThere : List ℕ → ℕ
-nodesThere bs = min (nodesOf bs) ((length bs - 32) / 8)
+abbrev pub nodes_there : List ℕ → ℕ
+nodes_there bs = min (nodes_of bs) ((length bs - 32) / 8)
 
-unfoldable pub nodeAt : List ℕ → ℕ → ℕ → Found
-nodeAt bs x y = search (nodesThere bs) bs x y 0 (nodesThere bs)
+unfoldable pub node_at : List ℕ → ℕ → ℕ → Found
+node_at bs x y = search (nodes_there bs) bs x y 0 (nodes_there bs)
 
 -- ---- which places are found: document 02, request 7. Of several nodes at one place the search finds one, and which is the search's own
 
 -- node i stands at (x, y)
-abbrev pub standsAt : List ℕ → ℕ → ℕ → ℕ → Bool
-standsAt bs x y i = eqb (nodeOf bs i).x x && eqb (nodeOf bs i).y y
+abbrev pub stands_at : List ℕ → ℕ → ℕ → ℕ → Bool
+stands_at bs x y i = eqb (node_of bs i).x x && eqb (node_of bs i).y y
 
 -- a node stands at (x, y)
-abbrev pub isThere : List ℕ → ℕ → ℕ → Bool
-isThere bs x y = anyBelow (standsAt bs x y) (nodesOf bs)
+abbrev pub is_there : List ℕ → ℕ → ℕ → Bool
+is_there bs x y = any_below (stands_at bs x y) (nodes_of bs)
 
-abbrev pub isFound : Found → Bool
-isFound (Found.At i) = true
-isFound Found.Nothing = false
+abbrev pub is_found : Found → Bool
+is_found (Found.At i) = true
+is_found Found.Nothing = false

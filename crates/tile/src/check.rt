@@ -8,7 +8,7 @@ use pack::TileKey;
 
 // Long enough for a head, its magic and its version.
 pub(crate) fn is_head(bytes: &[u8]) -> bool
-    ensures { result ≡ (Parse.isLong bytes.now && (Parse.isMagic bytes.now && Parse.isVersion bytes.now)) }
+    ensures { result ≡ (Parse.is_long bytes.now && (Parse.is_magic bytes.now && Parse.is_version bytes.now)) }
 {
     if bytes.len() < 32 {
         return false;
@@ -20,7 +20,7 @@ pub(crate) fn is_head(bytes: &[u8]) -> bool
 }
 
 pub(crate) fn is_sum(bytes: &[u8]) -> bool
-    ensures { result ≡ Parse.isSum bytes.now }
+    ensures { result ≡ Parse.is_sum bytes.now }
 {
     crc::crc32_skipping(bytes, 24) == pack::bytes::u32_at(bytes, 24)
 }
@@ -35,7 +35,7 @@ pub fn is_key(bytes: &[u8], key: TileKey) -> bool
 }
 
 pub(crate) fn is_length(bytes: &[u8]) -> bool
-    ensures { result ≡ Parse.isLength bytes.now }
+    ensures { result ≡ Parse.is_length bytes.now }
 {
     let nodes = pack::bytes::u16_at(bytes, 8) as u64;
     let edges = pack::bytes::u16_at(bytes, 10) as u64;
@@ -45,7 +45,7 @@ pub(crate) fn is_length(bytes: &[u8]) -> bool
 
 // A node lies within the tile, its adjacency start within the entries. `node` is its record.
 fn node_ok(node: &[u8], size: u32, last: u32) -> bool
-    ensures { result ≡ Parse.nodeFits node.now size last 0 }
+    ensures { result ≡ Parse.node_fits node.now size last 0 }
 {
     if size < pack::bytes::u16_at(node, 0) as u32 {
         return false;
@@ -59,8 +59,8 @@ fn node_ok(node: &[u8], size: u32, last: u32) -> bool
 // Every node lies within the tile, its adjacency start within the entries, and none lies below the node before it: by y, then x, compared as one number.
 // No place lies below (0, 0).
 fn all_nodes(bytes: &[u8], size: u32) -> bool
-    requires { Parse.isLength bytes.now ≡ true }
-    ensures { result ≡ (Parse.all_below (Parse.nodeOk bytes.now size) (Layout.nodesOf bytes.now) && Parse.nodesOrdered bytes.now) }
+    requires { Parse.is_length bytes.now ≡ true }
+    ensures { result ≡ (Parse.all_below (Parse.node_ok bytes.now size) (Layout.nodes_of bytes.now) && Parse.nodes_ordered bytes.now) }
 {
     let nodes = pack::bytes::u16_at(bytes, 8) as u32;
     let last = (pack::bytes::u16_at(bytes, 10) as u32) * 2;
@@ -86,8 +86,8 @@ fn all_nodes(bytes: &[u8], size: u32) -> bool
 
 // Any size is cut to 65,535.
 pub(crate) fn nodes_good(bytes: &[u8], size: u32) -> bool
-    requires { Parse.isLength bytes.now ≡ true }
-    ensures { result ≡ (Parse.nodesGood bytes.now size && Parse.nodesOrdered bytes.now) }
+    requires { Parse.is_length bytes.now ≡ true }
+    ensures { result ≡ (Parse.nodes_good bytes.now size && Parse.nodes_ordered bytes.now) }
 {
     if 65535 < size {
         return all_nodes(bytes, 65535);
@@ -97,7 +97,7 @@ pub(crate) fn nodes_good(bytes: &[u8], size: u32) -> bool
 
 // An edge's two nodes are there, and its vertices. `edge` is its record.
 fn edge_ok(edge: &[u8], nodes: u16, vertices: u32) -> bool
-    ensures { result ≡ Parse.edgeFits edge.now nodes vertices 0 }
+    ensures { result ≡ Parse.edge_fits edge.now nodes vertices 0 }
 {
     if nodes <= pack::bytes::u16_at(edge, 0) {
         return false;
@@ -112,8 +112,8 @@ fn edge_ok(edge: &[u8], nodes: u16, vertices: u32) -> bool
 
 // Every edge's nodes and vertices are there.
 pub(crate) fn edges_good(bytes: &[u8]) -> bool
-    requires { Parse.isLength bytes.now ≡ true }
-    ensures { result ≡ Parse.edgesGood bytes.now }
+    requires { Parse.is_length bytes.now ≡ true }
+    ensures { result ≡ Parse.edges_good bytes.now }
 {
     let nodes = pack::bytes::u16_at(bytes, 8);
     let edges = pack::bytes::u16_at(bytes, 10);
@@ -132,8 +132,8 @@ pub(crate) fn edges_good(bytes: &[u8]) -> bool
 
 // Every adjacency entry names an edge.
 pub(crate) fn entries_good(bytes: &[u8]) -> bool
-    requires { Parse.isLength bytes.now ≡ true }
-    ensures { result ≡ Parse.entriesGood bytes.now }
+    requires { Parse.is_length bytes.now ≡ true }
+    ensures { result ≡ Parse.entries_good bytes.now }
 {
     let nodes = pack::bytes::u16_at(bytes, 8) as usize;
     let edges = pack::bytes::u16_at(bytes, 10);

@@ -9,7 +9,7 @@ use crate::{Edge, Incident, Node};
 // x, y and z at a place of the bytes: a node's or a vertex's.
 fn place(bytes: &[u8], at: usize) -> Node
     requires { at + 4 < 2 ^ 64 }
-    ensures { result ≡ Layout.placeAt bytes.now at }
+    ensures { result ≡ Layout.place_at bytes.now at }
 {
     Node {
         x: pack::bytes::u16_at(bytes, at),
@@ -19,21 +19,21 @@ fn place(bytes: &[u8], at: usize) -> Node
 }
 
 pub fn node(bytes: &[u8], index: u16) -> Node
-    ensures { result ≡ Layout.nodeOf bytes.now index }
+    ensures { result ≡ Layout.node_of bytes.now index }
 {
     place(bytes, 32 + (index as usize) * 8)
 }
 
 // The first adjacency entry of a node.
 pub fn adjacency_start(bytes: &[u8], index: u32) -> u16
-    ensures { result ≡ Layout.adjacencyStart bytes.now index }
+    ensures { result ≡ Layout.adjacency_start bytes.now index }
 {
     pack::bytes::u16_at(bytes, 32 + (index as usize) * 8 + 6)
 }
 
 // Where a node's entries end: where the next node's begin, and for the last node behind all of them.
 pub fn adjacency_end(bytes: &[u8], index: u16) -> u32
-    ensures { result ≡ Layout.adjacencyEnd bytes.now index }
+    ensures { result ≡ Layout.adjacency_end bytes.now index }
 {
     let next = (index as u32) + 1;
     if next < pack::bytes::u16_at(bytes, 8) as u32 {
@@ -72,7 +72,7 @@ pub fn edge(bytes: &[u8], index: u16) -> Edge
 
 fn vertex(bytes: &[u8], number: u64) -> Node
     requires { number < 2 ^ 33 }
-    ensures { result ≡ Layout.vertexOf bytes.now number }
+    ensures { result ≡ Layout.vertex_of bytes.now number }
 {
     let nodes = pack::bytes::u16_at(bytes, 8) as usize;
     let edges = pack::bytes::u16_at(bytes, 10) as usize;
@@ -91,7 +91,7 @@ fn inside(bytes: &[u8], at: usize, size: usize) -> bool
 
 // Whether a node's record is there: below the count, and within the bytes.
 pub fn has_node(bytes: &[u8], index: u32) -> bool
-    ensures { result ≡ Readers.hasNode bytes.now index }
+    ensures { result ≡ Readers.has_node bytes.now index }
 {
     if index < pack::bytes::u16_at(bytes, 8) as u32 {
         return inside(bytes, 32 + (index as usize) * 8, 8);
@@ -100,7 +100,7 @@ pub fn has_node(bytes: &[u8], index: u32) -> bool
 }
 
 pub fn has_edge(bytes: &[u8], index: u16) -> bool
-    ensures { result ≡ Readers.hasEdge bytes.now index }
+    ensures { result ≡ Readers.has_edge bytes.now index }
 {
     let edges = pack::bytes::u16_at(bytes, 10);
     if index < edges {
@@ -115,7 +115,7 @@ pub fn has_edge(bytes: &[u8], index: u16) -> bool
 }
 
 pub fn has_entry(bytes: &[u8], entry: u32) -> bool
-    ensures { result ≡ Readers.hasEntry bytes.now entry }
+    ensures { result ≡ Readers.has_entry bytes.now entry }
 {
     if entry < (pack::bytes::u16_at(bytes, 10) as u32) * 2 {
         let nodes = pack::bytes::u16_at(bytes, 8) as usize;
@@ -125,7 +125,7 @@ pub fn has_entry(bytes: &[u8], entry: u32) -> bool
 }
 
 fn has_vertex(bytes: &[u8], number: u64) -> bool
-    ensures { result ≡ Readers.hasVertex bytes.now number }
+    ensures { result ≡ Readers.has_vertex bytes.now number }
 {
     if number < pack::bytes::u32_at(bytes, 12) as u64 {
         let nodes = pack::bytes::u16_at(bytes, 8) as usize;
@@ -141,7 +141,7 @@ fn has_vertex(bytes: &[u8], number: u64) -> bool
 
 // The node whose record is read last for a node's entries: the next one where there is one.
 pub fn last_read(bytes: &[u8], index: u16) -> u32
-    ensures { result ≡ Readers.lastRead bytes.now index }
+    ensures { result ≡ Readers.last_read bytes.now index }
 {
     let next = (index as u32) + 1;
     if next < pack::bytes::u16_at(bytes, 8) as u32 {
@@ -152,7 +152,7 @@ pub fn last_read(bytes: &[u8], index: u16) -> u32
 
 // How many nodes are there: those of the count whose records end within the bytes.
 pub fn nodes_there(bytes: &[u8]) -> u16
-    ensures { result ≡ Readers.nodesThere bytes.now }
+    ensures { result ≡ Readers.nodes_there bytes.now }
 {
     let nodes = pack::bytes::u16_at(bytes, 8);
     if bytes.len() < 32 {
@@ -167,7 +167,7 @@ pub fn nodes_there(bytes: &[u8]) -> u16
 
 // Whether what a point number reads is there.
 pub fn has_point(bytes: &[u8], edge: Edge, index: usize) -> bool
-    ensures { result ≡ Readers.hasPoint bytes.now edge index }
+    ensures { result ≡ Readers.has_point bytes.now edge index }
 {
     if index == 0 {
         return has_node(bytes, edge.from as u32);

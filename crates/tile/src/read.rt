@@ -70,7 +70,7 @@ pub fn incident(bytes: &[u8], node: u16) -> Entries
 
 // An edge at a node, by its place among all adjacency entries.
 pub fn incident_entry(bytes: &[u8], entry: u32) -> EntryRead
-    ensures { result ≡ Readers.incidentEntry bytes.now entry }
+    ensures { result ≡ Readers.incident_entry bytes.now entry }
 {
     if crate::raw::has_entry(bytes, entry) {
         return EntryRead::At(crate::raw::entry(bytes, entry));
@@ -96,7 +96,7 @@ pub fn points(edge: Edge) -> usize
 
 // The node at exactly (x, y), by binary search over the (y, x) order of the nodes that are there.
 pub fn node_at(bytes: &[u8], x: u16, y: u16) -> Found
-    ensures { result ≡ Readers.nodeAt bytes.now x y }
+    ensures { result ≡ Readers.node_at bytes.now x y }
 {
     let mut low: u32 = 0;
     let mut high = crate::raw::nodes_there(bytes) as u32;

@@ -79,30 +79,30 @@ module _ (p : Piece) where
   module _ {M : Type 1} {𝓤 : Ura M} (𝓛 : Logic 𝓤) where
     open 𝓛 use {H}
 
-    abbrev pub taken-clauses : Clauses 𝓤 taken
-    taken-clauses κs a = record { ghost = Unit {0}; requires = λ g. emp 𝓤; ensures = λ g r e. fact 𝓤 (r ≡ p.get κs a.0) }
+    abbrev pub taken_clauses : Clauses 𝓤 taken
+    taken_clauses κs a = record { ghost = Unit {0}; requires = λ g. emp 𝓤; ensures = λ g r e. fact 𝓤 (r ≡ p.get κs a.0) }
 
     module _ (κ : Lft) (q : Share) (d : Tile) where
       abbrev pub Entry : SProp 𝓤
       Entry = on_entry 𝓛 taken.signature (κ, tt) (q, tt) (d, tt) (T'.lowered d ∷ [], tt)
 
       abbrev pub Post : Val → SProp 𝓤
-      Post = (walk_of 𝓛 taken stayed taken-clauses).post (((κ, tt), (q, tt), tt, (d, tt), (T'.lowered d ∷ [], tt)), tt)
+      Post = (walk_of 𝓛 taken stayed taken_clauses).post (((κ, tt), (q, tt), tt, (d, tt), (T'.lowered d ∷ [], tt)), tt)
 
       pub exits : ent 𝓤 Entry (Post (p.val d))
       exits =
           qed 𝓛 ((‵ (flft κ q) ⊛ ‵ ftrue) ∷ ‵ (owns (B (κ, tt) ∷ []) (d, tt) (T'.lowered d ∷ [], tt)) ∷ []) ∵
-          suffices ! _ (ends_at 𝓛 taken stayed taken-clauses (((κ, tt), (q, tt), tt, (d, tt), (T'.lowered d ∷ [], tt)), tt) (p.val d) (p.get (κ, tt) d) (tt, tt) (tt, tt)) $ says ! refl $
+          suffices ! _ (ends_at 𝓛 taken stayed taken_clauses (((κ, tt), (q, tt), tt, (d, tt), (T'.lowered d ∷ [], tt)), tt) (p.val d) (p.get (κ, tt) d) (tt, tt) (tt, tt)) $ says ! refl $
           frame ! $ fsplit ! $ use1 𝓛 (‵ ((p.slot.row (κ, tt)).own_val (p.get (κ, tt) d) (p.val d ∷ []))) (p.out 𝓛 κ d) $ move ! (1 ∷ []) $ nothing ! $ fjoin ! $ frame ! $ done !
 
     -- a walk of the MIR fn, at each view
     abbrev pub Walk : Tables 𝓤 H → Fn → Type 1
     Walk 𝓣 fn = (κ : Lft) (q : Share) (d : Tile) → Holds (has_ty (T'.mir (named 0)) (T'.lowered d)) × WT (T'.lowered d) → ent 𝓤 (Entry κ q d) (WpFn 𝓤 H 𝓣.C 𝓣.Λ fn (T'.lowered d ∷ []) (Post κ q d))
 
-    pub meets : (𝓣 : Tables 𝓤 H) (fn : Fn) → Walk 𝓣 fn → Meets 𝓛 taken.signature (WpFn 𝓤 H 𝓣.C 𝓣.Λ fn) (closing 𝓛 taken taken-clauses)
+    pub meets : (𝓣 : Tables 𝓤 H) (fn : Fn) → Walk 𝓣 fn → Meets 𝓛 taken.signature (WpFn 𝓤 H 𝓣.C 𝓣.Λ fn) (closing 𝓛 taken taken_clauses)
     meets 𝓣 fn walk =
-        walk_Meets 𝓛 taken stayed (Goes-dropped 𝓛 1 (plain B) yes (λ κs x f. refl), tt) taken-clauses (WpFn 𝓤 H 𝓣.C 𝓣.Λ fn) (WpFn-mono 𝓤 H 𝓛.laws 𝓣 fn)
-        (walked 𝓛 taken stayed taken-clauses (WpFn 𝓤 H 𝓣.C 𝓣.Λ fn)
+        walk_Meets 𝓛 taken stayed (Goes-dropped 𝓛 1 (plain B) yes (λ κs x f. refl), tt) taken_clauses (WpFn 𝓤 H 𝓣.C 𝓣.Λ fn) (WpFn-mono 𝓤 H 𝓛.laws 𝓣 fn)
+        (walked 𝓛 taken stayed taken_clauses (WpFn 𝓤 H 𝓣.C 𝓣.Λ fn)
         (λ κs. (LL.vals (T.the_type (named_lft 1 0 tt κs)) (T'.the_laws (named_lft 1 0 tt κs)), tt))
         (λ κs. (LL.tells (T.the_type (named_lft 1 0 tt κs)) (T'.the_laws (named_lft 1 0 tt κs)), tt))
         (λ κs qs bounds a g are. via 𝓤 _ (fst∗ 𝓤 _ (emp 𝓤)) (walk κs.0 qs.0 a.0 ((LL.lawful (T.the_type (named_lft 1 0 tt κs)) (T'.the_laws (named_lft 1 0 tt κs)) 𝓛).typed a.0 _ are.0).0)))

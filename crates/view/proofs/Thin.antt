@@ -74,8 +74,8 @@ module _ (R : Datum) (Ps : List Datum) (f : (κs : Lfts 1) → List ℕ → Data
       fjoin ! $ move ! (1 ∷ 0 ∷ []) $ join ! $ frame ! $ done !
 
 -- a view's machine value may be stored in a local of its type
-view-typed : {M : Type 1} {𝓤 : Ura M} (𝓛 : Logic 𝓤) → (κ : Lft) (d : Tile) → Is (B (κ, tt)) d (T'.lowered d ∷ []) → Holds (has_ty (T'.mir (named 0)) (T'.lowered d)) × WT (T'.lowered d)
-view-typed 𝓛 κ d is = ((LL.lawful (T.the_type (named_lft 1 0 tt (κ, tt))) (T'.the_laws (named_lft 1 0 tt (κ, tt))) 𝓛).typed d (T'.lowered d ∷ []) is).0
+view_typed : {M : Type 1} {𝓤 : Ura M} (𝓛 : Logic 𝓤) → (κ : Lft) (d : Tile) → Is (B (κ, tt)) d (T'.lowered d ∷ []) → Holds (has_ty (T'.mir (named 0)) (T'.lowered d)) × WT (T'.lowered d)
+view_typed 𝓛 κ d is = ((LL.lawful (T.the_type (named_lft 1 0 tt (κ, tt))) (T'.the_laws (named_lft 1 0 tt (κ, tt))) 𝓛).typed d (T'.lowered d ∷ []) is).0
 
 -- ---- the bytes and no data
 module _ (R : Datum) (f : List ℕ → R.row.Denot) {M : Type 1} {𝓤 : Ura M} (𝓛 : Logic 𝓤) (callee : Name) where
@@ -90,8 +90,8 @@ module _ (R : Datum) (f : List ℕ → R.row.Denot) {M : Type 1} {𝓤 : Ura M} 
   none_walk : (𝓣 : Tables 𝓤 H) → Triple 𝓤 (𝓣.C callee) (Answer lent R Ps₀ F₀ 𝓛) → Walk seen R Ps₀ F₀ 𝓛 𝓣 (function R Ps₀ callee)
   none_walk 𝓣 known κ q d xs is are =
       qed 𝓛 (raw (Entry seen R Ps₀ F₀ 𝓛 κ q d xs) ∷ []) ∵ enter ! 𝓣.C 𝓣.Λ (function R Ps₀ callee) _ _ $
-      alloc1 ! (λ l₀. alloc1 ! (λ l₁. alloc1 ! (λ l₂. alloc0 ! $ params1 ! $ pass1 ! (init ! 2 refl (view-typed 𝓛 κ d is)) $ pass0 ! $
-      assigns ! (of_opd ! (load ! (from ! (fld ! refl (stop !))) (look_in ! 2 (sub ! 0 refl (whole !))))) (from ! (stop !)) (init ! 0 refl (tt, (view-typed 𝓛 κ d is).1.0)) $
+      alloc1 ! (λ l₀. alloc1 ! (λ l₁. alloc1 ! (λ l₂. alloc0 ! $ params1 ! $ pass1 ! (init ! 2 refl (view_typed 𝓛 κ d is)) $ pass0 ! $
+      assigns ! (of_opd ! (load ! (from ! (fld ! refl (stop !))) (look_in ! 2 (sub ! 0 refl (whole !))))) (from ! (stop !)) (init ! 0 refl (tt, (view_typed 𝓛 κ d is).1.0)) $
       move ! (6 ∷ []) $ use1 𝓛 (raw ((Answer lent R Ps₀ F₀ 𝓛).pre (to lent R Ps₀ F₀ 𝓛 κ q d.bytes xs (slice d.bytes)))) (apart R Ps₀ F₀ 𝓛 κ q d xs) $
       calls_at ! (fm_of 𝓤 H 𝓛.laws 𝓣) (Answer lent R Ps₀ F₀ 𝓛) known (to lent R Ps₀ F₀ 𝓛 κ q d.bytes xs (slice d.bytes)) (and_then ! (load ! (from ! (stop !)) (look ! 1 refl)) (no_more !)) (λ u. answers lent R Ps₀ F₀ 𝓛 κ q d.bytes xs (slice d.bytes) ! tt u (λ r e ris.
       -- [the answer; the token; _2; …; _1; …; room for _0; …]
@@ -111,11 +111,11 @@ module _ (R P : Datum) (f : List ℕ → P.row.Denot → R.row.Denot) {M : Type 
   abbrev F₁ : (κs : Lfts 1) → List ℕ → Data κs Ps₁ → R.row.Denot
   F₁ κs bs xs = f bs xs.0
 
-  one-walk : (𝓣 : Tables 𝓤 H) → Triple 𝓤 (𝓣.C callee) (Answer lent R Ps₁ F₁ 𝓛) → Walk seen R Ps₁ F₁ 𝓛 𝓣 (function R Ps₁ callee)
-  one-walk 𝓣 known κ q d xs is are =
+  one_walk : (𝓣 : Tables 𝓤 H) → Triple 𝓤 (𝓣.C callee) (Answer lent R Ps₁ F₁ 𝓛) → Walk seen R Ps₁ F₁ 𝓛 𝓣 (function R Ps₁ callee)
+  one_walk 𝓣 known κ q d xs is are =
       qed 𝓛 (raw (Entry seen R Ps₁ F₁ 𝓛 κ q d xs) ∷ []) ∵ enter ! 𝓣.C 𝓣.Λ (function R Ps₁ callee) _ _ $
-      alloc1 ! (λ l₀. alloc1 ! (λ l₁. alloc1 ! (λ l₂. alloc1 ! (λ l₃. alloc0 ! $ params1 ! $ pass1 ! (init ! 4 refl (view-typed 𝓛 κ d is)) $ pass1 ! (init ! 2 refl (typed P 𝓛 xs.0 _ are.0)) $ pass0 ! $
-      assigns ! (of_opd ! (load ! (from ! (fld ! refl (stop !))) (look_in ! 4 (sub ! 0 refl (whole !))))) (from ! (stop !)) (init ! 0 refl (tt, (view-typed 𝓛 κ d is).1.0)) $
+      alloc1 ! (λ l₀. alloc1 ! (λ l₁. alloc1 ! (λ l₂. alloc1 ! (λ l₃. alloc0 ! $ params1 ! $ pass1 ! (init ! 4 refl (view_typed 𝓛 κ d is)) $ pass1 ! (init ! 2 refl (typed P 𝓛 xs.0 _ are.0)) $ pass0 ! $
+      assigns ! (of_opd ! (load ! (from ! (fld ! refl (stop !))) (look_in ! 4 (sub ! 0 refl (whole !))))) (from ! (stop !)) (init ! 0 refl (tt, (view_typed 𝓛 κ d is).1.0)) $
       move ! (8 ∷ []) $ use1 𝓛 (raw ((Answer lent R Ps₁ F₁ 𝓛).pre (to lent R Ps₁ F₁ 𝓛 κ q d.bytes xs (slice d.bytes)))) (apart R Ps₁ F₁ 𝓛 κ q d xs) $
       calls_at ! (fm_of 𝓤 H 𝓛.laws 𝓣) (Answer lent R Ps₁ F₁ 𝓛) known (to lent R Ps₁ F₁ 𝓛 κ q d.bytes xs (slice d.bytes)) (and_then ! (load ! (from ! (stop !)) (look ! 1 refl)) (and_then ! (load ! (from ! (stop !)) (look ! 3 refl)) (no_more !))) (λ u. answers lent R Ps₁ F₁ 𝓛 κ q d.bytes xs (slice d.bytes) ! tt u (λ r e ris.
       -- [the answer; the token; _3; …; _2; …; _1; …; room for _0; …]
@@ -123,7 +123,7 @@ module _ (R P : Datum) (f : List ℕ → P.row.Denot → R.row.Denot) {M : Type 
       move ! (8 ∷ 9 ∷ []) $ free1 ! $ move ! (6 ∷ 7 ∷ []) $ free1 ! $ move ! (4 ∷ 5 ∷ []) $ free1 ! $ move ! (2 ∷ 3 ∷ []) $ free1 ! $ free0 ! $ by ! (exits seen R Ps₁ F₁ 𝓛 κ q d xs r u e)))))))
 
   pub one : Shown R Ps₁ F₁ 𝓛 callee
-  one 𝓣 known = meets seen R Ps₁ F₁ 𝓛 𝓣 (function R Ps₁ callee) (one-walk 𝓣 known)
+  one 𝓣 known = meets seen R Ps₁ F₁ 𝓛 𝓣 (function R Ps₁ callee) (one_walk 𝓣 known)
 
 -- ---- the bytes and two data
 module _ (R P Q : Datum) (f : List ℕ → P.row.Denot → Q.row.Denot → R.row.Denot) {M : Type 1} {𝓤 : Ura M} (𝓛 : Logic 𝓤) (callee : Name) where
@@ -135,11 +135,11 @@ module _ (R P Q : Datum) (f : List ℕ → P.row.Denot → Q.row.Denot → R.row
   abbrev F₂ : (κs : Lfts 1) → List ℕ → Data κs Ps₂ → R.row.Denot
   F₂ κs bs xs = f bs xs.0 xs.1.0
 
-  two-walk : (𝓣 : Tables 𝓤 H) → Triple 𝓤 (𝓣.C callee) (Answer lent R Ps₂ F₂ 𝓛) → Walk seen R Ps₂ F₂ 𝓛 𝓣 (function R Ps₂ callee)
-  two-walk 𝓣 known κ q d xs is are =
+  two_walk : (𝓣 : Tables 𝓤 H) → Triple 𝓤 (𝓣.C callee) (Answer lent R Ps₂ F₂ 𝓛) → Walk seen R Ps₂ F₂ 𝓛 𝓣 (function R Ps₂ callee)
+  two_walk 𝓣 known κ q d xs is are =
       qed 𝓛 (raw (Entry seen R Ps₂ F₂ 𝓛 κ q d xs) ∷ []) ∵ enter ! 𝓣.C 𝓣.Λ (function R Ps₂ callee) _ _ $
-      alloc1 ! (λ l₀. alloc1 ! (λ l₁. alloc1 ! (λ l₂. alloc1 ! (λ l₃. alloc1 ! (λ l₄. alloc0 ! $ params1 ! $ pass1 ! (init ! 6 refl (view-typed 𝓛 κ d is)) $ pass1 ! (init ! 4 refl (typed P 𝓛 xs.0 _ are.0)) $ pass1 ! (init ! 2 refl (typed Q 𝓛 xs.1.0 _ are.1.0)) $ pass0 ! $
-      assigns ! (of_opd ! (load ! (from ! (fld ! refl (stop !))) (look_in ! 6 (sub ! 0 refl (whole !))))) (from ! (stop !)) (init ! 0 refl (tt, (view-typed 𝓛 κ d is).1.0)) $
+      alloc1 ! (λ l₀. alloc1 ! (λ l₁. alloc1 ! (λ l₂. alloc1 ! (λ l₃. alloc1 ! (λ l₄. alloc0 ! $ params1 ! $ pass1 ! (init ! 6 refl (view_typed 𝓛 κ d is)) $ pass1 ! (init ! 4 refl (typed P 𝓛 xs.0 _ are.0)) $ pass1 ! (init ! 2 refl (typed Q 𝓛 xs.1.0 _ are.1.0)) $ pass0 ! $
+      assigns ! (of_opd ! (load ! (from ! (fld ! refl (stop !))) (look_in ! 6 (sub ! 0 refl (whole !))))) (from ! (stop !)) (init ! 0 refl (tt, (view_typed 𝓛 κ d is).1.0)) $
       move ! (10 ∷ []) $ use1 𝓛 (raw ((Answer lent R Ps₂ F₂ 𝓛).pre (to lent R Ps₂ F₂ 𝓛 κ q d.bytes xs (slice d.bytes)))) (apart R Ps₂ F₂ 𝓛 κ q d xs) $
       calls_at ! (fm_of 𝓤 H 𝓛.laws 𝓣) (Answer lent R Ps₂ F₂ 𝓛) known (to lent R Ps₂ F₂ 𝓛 κ q d.bytes xs (slice d.bytes)) (and_then ! (load ! (from ! (stop !)) (look ! 1 refl)) (and_then ! (load ! (from ! (stop !)) (look ! 5 refl)) (and_then ! (load ! (from ! (stop !)) (look ! 3 refl)) (no_more !)))) (λ u. answers lent R Ps₂ F₂ 𝓛 κ q d.bytes xs (slice d.bytes) ! tt u (λ r e ris.
       -- [the answer; the token; _4; …; _3; …; _2; …; _1; …; room for _0; …]
@@ -147,7 +147,7 @@ module _ (R P Q : Datum) (f : List ℕ → P.row.Denot → Q.row.Denot → R.row
       move ! (10 ∷ 11 ∷ []) $ free1 ! $ move ! (8 ∷ 9 ∷ []) $ free1 ! $ move ! (6 ∷ 7 ∷ []) $ free1 ! $ move ! (4 ∷ 5 ∷ []) $ free1 ! $ move ! (2 ∷ 3 ∷ []) $ free1 ! $ free0 ! $ by ! (exits seen R Ps₂ F₂ 𝓛 κ q d xs r u e))))))))
 
   pub two : Shown R Ps₂ F₂ 𝓛 callee
-  two 𝓣 known = meets seen R Ps₂ F₂ 𝓛 𝓣 (function R Ps₂ callee) (two-walk 𝓣 known)
+  two 𝓣 known = meets seen R Ps₂ F₂ 𝓛 𝓣 (function R Ps₂ callee) (two_walk 𝓣 known)
 
 -- ---- the bytes and three data
 module _ (R P Q S : Datum) (f : List ℕ → P.row.Denot → Q.row.Denot → S.row.Denot → R.row.Denot) {M : Type 1} {𝓤 : Ura M} (𝓛 : Logic 𝓤) (callee : Name) where
@@ -159,11 +159,11 @@ module _ (R P Q S : Datum) (f : List ℕ → P.row.Denot → Q.row.Denot → S.r
   abbrev F₃ : (κs : Lfts 1) → List ℕ → Data κs Ps₃ → R.row.Denot
   F₃ κs bs xs = f bs xs.0 xs.1.0 xs.1.1.0
 
-  three-walk : (𝓣 : Tables 𝓤 H) → Triple 𝓤 (𝓣.C callee) (Answer lent R Ps₃ F₃ 𝓛) → Walk seen R Ps₃ F₃ 𝓛 𝓣 (function R Ps₃ callee)
-  three-walk 𝓣 known κ q d xs is are =
+  three_walk : (𝓣 : Tables 𝓤 H) → Triple 𝓤 (𝓣.C callee) (Answer lent R Ps₃ F₃ 𝓛) → Walk seen R Ps₃ F₃ 𝓛 𝓣 (function R Ps₃ callee)
+  three_walk 𝓣 known κ q d xs is are =
       qed 𝓛 (raw (Entry seen R Ps₃ F₃ 𝓛 κ q d xs) ∷ []) ∵ enter ! 𝓣.C 𝓣.Λ (function R Ps₃ callee) _ _ $
-      alloc1 ! (λ l₀. alloc1 ! (λ l₁. alloc1 ! (λ l₂. alloc1 ! (λ l₃. alloc1 ! (λ l₄. alloc1 ! (λ l₅. alloc0 ! $ params1 ! $ pass1 ! (init ! 8 refl (view-typed 𝓛 κ d is)) $ pass1 ! (init ! 6 refl (typed P 𝓛 xs.0 _ are.0)) $ pass1 ! (init ! 4 refl (typed Q 𝓛 xs.1.0 _ are.1.0)) $ pass1 ! (init ! 2 refl (typed S 𝓛 xs.1.1.0 _ are.1.1.0)) $ pass0 ! $
-      assigns ! (of_opd ! (load ! (from ! (fld ! refl (stop !))) (look_in ! 8 (sub ! 0 refl (whole !))))) (from ! (stop !)) (init ! 0 refl (tt, (view-typed 𝓛 κ d is).1.0)) $
+      alloc1 ! (λ l₀. alloc1 ! (λ l₁. alloc1 ! (λ l₂. alloc1 ! (λ l₃. alloc1 ! (λ l₄. alloc1 ! (λ l₅. alloc0 ! $ params1 ! $ pass1 ! (init ! 8 refl (view_typed 𝓛 κ d is)) $ pass1 ! (init ! 6 refl (typed P 𝓛 xs.0 _ are.0)) $ pass1 ! (init ! 4 refl (typed Q 𝓛 xs.1.0 _ are.1.0)) $ pass1 ! (init ! 2 refl (typed S 𝓛 xs.1.1.0 _ are.1.1.0)) $ pass0 ! $
+      assigns ! (of_opd ! (load ! (from ! (fld ! refl (stop !))) (look_in ! 8 (sub ! 0 refl (whole !))))) (from ! (stop !)) (init ! 0 refl (tt, (view_typed 𝓛 κ d is).1.0)) $
       move ! (12 ∷ []) $ use1 𝓛 (raw ((Answer lent R Ps₃ F₃ 𝓛).pre (to lent R Ps₃ F₃ 𝓛 κ q d.bytes xs (slice d.bytes)))) (apart R Ps₃ F₃ 𝓛 κ q d xs) $
       calls_at ! (fm_of 𝓤 H 𝓛.laws 𝓣) (Answer lent R Ps₃ F₃ 𝓛) known (to lent R Ps₃ F₃ 𝓛 κ q d.bytes xs (slice d.bytes)) (and_then ! (load ! (from ! (stop !)) (look ! 1 refl)) (and_then ! (load ! (from ! (stop !)) (look ! 7 refl)) (and_then ! (load ! (from ! (stop !)) (look ! 5 refl)) (and_then ! (load ! (from ! (stop !)) (look ! 3 refl)) (no_more !))))) (λ u. answers lent R Ps₃ F₃ 𝓛 κ q d.bytes xs (slice d.bytes) ! tt u (λ r e ris.
       -- [the answer; the token; _5; …; _4; …; _3; …; _2; …; _1; …; room for _0; …]
@@ -171,4 +171,4 @@ module _ (R P Q S : Datum) (f : List ℕ → P.row.Denot → Q.row.Denot → S.r
       move ! (12 ∷ 13 ∷ []) $ free1 ! $ move ! (10 ∷ 11 ∷ []) $ free1 ! $ move ! (8 ∷ 9 ∷ []) $ free1 ! $ move ! (6 ∷ 7 ∷ []) $ free1 ! $ move ! (4 ∷ 5 ∷ []) $ free1 ! $ move ! (2 ∷ 3 ∷ []) $ free1 ! $ free0 ! $ by ! (exits seen R Ps₃ F₃ 𝓛 κ q d xs r u e)))))))))
 
   pub three : Shown R Ps₃ F₃ 𝓛 callee
-  three 𝓣 known = meets seen R Ps₃ F₃ 𝓛 𝓣 (function R Ps₃ callee) (three-walk 𝓣 known)
+  three 𝓣 known = meets seen R Ps₃ F₃ 𝓛 𝓣 (function R Ps₃ callee) (three_walk 𝓣 known)

@@ -3,7 +3,7 @@ use Rattle.std.specs.Prelude.{ℕ}
 use Rattle.view.specs.declared.NodeFound.{NodeFound}
 use Rattle.view.specs.declared.NodeFound.TheVariants as NodeFound
 
-abbrev pub numberOfNodeFound : NodeFound → ℕ
-numberOfNodeFound (NodeFound.At index) = 0
-numberOfNodeFound NodeFound.Nothing = 0
-numberOfNodeFound (NodeFound.Refused number) = number
+abbrev pub number_of_node_found : NodeFound → ℕ
+number_of_node_found (NodeFound.At index) = 0
+number_of_node_found NodeFound.Nothing = 0
+number_of_node_found (NodeFound.Refused number) = number

@@ -19,16 +19,16 @@ view_of bs = record { bytes = bs; head = head_of bs.now }
 
 -- ---- from bytes that may be no tile: `Tile::parse`, then `node_at`
 
-abbrev pub foundAs : Found → NodeFound
-foundAs (Found.At i) = NodeFound.At i
-foundAs Found.Nothing = NodeFound.Nothing
+abbrev pub found_as : Found → NodeFound
+found_as (Found.At i) = NodeFound.At i
+found_as Found.Nothing = NodeFound.Nothing
 
-abbrev pub nodeAtIn : Parsed → List ℕ → ℕ → ℕ → NodeFound
-nodeAtIn (Parsed.Refused n) bs x y = NodeFound.Refused n
-nodeAtIn (Parsed.Tile h) bs x y = foundAs (Readers.nodeAt bs x y)
+abbrev pub node_at_in : Parsed → List ℕ → ℕ → ℕ → NodeFound
+node_at_in (Parsed.Refused n) bs x y = NodeFound.Refused n
+node_at_in (Parsed.Tile h) bs x y = found_as (Readers.node_at bs x y)
 
-abbrev pub nodeAt : List ℕ → TileKey → ℕ → ℕ → ℕ → NodeFound
-nodeAt bs key size x y = nodeAtIn (Parse.parse bs key size) bs x y
+abbrev pub node_at : List ℕ → TileKey → ℕ → ℕ → ℕ → NodeFound
+node_at bs key size x y = node_at_in (Parse.parse bs key size) bs x y
 
 -- a node is found: document 02, request 7
 abbrev pub is_at : NodeFound → Bool

@@ -48,7 +48,7 @@ impl<'a> Tile<'a> {
     // The view of a run of the arena, by its first page and length as the cache's lookup answers them. Of a run that passes the arena's end, the part
     // that is there.
     pub fn run(arena: &'a [u8], first: usize, len: usize) -> Tile<'a>
-        ensures { (result.bytes.now ≡ Lookups.runBytes arena.now first len) × (result.head ≡ Layout.head_of (Lookups.runBytes arena.now first len)) }
+        ensures { (result.bytes.now ≡ Lookups.run_bytes arena.now first len) × (result.head ≡ Layout.head_of (Lookups.run_bytes arena.now first len)) }
     {
         Tile::view(on::run(arena, first, len))
     }
@@ -73,13 +73,13 @@ impl<'a> Tile<'a> {
     }
 
     pub fn node_count(self) -> usize
-        ensures { result ≡ Layout.nodesOf self.entry.bytes.now }
+        ensures { result ≡ Layout.nodes_of self.entry.bytes.now }
     {
         on::node_count(self.bytes)
     }
 
     pub fn edge_count(self) -> usize
-        ensures { result ≡ Layout.edgesOf self.entry.bytes.now }
+        ensures { result ≡ Layout.edges_of self.entry.bytes.now }
     {
         on::edge_count(self.bytes)
     }
@@ -99,7 +99,7 @@ impl<'a> Tile<'a> {
 
     // An edge at a node, by its place among all adjacency entries, and whether it ends there.
     pub fn incident_entry(self, entry: u32) -> EntryRead
-        ensures { result ≡ Readers.incidentEntry self.entry.bytes.now entry }
+        ensures { result ≡ Readers.incident_entry self.entry.bytes.now entry }
     {
         tile::read::incident_entry(self.bytes, entry)
     }
@@ -119,14 +119,14 @@ impl<'a> Tile<'a> {
 
     // The node at exactly (x, y).
     pub fn node_at(self, x: u16, y: u16) -> Found
-        ensures { result ≡ Readers.nodeAt self.entry.bytes.now x y }
+        ensures { result ≡ Readers.node_at self.entry.bytes.now x y }
     {
         tile::read::node_at(self.bytes, x, y)
     }
 
     // Point `index` of an edge, as a global point and elevation: geo.rs's function of that name.
     pub fn edge_point(self, header: Header, edge: Edge, index: usize) -> EdgePoint
-        ensures { result ≡ Points.edgePoint header self.entry.bytes.now edge index }
+        ensures { result ≡ Points.edge_point header self.entry.bytes.now edge index }
     {
         on::edge_point(self.bytes, header, edge, index)
     }
@@ -134,7 +134,7 @@ impl<'a> Tile<'a> {
 
 // The node at exactly (x, y) of a tile's bytes; 4 where they are no tile of that key.
 pub fn node_at(bytes: &[u8], key: TileKey, size: u32, x: u16, y: u16) -> NodeFound
-    ensures { result ≡ Views.nodeAt bytes.now key size x y }
+    ensures { result ≡ Views.node_at bytes.now key size x y }
 {
     match tile::parse(bytes, key, size) {
         Parsed::Refused(number) => NodeFound::Refused(number),
@@ -154,7 +154,7 @@ pub fn edge_point(
     edge: Edge,
     index: usize,
 ) -> EdgePoint
-    ensures { result ≡ Points.edgePoint header (Lookups.runBytes arena.now first len) edge index }
+    ensures { result ≡ Points.edge_point header (Lookups.run_bytes arena.now first len) edge index }
 {
     through::edge_point(on::run(arena, first, len), header, edge, index)
 }

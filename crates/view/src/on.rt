@@ -10,7 +10,7 @@ use tile::Edge;
 
 // The bytes of a run: `len` of them from page `first` on, or as many as the arena has there.
 pub fn run<'a>(arena: &'a [u8], first: usize, len: usize) -> &'a [u8]
-    ensures { result.now ≡ Lookups.runBytes arena.now first len }
+    ensures { result.now ≡ Lookups.run_bytes arena.now first len }
 {
     let end = arena.len();
     if end / cache::PAGE_BYTES < first {
@@ -24,20 +24,20 @@ pub fn run<'a>(arena: &'a [u8], first: usize, len: usize) -> &'a [u8]
 }
 
 pub fn node_count(bytes: &[u8]) -> usize
-    ensures { result ≡ Layout.nodesOf bytes.now }
+    ensures { result ≡ Layout.nodes_of bytes.now }
 {
     pack::bytes::u16_at(bytes, 8) as usize
 }
 
 pub fn edge_count(bytes: &[u8]) -> usize
-    ensures { result ≡ Layout.edgesOf bytes.now }
+    ensures { result ≡ Layout.edges_of bytes.now }
 {
     pack::bytes::u16_at(bytes, 10) as usize
 }
 
 // geo.rs's edge_point, with the bytes first.
 pub fn edge_point(bytes: &[u8], header: Header, edge: Edge, index: usize) -> EdgePoint
-    ensures { result ≡ Points.edgePoint header bytes.now edge index }
+    ensures { result ≡ Points.edge_point header bytes.now edge index }
 {
     geo::edge_point(header, bytes, edge, index)
 }

@@ -10,13 +10,13 @@ use pack::Header;
 use tile::{Edge, EdgeRead, Entries, EntryRead, Found, NodeRead};
 
 pub fn node_count(bytes: &[u8]) -> usize
-    ensures { result ≡ Layout.nodesOf bytes.now }
+    ensures { result ≡ Layout.nodes_of bytes.now }
 {
     Tile::view(bytes).node_count()
 }
 
 pub fn edge_count(bytes: &[u8]) -> usize
-    ensures { result ≡ Layout.edgesOf bytes.now }
+    ensures { result ≡ Layout.edges_of bytes.now }
 {
     Tile::view(bytes).edge_count()
 }
@@ -34,7 +34,7 @@ pub fn incident(bytes: &[u8], node: u16) -> Entries
 }
 
 pub fn incident_entry(bytes: &[u8], entry: u32) -> EntryRead
-    ensures { result ≡ Readers.incidentEntry bytes.now entry }
+    ensures { result ≡ Readers.incident_entry bytes.now entry }
 {
     Tile::view(bytes).incident_entry(entry)
 }
@@ -59,13 +59,13 @@ pub fn points(edge: Edge) -> usize
 }
 
 pub fn node_at(bytes: &[u8], x: u16, y: u16) -> Found
-    ensures { result ≡ Readers.nodeAt bytes.now x y }
+    ensures { result ≡ Readers.node_at bytes.now x y }
 {
     Tile::view(bytes).node_at(x, y)
 }
 
 pub fn edge_point(bytes: &[u8], header: Header, edge: Edge, index: usize) -> EdgePoint
-    ensures { result ≡ Points.edgePoint header bytes.now edge index }
+    ensures { result ≡ Points.edge_point header bytes.now edge index }
 {
     Tile::view(bytes).edge_point(header, edge, index)
 }

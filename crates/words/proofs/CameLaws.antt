@@ -1,6 +1,6 @@
--- What the answer to a fetch leaves, as words: the pieces that are put, one after the other, give the words of what the engine's own definitions leave (`open-put`, .., `further-left`).
--- Which definition that is, by the tests: number 12 (`deliver-tested`, `deliver-refused`, `step-refused`), a chunk that leaves more to come (`chunk-goes-on`), a read from a lent pack (`read-there`,
--- `read_past`), and what a step over one leaves open (`step-fetches`, `step-works`). The idea of the first: accepted words are an engine's (`words-engine`), and a piece that is put gives
+-- What the answer to a fetch leaves, as words: the pieces that are put, one after the other, give the words of what the engine's own definitions leave (`open_put`, .., `further_left`).
+-- Which definition that is, by the tests: number 12 (`deliver_tested`, `deliver_refused`, `step_refused`), a chunk that leaves more to come (`chunk_goes_on`), a read from a lent pack (`read_there`,
+-- `read_past`), and what a step over one leaves open (`step_fetches`, `step_works`). The idea of the first: accepted words are an engine's (`words_engine`), and a piece that is put gives
 -- the words of that engine with the piece (`SetLaws`).
 use Rattle.std.proofs.Common.{◌≡◌, ℕ, ◌+◌, ◌-◌, ◌%◌, ◌<◌, ◌≤◌, Bool, true, false, cond, ◌&&◌, eqb, ltb, ◌⊎◌, List, [], ◌∷◌, length, get_or, take, drop, sym, refl, ap, ◌∙◌, true≢false, arith, ltb-true, eqb-true}
 use denote.Enum.Declared.{tag_of}
@@ -9,8 +9,8 @@ use Rattle.pack.specs.declared.Header.{Header}
 use Rattle.pack.specs.declared.Range.TheVariants as Range
 use Rattle.pack.specs.declared.TileKey.{TileKey}
 use Rattle.pack.proofs.Laws.{and_left, and_right}
-use Rattle.cache.specs.Calls.{loadTested}
-use Rattle.cache.specs.Loads.{chunkLen, moved}
+use Rattle.cache.specs.Calls.{load_tested}
+use Rattle.cache.specs.Loads.{chunk_len, moved}
 use Rattle.cache.specs.Loads as Loads
 use Rattle.cache.specs.Lookups.{after}
 use Rattle.cache.specs.declared.Cache.{Cache}
@@ -21,11 +21,11 @@ use Rattle.cache.specs.declared.MaybeLoading.{MaybeLoading}
 use Rattle.cache.specs.declared.MaybeLoading.TheVariants as MaybeLoading
 use Rattle.cache.specs.declared.Pending.{Pending}
 use Rattle.cache.specs.declared.Pending.TheVariants as Pending
-use Rattle.cache.proofs.StepLaws.{chunk-less}
+use Rattle.cache.proofs.StepLaws.{chunk_less}
 use Rattle.engine.specs.Calls as Engines
-use Rattle.engine.specs.Deliver.{over, withPending, headerFailed, needless, loaded, loadFailed, partCame, needCameBy, needCame, deliveredBy, delivered}
-use Rattle.engine.specs.State.{engineOk, refused}
-use Rattle.engine.specs.Steps.{requestOf, opened, stepped}
+use Rattle.engine.specs.Deliver.{over, with_pending, header_failed, needless, loaded, load_failed, part_came, need_came_by, need_came, delivered_by, delivered}
+use Rattle.engine.specs.State.{engine_ok, refused}
+use Rattle.engine.specs.Steps.{request_of, opened, stepped}
 use Rattle.engine.specs.declared.Engine.{Engine}
 use Rattle.engine.specs.declared.Phase.{Phase}
 use Rattle.engine.specs.declared.Phase.TheVariants as Phase
@@ -34,283 +34,283 @@ use Rattle.engine.specs.declared.Status.TheVariants as Status
 use Rattle.engine.specs.declared.Stepped.{Stepped}
 use Rattle.engine.specs.declared.plan.Plan.{Plan}
 use Rattle.engine.specs.contracts.Status as Statuses
-use Rattle.engine.proofs.StepNeeds.{step-over}
-use Rattle.engine.proofs.SummaryLaws.{chunk-more}
+use Rattle.engine.proofs.StepNeeds.{step_over}
+use Rattle.engine.proofs.SummaryLaws.{chunk_more}
 use Rattle.engine_states.proofs.EngineClosed.{step_ok}
 use Rattle.words.specs.Calls as Calls
 use Rattle.words.specs.Came as Came
 use Rattle.words.specs.declared.steps.Planned.TheVariants as Planned
-use Rattle.words.specs.Opens.{tested, planned, openedAs}
+use Rattle.words.specs.Opens.{tested, planned, opened_as}
 use Rattle.words.specs.Put.{put}
-use Rattle.words.specs.Words.{from, phaseWord, headerWords, headerBy, loadingWords, loadingBy, pendingWords, cacheWords, dueWords, dueOf, pendingOf, cacheOf, sharedOf, followerOf, words, engineOf, accepted}
-use Rattle.words.proofs.OpenLaws.{isOpen, closed-step, no-fetch}
-use Rattle.words.proofs.SetLaws.{phase-put, header-put-in, cache-put-in, loading-put, pending-put, due-put-in, failures-put, steps-put}
-use Rattle.words.proofs.StepLaws.{planned-refused, planned-opens, planned-works, leaves-open}
-use Rattle.words.proofs.WordsLaws.{words-engine}
+use Rattle.words.specs.Words.{from, phase_word, header_words, header_by, loading_words, loading_by, pending_words, cache_words, due_words, due_of, pending_of, cache_of, shared_of, follower_of, words, engine_of, accepted}
+use Rattle.words.proofs.OpenLaws.{is_open, closed_step, no_fetch}
+use Rattle.words.proofs.SetLaws.{phase_put, header_put_in, cache_put_in, loading_put, pending_put, due_put_in, failures_put, steps_put}
+use Rattle.words.proofs.StepLaws.{planned_refused, planned-opens, planned_works, leaves_open}
+use Rattle.words.proofs.WordsLaws.{words_engine}
 
 -- ---- what is read
 
 module _ (ws : List ℕ) where
-  pub failures-in : (engineOf ws).follower.failures ≡ get_or ws 1147 0 % 256
-  unfolding engineOf followerOf
-  failures-in = refl
+  pub failures_in : (engine_of ws).follower.failures ≡ get_or ws 1147 0 % 256
+  unfolding engine_of follower_of
+  failures_in = refl
 
-  pub due_in : (engineOf ws).follower.due ≡ dueOf ws 603
-  unfolding engineOf followerOf
+  pub due_in : (engine_of ws).follower.due ≡ due_of ws 603
+  unfolding engine_of follower_of
   due_in = refl
 
-  pub loading-in : (engineOf ws).shared.cache.loading ≡ loadingBy (from ws 530)
-  unfolding engineOf sharedOf cacheOf
-  loading-in = refl
+  pub loading_in : (engine_of ws).shared.cache.loading ≡ loading_by (from ws 530)
+  unfolding engine_of shared_of cache_of
+  loading_in = refl
 
 -- ---- pieces that are put
 
 module _ (ws : List ℕ) (h : accepted ws ≡ true) where
   abbrev e₀ : Engine
-  e₀ = engineOf ws
+  e₀ = engine_of ws
 
   here : ws ≡ words e₀
-  here = sym (words-engine ws h)
+  here = sym (words_engine ws h)
 
   abbrev next : List ℕ
   next = after (get_or ws 1149 0) ∷ []
 
-  pub open-put : (p : Pending) → put 536 (pendingWords p) ws ≡ words (openedAs e₀ p)
-  open-put p = ap (put 536 (pendingWords p)) here ∙ pending-put e₀ p
+  pub open_put : (p : Pending) → put 536 (pending_words p) ws ≡ words (opened_as e₀ p)
+  open_put p = ap (put 536 (pending_words p)) here ∙ pending_put e₀ p
 
-  pub phase-left : (p : Phase) (n : ℕ)
-      → put 1147 (n ∷ []) (put 536 (pendingWords Pending.Nothing) (put 1 (phaseWord p ∷ []) ws)) ≡ words (Came.phased e₀ p e₀.shared.header n)
-  phase-left p n =
-      ap (λ (r : List ℕ). put 1147 (n ∷ []) (put 536 (pendingWords Pending.Nothing) (put 1 (phaseWord p ∷ []) r))) here
-      ∙ ap (λ (r : List ℕ). put 1147 (n ∷ []) (put 536 (pendingWords Pending.Nothing) r)) (phase-put _ p)
-      ∙ ap (put 1147 (n ∷ [])) (pending-put _ Pending.Nothing)
-      ∙ failures-put _ n
+  pub phase_left : (p : Phase) (n : ℕ)
+      → put 1147 (n ∷ []) (put 536 (pending_words Pending.Nothing) (put 1 (phase_word p ∷ []) ws)) ≡ words (Came.phased e₀ p e₀.shared.header n)
+  phase_left p n =
+      ap (λ (r : List ℕ). put 1147 (n ∷ []) (put 536 (pending_words Pending.Nothing) (put 1 (phase_word p ∷ []) r))) here
+      ∙ ap (λ (r : List ℕ). put 1147 (n ∷ []) (put 536 (pending_words Pending.Nothing) r)) (phase_put _ p)
+      ∙ ap (put 1147 (n ∷ [])) (pending_put _ Pending.Nothing)
+      ∙ failures_put _ n
 
   pub read_left : (a : Header)
-      → put 1147 (0 ∷ []) (put 536 (pendingWords Pending.Nothing) (put 2 (headerWords a) (put 1 (1 ∷ []) ws))) ≡ words (Came.phased e₀ Phase.Ready a 0)
+      → put 1147 (0 ∷ []) (put 536 (pending_words Pending.Nothing) (put 2 (header_words a) (put 1 (1 ∷ []) ws))) ≡ words (Came.phased e₀ Phase.Ready a 0)
   read_left a =
-      ap (λ (r : List ℕ). put 1147 (0 ∷ []) (put 536 (pendingWords Pending.Nothing) (put 2 (headerWords a) (put 1 (1 ∷ []) r)))) here
-      ∙ ap (λ (r : List ℕ). put 1147 (0 ∷ []) (put 536 (pendingWords Pending.Nothing) (put 2 (headerWords a) r))) (phase-put _ Phase.Ready)
-      ∙ ap (λ (r : List ℕ). put 1147 (0 ∷ []) (put 536 (pendingWords Pending.Nothing) r)) (header-put-in _ a)
-      ∙ ap (put 1147 (0 ∷ [])) (pending-put _ Pending.Nothing)
-      ∙ failures-put _ 0
+      ap (λ (r : List ℕ). put 1147 (0 ∷ []) (put 536 (pending_words Pending.Nothing) (put 2 (header_words a) (put 1 (1 ∷ []) r)))) here
+      ∙ ap (λ (r : List ℕ). put 1147 (0 ∷ []) (put 536 (pending_words Pending.Nothing) (put 2 (header_words a) r))) (phase_put _ Phase.Ready)
+      ∙ ap (λ (r : List ℕ). put 1147 (0 ∷ []) (put 536 (pending_words Pending.Nothing) r)) (header_put_in _ a)
+      ∙ ap (put 1147 (0 ∷ [])) (pending_put _ Pending.Nothing)
+      ∙ failures_put _ 0
 
-  pub done-left : (c : Cache)
-      → put 1149 next (put 1147 (0 ∷ []) (put 603 (dueWords (needless (dueOf ws 603))) (put 15 (cacheWords c) ws))) ≡ words (Came.done e₀ c)
-  unfolding engineOf followerOf
-  done-left c =
-      let due = dueWords (needless (dueOf ws 603)) in
-      ap (λ (r : List ℕ). put 1149 next (put 1147 (0 ∷ []) (put 603 due (put 15 (cacheWords c) r)))) here
-      ∙ ap (λ (r : List ℕ). put 1149 next (put 1147 (0 ∷ []) (put 603 due r))) (cache-put-in _ c)
-      ∙ ap (λ (r : List ℕ). put 1149 next (put 1147 (0 ∷ []) r)) (due-put-in _ (needless (dueOf ws 603)))
-      ∙ ap (put 1149 next) (failures-put _ 0)
-      ∙ steps-put _ (after (get_or ws 1149 0))
+  pub done_left : (c : Cache)
+      → put 1149 next (put 1147 (0 ∷ []) (put 603 (due_words (needless (due_of ws 603))) (put 15 (cache_words c) ws))) ≡ words (Came.done e₀ c)
+  unfolding engine_of follower_of
+  done_left c =
+      let due = due_words (needless (due_of ws 603)) in
+      ap (λ (r : List ℕ). put 1149 next (put 1147 (0 ∷ []) (put 603 due (put 15 (cache_words c) r)))) here
+      ∙ ap (λ (r : List ℕ). put 1149 next (put 1147 (0 ∷ []) (put 603 due r))) (cache_put_in _ c)
+      ∙ ap (λ (r : List ℕ). put 1149 next (put 1147 (0 ∷ []) r)) (due_put_in _ (needless (due_of ws 603)))
+      ∙ ap (put 1149 next) (failures_put _ 0)
+      ∙ steps_put _ (after (get_or ws 1149 0))
 
-  pub more_left : (c : Cache) → put 1149 next (put 15 (cacheWords c) ws) ≡ words (Came.more e₀ c)
-  unfolding engineOf followerOf
+  pub more_left : (c : Cache) → put 1149 next (put 15 (cache_words c) ws) ≡ words (Came.more e₀ c)
+  unfolding engine_of follower_of
   more_left c =
-      ap (λ (r : List ℕ). put 1149 next (put 15 (cacheWords c) r)) here
-      ∙ ap (put 1149 next) (cache-put-in _ c)
-      ∙ steps-put _ (after (get_or ws 1149 0))
+      ap (λ (r : List ℕ). put 1149 next (put 15 (cache_words c) r)) here
+      ∙ ap (put 1149 next) (cache_put_in _ c)
+      ∙ steps_put _ (after (get_or ws 1149 0))
 
   abbrev failures : ℕ
   failures = get_or ws 1147 0 % 256
 
-  pub failed-left : (c : Cache) → ltb failures 7 ≡ true
-      → put 1147 ((failures + 1) ∷ []) (put 1149 next (put 15 (cacheWords c) ws)) ≡ words (loadFailed e₀ c).engine
-  unfolding engineOf followerOf loadFailed
-  failed-left c few =
+  pub failed_left : (c : Cache) → ltb failures 7 ≡ true
+      → put 1147 ((failures + 1) ∷ []) (put 1149 next (put 15 (cache_words c) ws)) ≡ words (load_failed e₀ c).engine
+  unfolding engine_of follower_of load_failed
+  failed_left c few =
       rw few
-      (ap (λ (r : List ℕ). put 1147 ((failures + 1) ∷ []) (put 1149 next (put 15 (cacheWords c) r))) here
-      ∙ ap (λ (r : List ℕ). put 1147 ((failures + 1) ∷ []) (put 1149 next r)) (cache-put-in _ c)
-      ∙ ap (put 1147 ((failures + 1) ∷ [])) (steps-put _ (after (get_or ws 1149 0)))
-      ∙ failures-put _ (failures + 1))
+      (ap (λ (r : List ℕ). put 1147 ((failures + 1) ∷ []) (put 1149 next (put 15 (cache_words c) r))) here
+      ∙ ap (λ (r : List ℕ). put 1147 ((failures + 1) ∷ []) (put 1149 next r)) (cache_put_in _ c)
+      ∙ ap (put 1147 ((failures + 1) ∷ [])) (steps_put _ (after (get_or ws 1149 0)))
+      ∙ failures_put _ (failures + 1))
 
-  pub failed-tells : (c : Cache) → ltb failures 7 ≡ true → (loadFailed e₀ c).answer ≡ Status.Working
-  unfolding engineOf followerOf loadFailed
-  failed-tells c few = rw few
+  pub failed_tells : (c : Cache) → ltb failures 7 ≡ true → (load_failed e₀ c).answer ≡ Status.Working
+  unfolding engine_of follower_of load_failed
+  failed_tells c few = rw few
 
-  pub eighth-tells : (c : Cache) → ltb failures 7 ≡ false → (loadFailed e₀ c).answer ≡ Status.NoPack
-  unfolding engineOf followerOf loadFailed
-  eighth-tells c many = rw many
+  pub eighth_tells : (c : Cache) → ltb failures 7 ≡ false → (load_failed e₀ c).answer ≡ Status.NoPack
+  unfolding engine_of follower_of load_failed
+  eighth_tells c many = rw many
 
-  pub eighth-left : (c : Cache) → ltb failures 7 ≡ false
-      → put 1 (2 ∷ []) (put 1147 (8 ∷ []) (put 1149 next (put 15 (cacheWords c) ws))) ≡ words (loadFailed e₀ c).engine
-  unfolding engineOf followerOf loadFailed
-  eighth-left c many =
+  pub eighth_left : (c : Cache) → ltb failures 7 ≡ false
+      → put 1 (2 ∷ []) (put 1147 (8 ∷ []) (put 1149 next (put 15 (cache_words c) ws))) ≡ words (load_failed e₀ c).engine
+  unfolding engine_of follower_of load_failed
+  eighth_left c many =
       rw many
-      (ap (λ (r : List ℕ). put 1 (2 ∷ []) (put 1147 (8 ∷ []) (put 1149 next (put 15 (cacheWords c) r)))) here
-      ∙ ap (λ (r : List ℕ). put 1 (2 ∷ []) (put 1147 (8 ∷ []) (put 1149 next r))) (cache-put-in _ c)
-      ∙ ap (λ (r : List ℕ). put 1 (2 ∷ []) (put 1147 (8 ∷ []) r)) (steps-put _ (after (get_or ws 1149 0)))
-      ∙ ap (put 1 (2 ∷ [])) (failures-put _ 8)
-      ∙ phase-put _ Phase.Failed)
+      (ap (λ (r : List ℕ). put 1 (2 ∷ []) (put 1147 (8 ∷ []) (put 1149 next (put 15 (cache_words c) r)))) here
+      ∙ ap (λ (r : List ℕ). put 1 (2 ∷ []) (put 1147 (8 ∷ []) (put 1149 next r))) (cache_put_in _ c)
+      ∙ ap (λ (r : List ℕ). put 1 (2 ∷ []) (put 1147 (8 ∷ []) r)) (steps_put _ (after (get_or ws 1149 0)))
+      ∙ ap (put 1 (2 ∷ [])) (failures_put _ 8)
+      ∙ phase_put _ Phase.Failed)
 
-  pub further-left : (l : Loading) (come : ℕ)
-      → put 1149 next (put 536 (pendingWords Pending.Nothing) (put 530 (loadingWords (MaybeLoading.Tile (Came.loadWith l come))) ws)) ≡ words (Came.further e₀ l come)
-  unfolding engineOf followerOf
-  further-left l come =
-      let load = MaybeLoading.Tile (Came.loadWith l come) in
-      ap (λ (r : List ℕ). put 1149 next (put 536 (pendingWords Pending.Nothing) (put 530 (loadingWords load) r))) here
-      ∙ ap (λ (r : List ℕ). put 1149 next (put 536 (pendingWords Pending.Nothing) r)) (loading-put _ load)
-      ∙ ap (put 1149 next) (pending-put _ Pending.Nothing)
-      ∙ steps-put _ (after (get_or ws 1149 0))
+  pub further_left : (l : Loading) (come : ℕ)
+      → put 1149 next (put 536 (pending_words Pending.Nothing) (put 530 (loading_words (MaybeLoading.Tile (Came.load_with l come))) ws)) ≡ words (Came.further e₀ l come)
+  unfolding engine_of follower_of
+  further_left l come =
+      let load = MaybeLoading.Tile (Came.load_with l come) in
+      ap (λ (r : List ℕ). put 1149 next (put 536 (pending_words Pending.Nothing) (put 530 (loading_words load) r))) here
+      ∙ ap (λ (r : List ℕ). put 1149 next (put 536 (pending_words Pending.Nothing) r)) (loading_put _ load)
+      ∙ ap (put 1149 next) (pending_put _ Pending.Nothing)
+      ∙ steps_put _ (after (get_or ws 1149 0))
 
 -- ---- the header failed
 
 module _ (e : Engine) (failure : ℕ) where
-  pub header-tried : eqb failure 1 ≡ true → ltb e.follower.failures 7 ≡ true
-      → headerFailed (openedAs e Pending.Header) failure
+  pub header_tried : eqb failure 1 ≡ true → ltb e.follower.failures 7 ≡ true
+      → header_failed (opened_as e Pending.Header) failure
       ≡ record { answer = Status.Working; engine = Came.phased e Phase.Unread e.shared.header (e.follower.failures + 1) }
-  unfolding headerFailed
-  header-tried missed few = rw (missed, few)
+  unfolding header_failed
+  header_tried missed few = rw (missed, few)
 
   abbrev fails : Type 0
-  fails = headerFailed (openedAs e Pending.Header) failure ≡ record { answer = Status.NoPack; engine = Came.phased e Phase.Failed e.shared.header e.follower.failures }
+  fails = header_failed (opened_as e Pending.Header) failure ≡ record { answer = Status.NoPack; engine = Came.phased e Phase.Failed e.shared.header e.follower.failures }
 
-  failed-by : (b d : Bool) → (b && d) ≡ false → eqb failure 1 ≡ b → ltb e.follower.failures 7 ≡ d → fails
-  unfolding headerFailed
-  failed-by false d q missed few = rw missed
-  failed-by true false q missed few = rw (missed, few)
-  failed-by true true q missed few = absurd (true≢false q)
+  failed_by : (b d : Bool) → (b && d) ≡ false → eqb failure 1 ≡ b → ltb e.follower.failures 7 ≡ d → fails
+  unfolding header_failed
+  failed_by false d q missed few = rw missed
+  failed_by true false q missed few = rw (missed, few)
+  failed_by true true q missed few = absurd (true≢false q)
 
-  pub header-unread : eqb failure 1 ≡ false → fails
-  header-unread other = failed-by false (ltb e.follower.failures 7) refl other refl
+  pub header_unread : eqb failure 1 ≡ false → fails
+  header_unread other = failed_by false (ltb e.follower.failures 7) refl other refl
 
-  pub header-given-up : ltb e.follower.failures 7 ≡ false → eqb failure 1 ≡ true → fails
-  header-given-up many missed = failed-by true false refl missed many
+  pub header_given_up : ltb e.follower.failures 7 ≡ false → eqb failure 1 ≡ true → fails
+  header_given_up many missed = failed_by true false refl missed many
 
 -- ---- a part of the needed tile
 
 module _ (ws : List ℕ) (p : Pending) (arena : List ℕ) (failure : ℕ) (bs : List ℕ) where
   abbrev e₁ : Engine
-  e₁ = openedAs (engineOf ws) p
+  e₁ = opened_as (engine_of ws) p
 
-  pub none_came : (engineOf ws).follower.due.need ≡ MaybeKey.Nothing → needCame e₁ arena failure bs ≡ over (refused e₁ 11) arena
-  none_came q = ap (λ (k : MaybeKey). needCameBy k e₁ arena failure bs) q
+  pub none_came : (engine_of ws).follower.due.need ≡ MaybeKey.Nothing → need_came e₁ arena failure bs ≡ over (refused e₁ 11) arena
+  none_came q = ap (λ (k : MaybeKey). need_came_by k e₁ arena failure bs) q
 
-  pub some-came : {key : TileKey} → (engineOf ws).follower.due.need ≡ MaybeKey.Key key
-      → (let x = loadTested (withPending (cacheOf ws 15) p) arena (headerBy (from ws 2)) key failure bs in
-      needCame e₁ arena failure bs ≡ over (loaded e₁ (Loads.told x)) x.arena)
-  unfolding partCame engineOf sharedOf
-  some-came q = ap (λ (k : MaybeKey). needCameBy k e₁ arena failure bs) q
+  pub some_came : {key : TileKey} → (engine_of ws).follower.due.need ≡ MaybeKey.Key key
+      → (let x = load_tested (with_pending (cache_of ws 15) p) arena (header_by (from ws 2)) key failure bs in
+      need_came e₁ arena failure bs ≡ over (loaded e₁ (Loads.told x)) x.arena)
+  unfolding part_came engine_of shared_of
+  some_came q = ap (λ (k : MaybeKey). need_came_by k e₁ arena failure bs) q
 
 -- ---- a chunk that leaves more to come
 
 -- it is part of what is left of its tile
-pub tile-less : {m : MaybeLoading} {l : Loading} → m ≡ MaybeLoading.Tile l → chunkLen l ≤ l.len - l.done
-tile-less {m} {l} q = chunk-less l
+pub tile_less : {m : MaybeLoading} {l : Loading} → m ≡ MaybeLoading.Tile l → chunk_len l ≤ l.len - l.done
+tile_less {m} {l} q = chunk_less l
 
-module _ (e : Engine) (arena bs : List ℕ) (failure : ℕ) (ok : engineOk (openedAs e Pending.Chunk) (length arena) ≡ true)
-    {l : Loading} (loads : e.shared.cache.loading ≡ MaybeLoading.Tile l) (more : Came.isMore l failure (length bs) ≡ true) where
-  pub chunk-goes-on : needCame (openedAs e Pending.Chunk) arena failure bs
-      ≡ over (record { answer = Status.Working; engine = Came.further e l (l.done + chunkLen l) }) (Loads.put arena l.slot l.done bs)
+module _ (e : Engine) (arena bs : List ℕ) (failure : ℕ) (ok : engine_ok (opened_as e Pending.Chunk) (length arena) ≡ true)
+    {l : Loading} (loads : e.shared.cache.loading ≡ MaybeLoading.Tile l) (more : Came.is_more l failure (length bs) ≡ true) where
+  pub chunk_goes_on : need_came (opened_as e Pending.Chunk) arena failure bs
+      ≡ over (record { answer = Status.Working; engine = Came.further e l (l.done + chunk_len l) }) (Loads.put arena l.slot l.done bs)
   unfolding delivered moved
-  chunk-goes-on =
+  chunk_goes_on =
       let rest = and_right (eqb failure 0) _ more in
       let zero_is : failure ≡ 0 = eqb-true failure 0 (and_left (eqb failure 0) _ more) in
-      let fits : length bs ≡ chunkLen l = eqb-true (length bs) (chunkLen l) (and_left (eqb (length bs) (chunkLen l)) _ rest) in
-      let left : l.done + chunkLen l < l.len = ltb-true (l.done + chunkLen l) l.len (and_right (eqb (length bs) (chunkLen l)) _ rest) in
-      ap (λ (n : ℕ). needCame (openedAs e Pending.Chunk) arena n bs) zero_is ∙ chunk-more (openedAs e Pending.Chunk) arena bs ok l refl loads fits left
+      let fits : length bs ≡ chunk_len l = eqb-true (length bs) (chunk_len l) (and_left (eqb (length bs) (chunk_len l)) _ rest) in
+      let left : l.done + chunk_len l < l.len = ltb-true (l.done + chunk_len l) l.len (and_right (eqb (length bs) (chunk_len l)) _ rest) in
+      ap (λ (n : ℕ). need_came (opened_as e Pending.Chunk) arena n bs) zero_is ∙ chunk_more (opened_as e Pending.Chunk) arena bs ok l refl loads fits left
 
 -- ---- the answer, by the fetch
 
-pub by-fetch : (e : Engine) {p q : Pending} → p ≡ q → (arena : List ℕ) (failure : ℕ) (bs : List ℕ)
-    → delivered (openedAs e p) arena failure bs ≡ deliveredBy q (openedAs e p) arena failure bs
+pub by_fetch : (e : Engine) {p q : Pending} → p ≡ q → (arena : List ℕ) (failure : ℕ) (bs : List ℕ)
+    → delivered (opened_as e p) arena failure bs ≡ delivered_by q (opened_as e p) arena failure bs
 unfolding delivered
-by-fetch e {p} r arena failure bs = ap (λ (x : Pending). deliveredBy x (openedAs e p) arena failure bs) r
+by_fetch e {p} r arena failure bs = ap (λ (x : Pending). delivered_by x (opened_as e p) arena failure bs) r
 
 -- ---- a read from a lent pack
 
-module _ (e : Engine) (arena : List ℕ) (offset len : ℕ) (pack : List ℕ) (ok : engineOk e (length arena) ≡ true) where
-  pub read-there : {a : ℕ} → read pack offset len ≡ Range.At a → Engines.answeredFrom e arena offset len pack ≡ delivered e arena 0 (take (a + len - a) (drop a pack))
-  unfolding Engines.answeredFrom Engines.deliver
-  read-there {a} there = let long : a + len - a ≡ len = omega arith in rw (there, long, ok)
+module _ (e : Engine) (arena : List ℕ) (offset len : ℕ) (pack : List ℕ) (ok : engine_ok e (length arena) ≡ true) where
+  pub read_there : {a : ℕ} → read pack offset len ≡ Range.At a → Engines.answered_from e arena offset len pack ≡ delivered e arena 0 (take (a + len - a) (drop a pack))
+  unfolding Engines.answered_from Engines.deliver
+  read_there {a} there = let long : a + len - a ≡ len = omega arith in rw (there, long, ok)
 
-  pub read_past : {n : ℕ} → read pack offset len ≡ Range.Refused n → Engines.answeredFrom e arena offset len pack ≡ delivered e arena 2 []
-  unfolding Engines.answeredFrom Engines.deliver
+  pub read_past : {n : ℕ} → read pack offset len ≡ Range.Refused n → Engines.answered_from e arena offset len pack ≡ delivered e arena 2 []
+  unfolding Engines.answered_from Engines.deliver
   read_past past = rw (past, ok)
 
 -- the read that a fetch asks for, and what follows it
-pub fetch-follows : (e : Engine) (p : Pending) (arena pack : List ℕ) {offset len : ℕ} → requestOf e.shared p ≡ Status.Fetch offset len
-    → Engines.stepFromBy (opened e p).answer (opened e p) arena pack ≡ Engines.answeredFrom (openedAs e p) arena offset len pack
-fetch-follows e p arena pack q = ap (λ (a : Status). Engines.stepFromBy a (opened e p) arena pack) q
+pub fetch_follows : (e : Engine) (p : Pending) (arena pack : List ℕ) {offset len : ℕ} → request_of e.shared p ≡ Status.Fetch offset len
+    → Engines.step_from_by (opened e p).answer (opened e p) arena pack ≡ Engines.answered_from (opened_as e p) arena offset len pack
+fetch_follows e p arena pack q = ap (λ (a : Status). Engines.step_from_by a (opened e p) arena pack) q
 
-abbrev statusTag : Status → ℕ
-statusTag a = tag_of Statuses.the_type a
+abbrev status_tag : Status → ℕ
+status_tag a = tag_of Statuses.the_type a
 
-pub fetch-over : (e : Engine) (p : Pending) (arena pack : List ℕ) {r : Status} → r ≡ requestOf e.shared p
-    → (statusTag r ≡ 0) ⊎ ((statusTag r ≡ 1) ⊎ ((statusTag r ≡ 2) ⊎ ((statusTag r ≡ 3) ⊎ (statusTag r ≡ 5))))
-    → Engines.stepFromBy (opened e p).answer (opened e p) arena pack ≡ over (opened e p) arena
-fetch-over e p arena pack {r} q other = ap (λ (a : Status). Engines.stepFromBy a (opened e p) arena pack) (sym q) ∙ step-over r other (opened e p) arena pack
+pub fetch_over : (e : Engine) (p : Pending) (arena pack : List ℕ) {r : Status} → r ≡ request_of e.shared p
+    → (status_tag r ≡ 0) ⊎ ((status_tag r ≡ 1) ⊎ ((status_tag r ≡ 2) ⊎ ((status_tag r ≡ 3) ⊎ (status_tag r ≡ 5))))
+    → Engines.step_from_by (opened e p).answer (opened e p) arena pack ≡ over (opened e p) arena
+fetch_over e p arena pack {r} q other = ap (λ (a : Status). Engines.step_from_by a (opened e p) arena pack) (sym q) ∙ step_over r other (opened e p) arena pack
 
 -- ---- number 12
 
 -- the fetch of the words themselves
-pub open-as-is : (ws : List ℕ) {p : Pending} → p ≡ pendingOf (get_or ws 536 0) (get_or ws 537 0) → openedAs (engineOf ws) p ≡ engineOf ws
-unfolding engineOf sharedOf cacheOf
-open-as-is ws q = ap (openedAs (engineOf ws)) q
+pub open_as_is : (ws : List ℕ) {p : Pending} → p ≡ pending_of (get_or ws 536 0) (get_or ws 537 0) → opened_as (engine_of ws) p ≡ engine_of ws
+unfolding engine_of shared_of cache_of
+open_as_is ws q = ap (opened_as (engine_of ws)) q
 
 module _ (ws arena : List ℕ) where
   abbrev size : ℕ
   size = length arena
 
-  pub accepted-in : tested ws size ≡ true → accepted ws ≡ true
+  pub accepted_in : tested ws size ≡ true → accepted ws ≡ true
   unfolding tested
-  accepted-in t = and_left (accepted ws) _ t
+  accepted_in t = and_left (accepted ws) _ t
 
-  pub ok_in : tested ws size ≡ true → engineOk (engineOf ws) size ≡ true
+  pub ok_in : tested ws size ≡ true → engine_ok (engine_of ws) size ≡ true
   unfolding tested
   ok_in t = and_right (accepted ws) _ t
 
   module _ (failure : ℕ) (bs : List ℕ) where
-    deliver-by : (b d : Bool) → accepted ws ≡ b → engineOk (engineOf ws) size ≡ d → (b && d) ≡ false → Calls.deliver ws arena failure bs ≡ Calls.keeps ws arena
+    deliver_by : (b d : Bool) → accepted ws ≡ b → engine_ok (engine_of ws) size ≡ d → (b && d) ≡ false → Calls.deliver ws arena failure bs ≡ Calls.keeps ws arena
     unfolding Calls.deliver Engines.deliver
-    deliver-by false d q r t = rw q
-    deliver-by true true q r t = absurd (true≢false t)
-    deliver-by true false q r t = rw (q, r) (ap (λ (x : List ℕ). Calls.keeps x arena) (words-engine ws q))
+    deliver_by false d q r t = rw q
+    deliver_by true true q r t = absurd (true≢false t)
+    deliver_by true false q r t = rw (q, r) (ap (λ (x : List ℕ). Calls.keeps x arena) (words_engine ws q))
 
-    pub deliver-refused : tested ws size ≡ false → Calls.deliver ws arena failure bs ≡ Calls.keeps ws arena
+    pub deliver_refused : tested ws size ≡ false → Calls.deliver ws arena failure bs ≡ Calls.keeps ws arena
     unfolding tested
-    deliver-refused t = deliver-by (accepted ws) (engineOk (engineOf ws) size) refl refl t
+    deliver_refused t = deliver_by (accepted ws) (engine_ok (engine_of ws) size) refl refl t
 
-    pub deliver-tested : tested ws size ≡ true → Calls.deliver ws arena failure bs ≡ Calls.delivered (delivered (engineOf ws) arena failure bs)
+    pub deliver_tested : tested ws size ≡ true → Calls.deliver ws arena failure bs ≡ Calls.delivered (delivered (engine_of ws) arena failure bs)
     unfolding Calls.deliver Engines.deliver
-    deliver-tested t = rw (accepted-in t, ok_in t)
+    deliver_tested t = rw (accepted_in t, ok_in t)
 
   module _ (pack : List ℕ) where
-    step_by : (b d : Bool) → accepted ws ≡ b → engineOk (engineOf ws) size ≡ d → (b && d) ≡ false → Calls.stepFrom ws arena pack ≡ Calls.keeps ws arena
-    unfolding Calls.stepFrom Engines.stepFrom Engines.step
+    step_by : (b d : Bool) → accepted ws ≡ b → engine_ok (engine_of ws) size ≡ d → (b && d) ≡ false → Calls.step_from ws arena pack ≡ Calls.keeps ws arena
+    unfolding Calls.step_from Engines.step_from Engines.step
     step_by false d q r t = rw q
     step_by true true q r t = absurd (true≢false t)
-    step_by true false q r t = rw (q, r) (ap (λ (x : List ℕ). Calls.keeps x arena) (words-engine ws q))
+    step_by true false q r t = rw (q, r) (ap (λ (x : List ℕ). Calls.keeps x arena) (words_engine ws q))
 
-    pub step-refused : planned ws size ≡ Planned.Refused → Calls.stepFrom ws arena pack ≡ Calls.keeps ws arena
+    pub step_refused : planned ws size ≡ Planned.Refused → Calls.step_from ws arena pack ≡ Calls.keeps ws arena
     unfolding tested
-    step-refused q = step_by (accepted ws) (engineOk (engineOf ws) size) refl refl (planned-refused ws size q)
+    step_refused q = step_by (accepted ws) (engine_ok (engine_of ws) size) refl refl (planned_refused ws size q)
 
-    abbrev goesOn : Stepped → Calls.Delivered
-    goesOn s = Calls.delivered (Engines.stepFromBy s.answer s arena pack)
+    abbrev goes_on : Stepped → Calls.Delivered
+    goes_on s = Calls.delivered (Engines.step_from_by s.answer s arena pack)
 
-    step-tested : tested ws size ≡ true → Calls.stepFrom ws arena pack ≡ goesOn (stepped (engineOf ws) arena)
-    unfolding Calls.stepFrom Engines.stepFrom Engines.step
-    step-tested t = rw (accepted-in t, ok_in t)
+    step_tested : tested ws size ≡ true → Calls.step_from ws arena pack ≡ goes_on (stepped (engine_of ws) arena)
+    unfolding Calls.step_from Engines.step_from Engines.step
+    step_tested t = rw (accepted_in t, ok_in t)
 
     -- a fetch is open, or opened: its read follows
-    pub step-fetches : {p : Pending} → planned ws size ≡ Planned.Opens p → Calls.stepFrom ws arena pack ≡ goesOn (opened (engineOf ws) p)
-    step-fetches q = step-tested (planned-opens ws size q).0 ∙ ap goesOn (leaves-open ws arena q)
+    pub step_fetches : {p : Pending} → planned ws size ≡ Planned.Opens p → Calls.step_from ws arena pack ≡ goes_on (opened (engine_of ws) p)
+    step_fetches q = step_tested (planned-opens ws size q).0 ∙ ap goes_on (leaves_open ws arena q)
 
     -- none is
-    pub step-works : {p : Plan} → planned ws size ≡ Planned.Works p → Calls.stepFrom ws arena pack ≡ Calls.delivered (over (stepped (engineOf ws) arena) arena)
-    step-works q =
-        let told = planned-works ws size q in
-        let closed = closed-step (engineOf ws) arena size (ok_in told.0) (ap isOpen told.1.0) in
-        step-tested told.0 ∙ ap Calls.delivered (no-fetch (stepped (engineOf ws) arena).answer (stepped (engineOf ws) arena) arena pack closed)
+    pub step_works : {p : Plan} → planned ws size ≡ Planned.Works p → Calls.step_from ws arena pack ≡ Calls.delivered (over (stepped (engine_of ws) arena) arena)
+    step_works q =
+        let told = planned_works ws size q in
+        let closed = closed_step (engine_of ws) arena size (ok_in told.0) (ap is_open told.1.0) in
+        step_tested told.0 ∙ ap Calls.delivered (no_fetch (stepped (engine_of ws) arena).answer (stepped (engine_of ws) arena) arena pack closed)
 
   -- number 12 does not name an engine with a fetch that a step leaves open
-  pub opened-ok : {p : Pending} → planned ws size ≡ Planned.Opens p → engineOk (openedAs (engineOf ws) p) size ≡ true
+  pub opened_ok : {p : Pending} → planned ws size ≡ Planned.Opens p → engine_ok (opened_as (engine_of ws) p) size ≡ true
   unfolding Engines.step
-  opened-ok {p} q =
-      let e = engineOf ws in
+  opened_ok {p} q =
+      let e = engine_of ws in
       let t = (planned-opens ws size q).0 in
-      let left : Engines.step e arena ≡ opened e p = ap (λ (b : Bool). cond b (stepped e arena) (refused e 12)) (ok_in t) ∙ leaves-open ws arena q in
-      sym (ap (λ (s : Stepped). engineOk s.engine size) left) ∙ step_ok e arena size (ok_in t)
+      let left : Engines.step e arena ≡ opened e p = ap (λ (b : Bool). cond b (stepped e arena) (refused e 12)) (ok_in t) ∙ leaves_open ws arena q in
+      sym (ap (λ (s : Stepped). engine_ok s.engine size) left) ∙ step_ok e arena size (ok_in t)

@@ -17,10 +17,10 @@ use Rattle.predict.specs.declared.End.TheVariants as End
 use Rattle.engine.specs.declared.Phase.{Phase}
 use Rattle.engine.specs.declared.Phase.TheVariants as Phase
 use Rattle.words.specs.Typed.{Word, Short, Byte, Signed, Height, TypedKey, TypedMaybe, TypedPart, TypedSlot}
-use Rattle.words.specs.Words.{bit, is_set, low_word, high_word, longOf, floatWord, float_of, heightOf, keyWord, key_of, keyTag, keyHeld, maybeKeyOf, phaseWord, phaseOf, partWord, part_of, slot_by, forwardWord, forwardOf, end_word, end_of}
+use Rattle.words.specs.Words.{bit, is_set, low_word, high_word, long_of, float_word, float_of, height_of, key_word, key_of, key_tag, key_held, maybe_key_of, phase_word, phase_of, part_word, part_of, slot_by, forward_word, forward_of, end_word, end_of}
 
-pub long-back : (n : ℕ) → longOf (low_word n) (high_word n) ≡ n
-long-back n = omega arith
+pub long_back : (n : ℕ) → long_of (low_word n) (high_word n) ≡ n
+long_back n = omega arith
 
 pub word_back : (n : ℕ) → Word n → low_word n ≡ n
 word_back n h = omega arith
@@ -28,8 +28,8 @@ word_back n h = omega arith
 pub short_back : (n : ℕ) → Short n → n % 65536 ≡ n
 short_back n h = omega arith
 
-pub byte-back : (n : ℕ) → Byte n → n % 256 ≡ n
-byte-back n h = omega arith
+pub byte_back : (n : ℕ) → Byte n → n % 256 ≡ n
+byte_back n h = omega arith
 
 pub signed_back : (z : ℤ) → Signed z → signed32 (bits32 z) ≡ z
 signed_back (pos n) h = rw (lt-ltb n 2147483648 h)
@@ -37,11 +37,11 @@ signed_back (negsuc n) h =
     let far : 4294967295 - (4294967295 - n) ≡ n = omega (arith, h) in
     rw (le-ltb (4294967295 - n) 2147483648 (omega (arith, h))) (ap negsuc far)
 
-low-back : (z : ℤ) → Height z → low16 z ≡ z
-low-back (pos n) h =
+low_back : (z : ℤ) → Height z → low16 z ≡ z
+low_back (pos n) h =
     let same : n % 65536 ≡ n = omega (arith, h) in
     rw same (rw (lt-ltb n 32768 h))
-low-back (negsuc n) h =
+low_back (negsuc n) h =
     let same : n % 65536 ≡ n = omega (arith, h) in
     let far : 65535 - (65535 - n) ≡ n = omega (arith, h) in
     rw same (rw (le-ltb (65535 - n) 32768 (omega (arith, h))) (ap negsuc far))
@@ -50,35 +50,35 @@ wider : (z : ℤ) → Height z → Signed z
 wider (pos n) h = omega (arith, h)
 wider (negsuc n) h = omega (arith, h)
 
-pub height-back : (z : ℤ) → Height z → heightOf (bits32 z) ≡ z
-height-back z h = ap low16 (signed_back z (wider z h)) ∙ low-back z h
+pub height_back : (z : ℤ) → Height z → height_of (bits32 z) ≡ z
+height_back z h = ap low16 (signed_back z (wider z h)) ∙ low_back z h
 
-pub float_back : (x : Float) → T (fits binary32 x) → float_of (floatWord x) ≡ x
+pub float_back : (x : Float) → T (fits binary32 x) → float_of (float_word x) ≡ x
 float_back x h = of_bits-to_bits binary32 x h
 
-pub key_back : (k : TileKey) → TypedKey k → key_of (keyWord k) ≡ k
+pub key_back : (k : TileKey) → TypedKey k → key_of (key_word k) ≡ k
 key_back k h =
-    let row : keyWord k / 65536 ≡ k.row = omega (arith, h.1) in
-    let col : keyWord k % 65536 ≡ k.col = omega (arith, h.1) in
+    let row : key_word k / 65536 ≡ k.row = omega (arith, h.1) in
+    let col : key_word k % 65536 ≡ k.col = omega (arith, h.1) in
     rw (row, col)
 
-pub bit-back : (b : Bool) → is_set (bit b) ≡ b
-bit-back true = refl
-bit-back false = refl
+pub bit_back : (b : Bool) → is_set (bit b) ≡ b
+bit_back true = refl
+bit_back false = refl
 
-pub maybe_back : (k : MaybeKey) → TypedMaybe k → maybeKeyOf (keyTag k) (keyHeld k) ≡ k
+pub maybe_back : (k : MaybeKey) → TypedMaybe k → maybe_key_of (key_tag k) (key_held k) ≡ k
 maybe_back MaybeKey.Nothing h = refl
 maybe_back (MaybeKey.Key k) h = ap MaybeKey.Key (key_back k h)
 
-pub phase-back : (p : Phase) → phaseOf (phaseWord p) ≡ p
-phase-back Phase.Unread = refl
-phase-back Phase.Ready = refl
-phase-back Phase.Failed = refl
+pub phase_back : (p : Phase) → phase_of (phase_word p) ≡ p
+phase_back Phase.Unread = refl
+phase_back Phase.Ready = refl
+phase_back Phase.Failed = refl
 
-pub forward-back : (f : Forward) → forwardOf (forwardWord f) ≡ f
-forward-back Forward.Unknown = refl
-forward-back (Forward.Is true) = refl
-forward-back (Forward.Is false) = refl
+pub forward_back : (f : Forward) → forward_of (forward_word f) ≡ f
+forward_back Forward.Unknown = refl
+forward_back (Forward.Is true) = refl
+forward_back (Forward.Is false) = refl
 
 pub end_back : (e : End) → end_of (end_word e) ≡ e
 end_back End.Horizon = refl
@@ -88,15 +88,15 @@ end_back End.MapEdge = refl
 end_back End.Uncertain = refl
 end_back End.Memory = refl
 
-part-back : (p : Part) → TypedPart p → part_of (partWord p) ≡ p
-part-back Part.Head h = refl
-part-back (Part.Of h) b =
+part_back : (p : Part) → TypedPart p → part_of (part_word p) ≡ p
+part_back Part.Head h = refl
+part_back (Part.Of h) b =
     let same : (h + 1 - 1) % 256 ≡ h = omega (arith, b) in
     rw (ne_eqb (h + 1) 0 (λ e. omega (arith, e)), same)
 
-tag-le : (k : MaybeKey) → keyTag k ≤ 1
-tag-le MaybeKey.Nothing = omega arith
-tag-le (MaybeKey.Key k) = omega arith
+tag_le : (k : MaybeKey) → key_tag k ≤ 1
+tag_le MaybeKey.Nothing = omega arith
+tag_le (MaybeKey.Key k) = omega arith
 
 bit_le : (b : Bool) → bit b ≤ 1
 bit_le true = omega arith
@@ -121,11 +121,11 @@ third n t b p e h k =
     rw e (quarter (t + 2 * b) p r)
 
 -- a slot from three words
-pub slot-back : (s : Slot) → TypedSlot s → (w : ℕ → ℕ) → w 0 ≡ keyTag s.key + 2 * bit s.ready + 4 * partWord s.part → w 1 ≡ keyHeld s.key
+pub slot_back : (s : Slot) → TypedSlot s → (w : ℕ → ℕ) → w 0 ≡ key_tag s.key + 2 * bit s.ready + 4 * part_word s.part → w 1 ≡ key_held s.key
     → w 2 ≡ s.len → slot_by w ≡ s
-slot-back s t w a b c =
-    let tag : w 0 % 2 ≡ keyTag s.key = first _ _ _ _ a (tag-le s.key) in
-    let ready : w 0 / 2 % 2 ≡ bit s.ready = second _ _ _ _ a (tag-le s.key) (bit_le s.ready) in
-    let part : w 0 / 4 ≡ partWord s.part = third _ _ _ _ a (tag-le s.key) (bit_le s.ready) in
+slot_back s t w a b c =
+    let tag : w 0 % 2 ≡ key_tag s.key = first _ _ _ _ a (tag_le s.key) in
+    let ready : w 0 / 2 % 2 ≡ bit s.ready = second _ _ _ _ a (tag_le s.key) (bit_le s.ready) in
+    let part : w 0 / 4 ≡ part_word s.part = third _ _ _ _ a (tag_le s.key) (bit_le s.ready) in
     let len : w 2 % 65536 ≡ s.len = omega (arith, c, t.len) in
-    rw (tag, ready, part, len, b, maybe_back s.key t.key, bit-back s.ready, part-back s.part t.part)
+    rw (tag, ready, part, len, b, maybe_back s.key t.key, bit_back s.ready, part_back s.part t.part)

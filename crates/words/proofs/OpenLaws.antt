@@ -1,14 +1,14 @@
--- A step that leaves a fetch open does nothing else (`opens-step`), and one that opens none asks for no read (`closed-step`). The idea: by the open fetch, else by the plan; towards a
--- tile by the cache's next step, and where that makes no read the cache settles the tile (`need-settled`).
+-- A step that leaves a fetch open does nothing else (`opens_step`), and one that opens none asks for no read (`closed_step`). The idea: by the open fetch, else by the plan; towards a
+-- tile by the cache's next step, and where that makes no read the cache settles the tile (`need_settled`).
 use Rattle.std.proofs.Common.{◌≡◌, ℕ, ◌+◌, Bool, true, false, cond, eqb, ltb, List, [], replicate, pos, sym, refl, ap, ◌∙◌, true≢false}
-use Rattle.pack.specs.Grid.{key_of, inGrid}
+use Rattle.pack.specs.Grid.{key_of, in_grid}
 use Rattle.pack.specs.declared.Keyed.{Keyed}
 use Rattle.pack.specs.declared.Keyed.TheVariants as Keyed
 use Rattle.pack.specs.declared.TileKey.{TileKey}
-use Rattle.cache.specs.Calls.{loadTested}
+use Rattle.cache.specs.Calls.{load_tested}
 use Rattle.cache.specs.Loads as Loads
-use Rattle.cache.specs.Loads.{unreadStep}
-use Rattle.cache.specs.Lookups.{nextStep, passes, len_at, touched}
+use Rattle.cache.specs.Loads.{unread_step}
+use Rattle.cache.specs.Lookups.{next_step, passes, len_at, touched}
 use Rattle.cache.specs.declared.Cache.{Cache}
 use Rattle.cache.specs.declared.Loaded.{Loaded}
 use Rattle.cache.specs.declared.MaybeKey.{MaybeKey}
@@ -26,16 +26,16 @@ use Rattle.matcher.specs.declared.Updated.{Updated}
 use Rattle.matcher.specs.declared.Outcome as MatchOutcome
 use Rattle.matcher.specs.declared.Outcome.TheVariants as Found
 use Rattle.matcher.specs.Gather.{updated}
-use Rattle.predict.specs.Predict.{After, predictedIn}
+use Rattle.predict.specs.Predict.{After, predicted_in}
 use Rattle.predict.specs.declared.Outcome as RoadOutcome
 use Rattle.predict.specs.declared.Outcome.TheVariants as Road
-use Rattle.engine.specs.Calls.{stepFromBy}
-use Rattle.engine.specs.Deliver.{over, failing, arrived, failedPack, loadFailed, loadedBy}
+use Rattle.engine.specs.Calls.{step_from_by}
+use Rattle.engine.specs.Deliver.{over, failing, arrived, failed_pack, load_failed, loaded_by}
 use Rattle.engine.specs.Fixes.{place_of}
-use Rattle.engine.specs.Plans.{ofRoad, ofFix, ofSight, ofNeed, ofState, plan_of, doneBy}
-use Rattle.engine.specs.State.{engineOk, refused}
-use Rattle.engine.specs.Steps.{requestOf, opened, awaitsRead, needStep, steppedBy, stepped}
-use Rattle.engine.specs.Work.{counted, ended, rematch, matchEndedBy, matchStep, roadEndedBy, roadStep, mayAsk}
+use Rattle.engine.specs.Plans.{of_road, of_fix, of_sight, of_need, of_state, plan_of, done_by}
+use Rattle.engine.specs.State.{engine_ok, refused}
+use Rattle.engine.specs.Steps.{request_of, opened, awaits_read, need_step, stepped_by, stepped}
+use Rattle.engine.specs.Work.{counted, ended, rematch, match_ended_by, match_step, road_ended_by, road_step, may_ask}
 use Rattle.engine.specs.declared.Due.{Due}
 use Rattle.engine.specs.declared.Engine.{Engine}
 use Rattle.engine.specs.declared.Fix.{Fix}
@@ -49,209 +49,209 @@ use Rattle.engine.specs.declared.Status.TheVariants as Status
 use Rattle.engine.specs.declared.Stepped.{Stepped}
 use Rattle.engine.specs.declared.plan.Plan.{Plan}
 use Rattle.engine.specs.declared.plan.Plan.TheVariants as Plan
-use Rattle.cache.proofs.FromLaws.{next-chunk, bytes_left}
-use Rattle.cache.proofs.UnreadLaws.{unread-steps}
-use Rattle.engine.proofs.NeedLaws.{need-settles}
-use Rattle.engine.proofs.PlanLaws.{plan-step}
-use Rattle.engine.proofs.SummaryLaws.{need-waits-entry, need-waits-chunk}
-use Rattle.engine.proofs.TestedLaws.{state-in, need-in}
+use Rattle.cache.proofs.FromLaws.{next_chunk, bytes_left}
+use Rattle.cache.proofs.UnreadLaws.{unread_steps}
+use Rattle.engine.proofs.NeedLaws.{need_settles}
+use Rattle.engine.proofs.PlanLaws.{plan_step}
+use Rattle.engine.proofs.SummaryLaws.{need_waits_entry, need_waits_chunk}
+use Rattle.engine.proofs.TestedLaws.{state_in, need_in}
 use Rattle.words.specs.Came.{settled}
-use Rattle.words.specs.Opens.{opensNext, opensPlan, opensBy, opens}
+use Rattle.words.specs.Opens.{opens_next, opens_plan, opens_by, opens}
 
 -- ---- plans that are no tile's
 
-abbrev isNeed : Plan → Bool
-isNeed (Plan.Need key) = true
-isNeed Plan.Rest = false
-isNeed Plan.NoPack = false
-isNeed Plan.Header = false
-isNeed (Plan.Match fix) = false
-isNeed (Plan.Road fix found) = false
-isNeed Plan.Roadless = false
-isNeed (Plan.Off fix) = false
+abbrev is_need : Plan → Bool
+is_need (Plan.Need key) = true
+is_need Plan.Rest = false
+is_need Plan.NoPack = false
+is_need Plan.Header = false
+is_need (Plan.Match fix) = false
+is_need (Plan.Road fix found) = false
+is_need Plan.Roadless = false
+is_need (Plan.Off fix) = false
 
-no-road : (m : Current) (fix : Fix) → isNeed (ofRoad m fix) ≡ false
-no-road (Current.Is found) fix = refl
-no-road Current.Nothing fix = refl
+no_road : (m : Current) (fix : Fix) → is_need (of_road m fix) ≡ false
+no_road (Current.Is found) fix = refl
+no_road Current.Nothing fix = refl
 
-no_due : (matching road : Bool) (m : Current) (fix : Fix) → isNeed (cond matching (Plan.Match fix) (cond road (ofRoad m fix) Plan.Rest)) ≡ false
+no_due : (matching road : Bool) (m : Current) (fix : Fix) → is_need (cond matching (Plan.Match fix) (cond road (of_road m fix) Plan.Rest)) ≡ false
 no_due true road m fix = refl
-no_due false true m fix = no-road m fix
+no_due false true m fix = no_road m fix
 no_due false false m fix = refl
 
-no-fix : (k : Keyed) (fix : Fix) (due : Due) (m : Current) → isNeed (ofFix k fix due m) ≡ false
-no-fix (Keyed.In key) fix due m = no_due due.matching due.road m fix
-no-fix Keyed.Outside fix due m = refl
-no-fix (Keyed.Refused number) fix due m = refl
+no_fix : (k : Keyed) (fix : Fix) (due : Due) (m : Current) → is_need (of_fix k fix due m) ≡ false
+no_fix (Keyed.In key) fix due m = no_due due.matching due.road m fix
+no_fix Keyed.Outside fix due m = refl
+no_fix (Keyed.Refused number) fix due m = refl
 
 module _ (e : Engine) where
-  no-sight : (f : MaybeFix) → isNeed (ofSight f e.shared.header e.follower.due e.follower.matcher.current) ≡ false
-  no-sight MaybeFix.Nothing = refl
-  no-sight (MaybeFix.Is fix) = no-fix (key_of e.shared.header fix.lat fix.lon) fix e.follower.due e.follower.matcher.current
+  no_sight : (f : MaybeFix) → is_need (of_sight f e.shared.header e.follower.due e.follower.matcher.current) ≡ false
+  no_sight MaybeFix.Nothing = refl
+  no_sight (MaybeFix.Is fix) = no_fix (key_of e.shared.header fix.lat fix.lon) fix e.follower.due e.follower.matcher.current
 
   -- the planned tile is the needed one
-  needed-by : (n : MaybeKey) (key : TileKey)
-      → ofNeed n e.shared.header e.follower.sight.fix e.follower.due e.follower.matcher.current ≡ Plan.Need key → n ≡ MaybeKey.Key key
-  needed-by (MaybeKey.Key k) key q = cc
-  needed-by MaybeKey.Nothing key q = absurd (true≢false (sym (ap isNeed q) ∙ no-sight e.follower.sight.fix))
+  needed_by : (n : MaybeKey) (key : TileKey)
+      → of_need n e.shared.header e.follower.sight.fix e.follower.due e.follower.matcher.current ≡ Plan.Need key → n ≡ MaybeKey.Key key
+  needed_by (MaybeKey.Key k) key q = cc
+  needed_by MaybeKey.Nothing key q = absurd (true≢false (sym (ap is_need q) ∙ no_sight e.follower.sight.fix))
 
   ready_by : (p : Phase) (key : TileKey)
-      → ofState p e.shared.header e.follower.sight.fix e.follower.due e.follower.matcher.current ≡ Plan.Need key
+      → of_state p e.shared.header e.follower.sight.fix e.follower.due e.follower.matcher.current ≡ Plan.Need key
       → (p ≡ Phase.Ready) × (e.follower.due.need ≡ MaybeKey.Key key)
-  ready_by Phase.Ready key q = (refl, needed-by e.follower.due.need key q)
-  ready_by Phase.Failed key q = absurd (true≢false (sym (ap isNeed q)))
-  ready_by Phase.Unread key q = absurd (true≢false (sym (ap isNeed q)))
+  ready_by Phase.Ready key q = (refl, needed_by e.follower.due.need key q)
+  ready_by Phase.Failed key q = absurd (true≢false (sym (ap is_need q)))
+  ready_by Phase.Unread key q = absurd (true≢false (sym (ap is_need q)))
 
-  planned-inside : (size : ℕ) → engineOk e size ≡ true → (key : TileKey) → plan_of e ≡ Plan.Need key → inGrid e.shared.header key ≡ true
-  planned-inside size ok key q = let r = ready_by e.shared.phase key q in need-in e size ok key r.0 r.1
+  planned_inside : (size : ℕ) → engine_ok e size ≡ true → (key : TileKey) → plan_of e ≡ Plan.Need key → in_grid e.shared.header key ≡ true
+  planned_inside size ok key q = let r = ready_by e.shared.phase key q in need_in e size ok key r.0 r.1
 
 -- ---- a step that leaves a fetch open
 
-abbrev pub isOpen : Pending → Bool
-isOpen Pending.Nothing = false
-isOpen Pending.Header = true
-isOpen (Pending.Entry key) = true
-isOpen Pending.Chunk = true
+abbrev pub is_open : Pending → Bool
+is_open Pending.Nothing = false
+is_open Pending.Header = true
+is_open (Pending.Entry key) = true
+is_open Pending.Chunk = true
 
 -- one that opens none: none is open, and the plan opens none
 module _ (e : Engine) where
-  closed-by : (p : Pending) → isOpen (opensBy p (plan_of e) e.shared.cache) ≡ false → (p ≡ Pending.Nothing) × (isOpen (opensPlan (plan_of e) e.shared.cache) ≡ false)
-  closed-by Pending.Nothing t = (refl, t)
-  closed-by Pending.Header t = absurd (true≢false t)
-  closed-by (Pending.Entry key) t = absurd (true≢false t)
-  closed-by Pending.Chunk t = absurd (true≢false t)
+  closed_by : (p : Pending) → is_open (opens_by p (plan_of e) e.shared.cache) ≡ false → (p ≡ Pending.Nothing) × (is_open (opens_plan (plan_of e) e.shared.cache) ≡ false)
+  closed_by Pending.Nothing t = (refl, t)
+  closed_by Pending.Header t = absurd (true≢false t)
+  closed_by (Pending.Entry key) t = absurd (true≢false t)
+  closed_by Pending.Chunk t = absurd (true≢false t)
 
-  pub closed-pending : isOpen (opens e) ≡ false → e.shared.cache.pending ≡ Pending.Nothing
+  pub closed_pending : is_open (opens e) ≡ false → e.shared.cache.pending ≡ Pending.Nothing
   unfolding opens
-  closed-pending t = (closed-by e.shared.cache.pending t).0
+  closed_pending t = (closed_by e.shared.cache.pending t).0
 
-  pub closed-plan : isOpen (opens e) ≡ false → isOpen (opensPlan (plan_of e) e.shared.cache) ≡ false
+  pub closed_plan : is_open (opens e) ≡ false → is_open (opens_plan (plan_of e) e.shared.cache) ≡ false
   unfolding opens
-  closed-plan t = (closed-by e.shared.cache.pending t).1
+  closed_plan t = (closed_by e.shared.cache.pending t).1
 
-abbrev pub isFetch : Status → Bool
-isFetch (Status.Fetch offset len) = true
-isFetch Status.Idle = false
-isFetch Status.Working = false
-isFetch Status.NoPack = false
-isFetch Status.OffMap = false
-isFetch (Status.Refused number) = false
+abbrev pub is_fetch : Status → Bool
+is_fetch (Status.Fetch offset len) = true
+is_fetch Status.Idle = false
+is_fetch Status.Working = false
+is_fetch Status.NoPack = false
+is_fetch Status.OffMap = false
+is_fetch (Status.Refused number) = false
 
 -- a delivery follows a fetch alone
-pub no-fetch : (a : Status) (s : Stepped) (arena pack : List ℕ) → isFetch a ≡ false → stepFromBy a s arena pack ≡ over s arena
-no-fetch (Status.Fetch offset len) s arena pack q = absurd (true≢false q)
-no-fetch Status.Idle s arena pack q = refl
-no-fetch Status.Working s arena pack q = refl
-no-fetch Status.NoPack s arena pack q = refl
-no-fetch Status.OffMap s arena pack q = refl
-no-fetch (Status.Refused number) s arena pack q = refl
+pub no_fetch : (a : Status) (s : Stepped) (arena pack : List ℕ) → is_fetch a ≡ false → step_from_by a s arena pack ≡ over s arena
+no_fetch (Status.Fetch offset len) s arena pack q = absurd (true≢false q)
+no_fetch Status.Idle s arena pack q = refl
+no_fetch Status.Working s arena pack q = refl
+no_fetch Status.NoPack s arena pack q = refl
+no_fetch Status.OffMap s arena pack q = refl
+no_fetch (Status.Refused number) s arena pack q = refl
 
-module _ (e : Engine) (arena : List ℕ) (size : ℕ) (ok : engineOk e size ≡ true) where
+module _ (e : Engine) (arena : List ℕ) (size : ℕ) (ok : engine_ok e size ≡ true) where
   abbrev c₁ : Cache
   c₁ = e.shared.cache
 
-  next-opens : (key : TileKey) → plan_of e ≡ Plan.Need key → (n : Next) → nextStep c₁ key ≡ n → isOpen (opensNext n key) ≡ true
-      → needStep e arena key ≡ opened e (opensNext n key)
-  next-opens key q Next.Entry r t = need-waits-entry e arena key (planned-inside e size ok key q) r
-  next-opens key q (Next.Chunk l) r t =
-      need-waits-chunk e arena key (planned-inside e size ok key q) l r (bytes_left c₁ l (state-in e size ok) (next-chunk key l c₁ r))
-  next-opens key q (Next.Ready i) r t = absurd (true≢false (sym t))
-  next-opens key q Next.Missing r t = absurd (true≢false (sym t))
-  next-opens key q Next.NoPages r t = absurd (true≢false (sym t))
+  next_opens : (key : TileKey) → plan_of e ≡ Plan.Need key → (n : Next) → next_step c₁ key ≡ n → is_open (opens_next n key) ≡ true
+      → need_step e arena key ≡ opened e (opens_next n key)
+  next_opens key q Next.Entry r t = need_waits_entry e arena key (planned_inside e size ok key q) r
+  next_opens key q (Next.Chunk l) r t =
+      need_waits_chunk e arena key (planned_inside e size ok key q) l r (bytes_left c₁ l (state_in e size ok) (next_chunk key l c₁ r))
+  next_opens key q (Next.Ready i) r t = absurd (true≢false (sym t))
+  next_opens key q Next.Missing r t = absurd (true≢false (sym t))
+  next_opens key q Next.NoPages r t = absurd (true≢false (sym t))
 
-  plan-opens : (p : Plan) → plan_of e ≡ p → isOpen (opensPlan p c₁) ≡ true → doneBy p e arena ≡ opened e (opensPlan p c₁)
-  plan-opens Plan.Header q t = refl
-  plan-opens (Plan.Need key) q t = next-opens key q (nextStep c₁ key) refl t
-  plan-opens Plan.Rest q t = absurd (true≢false (sym t))
-  plan-opens Plan.NoPack q t = absurd (true≢false (sym t))
-  plan-opens (Plan.Match fix) q t = absurd (true≢false (sym t))
-  plan-opens (Plan.Road fix found) q t = absurd (true≢false (sym t))
-  plan-opens Plan.Roadless q t = absurd (true≢false (sym t))
-  plan-opens (Plan.Off fix) q t = absurd (true≢false (sym t))
+  plan_opens : (p : Plan) → plan_of e ≡ p → is_open (opens_plan p c₁) ≡ true → done_by p e arena ≡ opened e (opens_plan p c₁)
+  plan_opens Plan.Header q t = refl
+  plan_opens (Plan.Need key) q t = next_opens key q (next_step c₁ key) refl t
+  plan_opens Plan.Rest q t = absurd (true≢false (sym t))
+  plan_opens Plan.NoPack q t = absurd (true≢false (sym t))
+  plan_opens (Plan.Match fix) q t = absurd (true≢false (sym t))
+  plan_opens (Plan.Road fix found) q t = absurd (true≢false (sym t))
+  plan_opens Plan.Roadless q t = absurd (true≢false (sym t))
+  plan_opens (Plan.Off fix) q t = absurd (true≢false (sym t))
 
   -- one that is open is repeated
-  again : (p : Pending) → c₁.pending ≡ p → record { answer = requestOf e.shared p; engine = e } ≡ opened e p
-  again p r = ap (λ (x : Pending). record { answer = requestOf e.shared p; engine = (opened e x).engine }) r
+  again : (p : Pending) → c₁.pending ≡ p → record { answer = request_of e.shared p; engine = e } ≡ opened e p
+  again p r = ap (λ (x : Pending). record { answer = request_of e.shared p; engine = (opened e x).engine }) r
 
-  pending-opens : (p : Pending) → c₁.pending ≡ p → isOpen (opensBy p (plan_of e) c₁) ≡ true → stepped e arena ≡ opened e (opensBy p (plan_of e) c₁)
+  pending_opens : (p : Pending) → c₁.pending ≡ p → is_open (opens_by p (plan_of e) c₁) ≡ true → stepped e arena ≡ opened e (opens_by p (plan_of e) c₁)
   unfolding stepped
-  pending-opens Pending.Nothing r t = plan-step e arena r ∙ plan-opens (plan_of e) refl t
-  pending-opens Pending.Header r t = ap (λ (p : Pending). steppedBy p e arena) r ∙ again Pending.Header r
-  pending-opens (Pending.Entry key) r t = ap (λ (p : Pending). steppedBy p e arena) r ∙ again (Pending.Entry key) r
-  pending-opens Pending.Chunk r t = ap (λ (p : Pending). steppedBy p e arena) r ∙ again Pending.Chunk r
+  pending_opens Pending.Nothing r t = plan_step e arena r ∙ plan_opens (plan_of e) refl t
+  pending_opens Pending.Header r t = ap (λ (p : Pending). stepped_by p e arena) r ∙ again Pending.Header r
+  pending_opens (Pending.Entry key) r t = ap (λ (p : Pending). stepped_by p e arena) r ∙ again (Pending.Entry key) r
+  pending_opens Pending.Chunk r t = ap (λ (p : Pending). stepped_by p e arena) r ∙ again Pending.Chunk r
 
-  pub opens-step : isOpen (opens e) ≡ true → stepped e arena ≡ opened e (opens e)
+  pub opens_step : is_open (opens e) ≡ true → stepped e arena ≡ opened e (opens e)
   unfolding opens
-  opens-step t = pending-opens c₁.pending refl t
+  opens_step t = pending_opens c₁.pending refl t
 
   -- ---- a step that opens none
 
-  closed-match : (a : MatchOutcome.Outcome) (f : Follower) (fix : Fix) (u : Updated) → isFetch (matchEndedBy a e f fix u).answer ≡ false
-  closed-match (Found.Found m) f fix u = refl
-  closed-match Found.Nothing f fix u = refl
-  closed-match (Found.Need key) f fix u = either-idle (mayAsk f.due u.cache.pages.count)
+  closed_match : (a : MatchOutcome.Outcome) (f : Follower) (fix : Fix) (u : Updated) → is_fetch (match_ended_by a e f fix u).answer ≡ false
+  closed_match (Found.Found m) f fix u = refl
+  closed_match Found.Nothing f fix u = refl
+  closed_match (Found.Need key) f fix u = either_idle (may_ask f.due u.cache.pages.count)
     where
-      either-idle : (b : Bool) → isFetch (cond b Status.Working Status.Idle) ≡ false
-      either-idle true = refl
-      either-idle false = refl
-  closed-match (Found.Refused number) f fix u = refl
+      either_idle : (b : Bool) → is_fetch (cond b Status.Working Status.Idle) ≡ false
+      either_idle true = refl
+      either_idle false = refl
+  closed_match (Found.Refused number) f fix u = refl
 
-  closed-road : (a : RoadOutcome.Outcome) (f : Follower) (fix : Fix) (m : Matched) (x : After) → isFetch (roadEndedBy a e f fix m x).answer ≡ false
-  closed-road (Road.Road r) f fix m x = refl
-  closed-road (Road.Need key) f fix m x = refl
-  closed-road Road.Rematch f fix m x = refl
-  closed-road (Road.Refused number) f fix m x = by (eqb number 10)
+  closed_road : (a : RoadOutcome.Outcome) (f : Follower) (fix : Fix) (m : Matched) (x : After) → is_fetch (road_ended_by a e f fix m x).answer ≡ false
+  closed_road (Road.Road r) f fix m x = refl
+  closed_road (Road.Need key) f fix m x = refl
+  closed_road Road.Rematch f fix m x = refl
+  closed_road (Road.Refused number) f fix m x = by (eqb number 10)
     where
-      by : (b : Bool) → isFetch (cond b (ended e x.predicted.cache (rematch f) Status.Working) (refused e number)).answer ≡ false
+      by : (b : Bool) → is_fetch (cond b (ended e x.predicted.cache (rematch f) Status.Working) (refused e number)).answer ≡ false
       by true = refl
       by false = refl
 
-  closed-load : (a : Progress) (c : Cache) → isFetch (loadedBy a e c).answer ≡ false
-  unfolding arrived loadFailed
-  closed-load Progress.Done c = refl
-  closed-load Progress.More c = refl
-  closed-load (Progress.Failed number) c = by (ltb e.follower.failures 7) (counted e.follower)
+  closed_load : (a : Progress) (c : Cache) → is_fetch (loaded_by a e c).answer ≡ false
+  unfolding arrived load_failed
+  closed_load Progress.Done c = refl
+  closed_load Progress.More c = refl
+  closed_load (Progress.Failed number) c = by (ltb e.follower.failures 7) (counted e.follower)
     where
-      by : (b : Bool) (f : Follower) → isFetch (cond b (ended e c (failing f (f.failures + 1)) Status.Working) (failedPack e c (failing f 8))).answer ≡ false
+      by : (b : Bool) (f : Follower) → is_fetch (cond b (ended e c (failing f (f.failures + 1)) Status.Working) (failed_pack e c (failing f 8))).answer ≡ false
       by true f = refl
       by false f = refl
-  closed-load (Progress.Refused number) c = refl
+  closed_load (Progress.Refused number) c = refl
 
   -- towards a tile: the cache asks for no read
-  closed-next : (key : TileKey) (n : Next) → isOpen (opensNext n key) ≡ false → awaitsRead (unreadStep c₁ n arena key e.shared.header.tile).answer ≡ false
-  closed-next key (Next.Ready i) t = by (passes arena i (len_at c₁ i) key e.shared.header.tile)
+  closed_next : (key : TileKey) (n : Next) → is_open (opens_next n key) ≡ false → awaits_read (unread_step c₁ n arena key e.shared.header.tile).answer ≡ false
+  closed_next key (Next.Ready i) t = by (passes arena i (len_at c₁ i) key e.shared.header.tile)
     where
-      by : (b : Bool) → awaitsRead (cond b (Loads.done (touched c₁ i)) (Loads.refused c₁ 12)).answer ≡ false
+      by : (b : Bool) → awaits_read (cond b (Loads.done (touched c₁ i)) (Loads.refused c₁ 12)).answer ≡ false
       by true = refl
       by false = refl
-  closed-next key Next.Missing t = refl
-  closed-next key Next.NoPages t = refl
-  closed-next key Next.Entry t = absurd (true≢false t)
-  closed-next key (Next.Chunk l) t = absurd (true≢false t)
+  closed_next key Next.Missing t = refl
+  closed_next key Next.NoPages t = refl
+  closed_next key Next.Entry t = absurd (true≢false t)
+  closed_next key (Next.Chunk l) t = absurd (true≢false t)
 
-  pub need-settled : (key : TileKey) → plan_of e ≡ Plan.Need key → isOpen (opensNext (nextStep c₁ key) key) ≡ false → needStep e arena key ≡ settled e arena key
-  need-settled key q t =
-      let inside = planned-inside e size ok key q in
+  pub need_settled : (key : TileKey) → plan_of e ≡ Plan.Need key → is_open (opens_next (next_step c₁ key) key) ≡ false → need_step e arena key ≡ settled e arena key
+  need_settled key q t =
+      let inside = planned_inside e size ok key q in
       sym
-      (need-settles e arena key _ refl
-      (ap (λ (l : Loaded). awaitsRead l.answer) (unread-steps c₁ arena e.shared.header key inside) ∙ closed-next key (nextStep c₁ key) t))
+      (need_settles e arena key _ refl
+      (ap (λ (l : Loaded). awaits_read l.answer) (unread_steps c₁ arena e.shared.header key inside) ∙ closed_next key (next_step c₁ key) t))
 
-  plan-closed : (p : Plan) → plan_of e ≡ p → isOpen (opensPlan p c₁) ≡ false → isFetch (doneBy p e arena).answer ≡ false
-  unfolding matchStep roadStep
-  plan-closed Plan.Header q t = absurd (true≢false t)
-  plan-closed (Plan.Need key) q t =
-      let l = Loads.told (loadTested c₁ arena e.shared.header key 0 []) in
-      ap (λ (s : Stepped). isFetch s.answer) (need-settled key q t) ∙ closed-load l.answer l.cache
-  plan-closed Plan.Rest q t = refl
-  plan-closed Plan.NoPack q t = refl
-  plan-closed (Plan.Match fix) q t =
+  plan_closed : (p : Plan) → plan_of e ≡ p → is_open (opens_plan p c₁) ≡ false → is_fetch (done_by p e arena).answer ≡ false
+  unfolding match_step road_step
+  plan_closed Plan.Header q t = absurd (true≢false t)
+  plan_closed (Plan.Need key) q t =
+      let l = Loads.told (load_tested c₁ arena e.shared.header key 0 []) in
+      ap (λ (s : Stepped). is_fetch s.answer) (need_settled key q t) ∙ closed_load l.answer l.cache
+  plan_closed Plan.Rest q t = refl
+  plan_closed Plan.NoPack q t = refl
+  plan_closed (Plan.Match fix) q t =
       let u = updated e.follower.matcher c₁ arena e.shared.header (place_of fix) e.follower.sight.heading in
-      closed-match u.answer (counted e.follower) fix u
-  plan-closed (Plan.Road fix found) q t =
-      let x = predictedIn c₁ arena e.shared.header found e.follower.horizon_m (replicate 501 (pos 0)) (replicate 11 (pos 0)) in
-      closed-road x.predicted.answer (counted e.follower) fix found x
-  plan-closed Plan.Roadless q t = refl
-  plan-closed (Plan.Off fix) q t = refl
+      closed_match u.answer (counted e.follower) fix u
+  plan_closed (Plan.Road fix found) q t =
+      let x = predicted_in c₁ arena e.shared.header found e.follower.horizon_m (replicate 501 (pos 0)) (replicate 11 (pos 0)) in
+      closed_road x.predicted.answer (counted e.follower) fix found x
+  plan_closed Plan.Roadless q t = refl
+  plan_closed (Plan.Off fix) q t = refl
 
-  pub closed-step : isOpen (opens e) ≡ false → isFetch (stepped e arena).answer ≡ false
-  closed-step t = ap (λ (s : Stepped). isFetch s.answer) (plan-step e arena (closed-pending e t)) ∙ plan-closed (plan_of e) refl (closed-plan e t)
+  pub closed_step : is_open (opens e) ≡ false → is_fetch (stepped e arena).answer ≡ false
+  closed_step t = ap (λ (s : Stepped). is_fetch s.answer) (plan_step e arena (closed_pending e t)) ∙ plan_closed (plan_of e) refl (closed_plan e t)

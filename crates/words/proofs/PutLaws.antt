@@ -1,4 +1,4 @@
--- Pieces put one behind the other are put as one (`put-after`, `together`), those of a loop too (`put-spread`), and all of the words in their place are they (`put_all`).
+-- Pieces put one behind the other are put as one (`put_after`, `together`), those of a loop too (`put-spread`), and all of the words in their place are they (`put_all`).
 -- The idea: what stands before a piece and the piece itself is a front of known length, which the next piece leaves alone.
 use Rattle.std.proofs.Common.{◌≡◌, ℕ, zero, suc, ◌+◌, ◌*◌, ◌≤◌, List, [], ◌∷◌, ◌++◌, length, take, drop, sym, ap, ◌∙◌, append_assoc, append-nil, add-zero, arith, length-append, take-append-drop, drop_of_length-le, length-take-le, drop-drop, take_at}
 use lib.Seq.{drop-append-add, take-length}
@@ -7,9 +7,9 @@ use Rattle.num.specs.Fold.{up_to}
 use Rattle.words.specs.Put.{put}
 use Rattle.words.specs.Words.{flat, spread}
 
-pub put-none : (at : ℕ) (ws : List ℕ) → put at [] ws ≡ ws
+pub put_none : (at : ℕ) (ws : List ℕ) → put at [] ws ≡ ws
 unfolding put
-put-none at ws =
+put_none at ws =
     ap (λ (k : ℕ). take at ws ++ [] ++ drop k ws) (add-zero at)
     ∙ ap (λ (r : List ℕ). r ++ drop at ws) (append-nil (take at ws))
     ∙ take-append-drop at ws
@@ -18,9 +18,9 @@ put-none at ws =
 front : (at n : ℕ) (xs ws : List ℕ) → length xs ≡ n → at ≤ length ws → length (take at ws ++ xs) ≡ at + n
 front at n xs ws e h = length-append (take at ws) xs ∙ omega (arith, e, length-take-le at ws h)
 
-pub put-after : (at n : ℕ) (xs ys ws : List ℕ) → length xs ≡ n → at ≤ length ws → put (at + n) ys (put at xs ws) ≡ put at (xs ++ ys) ws
+pub put_after : (at n : ℕ) (xs ys ws : List ℕ) → length xs ≡ n → at ≤ length ws → put (at + n) ys (put at xs ws) ≡ put at (xs ++ ys) ws
 unfolding put
-put-after at n xs ys ws e h =
+put_after at n xs ys ws e h =
     let p : List ℕ = take at ws ++ xs in
     let d : List ℕ = drop (at + length xs) ws in
     let far : at + length xs + length ys ≡ at + length (xs ++ ys) = omega (arith, length-append xs ys) in
@@ -50,17 +50,17 @@ module _ (f : ℕ → List ℕ) (w : ℕ) (same : (j : ℕ) → length (f j) ≡
   pub put-spread : (at : ℕ) (place : ℕ → ℕ) → ((j : ℕ) → place j ≡ at + w * j) → (n : ℕ) (ws : List ℕ) → at ≤ length ws
       → up_to (λ (o : List ℕ) (j : ℕ). put (place j) (f j) o) ws n ≡ put at (spread f n) ws
   unfolding up_to spread
-  put-spread at place is zero ws h = sym (put-none at ws)
+  put-spread at place is zero ws h = sym (put_none at ws)
   put-spread at place is (suc n) ws h =
       ap (λ (o : List ℕ). put (place n) (f n) o) (put-spread at place is n ws h)
       ∙ ap (λ (k : ℕ). put k (f n) (put at (spread f n) ws)) (is n)
-      ∙ put-after at (w * n) (spread f n) (f n) ws (length-spread n) h
+      ∙ put_after at (w * n) (spread f n) (f n) ws (length-spread n) h
 
 -- ---- several pieces, each with its length
 
-abbrev pub putBy : ℕ → List (ℕ × List ℕ) → List ℕ → List ℕ
-putBy at [] ws = ws
-putBy at (p ∷ ps) ws = putBy (at + p.0) ps (put at p.1 ws)
+abbrev pub put_by : ℕ → List (ℕ × List ℕ) → List ℕ → List ℕ
+put_by at [] ws = ws
+put_by at (p ∷ ps) ws = put_by (at + p.0) ps (put at p.1 ws)
 
 abbrev pub Long : List (ℕ × List ℕ) → Type 0
 Long [] = Unit
@@ -70,11 +70,11 @@ abbrev pub pieces : List (ℕ × List ℕ) → List (List ℕ)
 pieces [] = []
 pieces (p ∷ ps) = p.1 ∷ pieces ps
 
-pub together : (at : ℕ) (ps : List (ℕ × List ℕ)) (ws : List ℕ) → Long ps → at ≤ length ws → putBy at ps ws ≡ put at (flat (pieces ps)) ws
-together at [] ws l h = sym (put-none at ws)
+pub together : (at : ℕ) (ps : List (ℕ × List ℕ)) (ws : List ℕ) → Long ps → at ≤ length ws → put_by at ps ws ≡ put at (flat (pieces ps)) ws
+together at [] ws l h = sym (put_none at ws)
 together at (p ∷ ps) ws l h =
     together (at + p.0) ps (put at p.1 ws) l.1 (reaches at p.0 p.1 ws l.0 h)
-    ∙ put-after at p.0 p.1 (flat (pieces ps)) ws l.0 h
+    ∙ put_after at p.0 p.1 (flat (pieces ps)) ws l.0 h
 
 -- all of the words
 pub put_all : (xs ws : List ℕ) → length xs ≡ length ws → put 0 xs ws ≡ xs

@@ -1,4 +1,4 @@
--- Pieces found again among the words: what stands before a piece is dropped (`here`, `next`), and a loop's pieces are read by their turn (`word_of`, `table-back`).
+-- Pieces found again among the words: what stands before a piece is dropped (`here`, `next`), and a loop's pieces are read by their turn (`word_of`, `table_back`).
 use Rattle.std.proofs.Common.{◌≡◌, ℕ, zero, suc, ◌+◌, ◌*◌, ◌<◌, Bool, true, false, ltb, List, [], ◌∷◌, ◌++◌, length, get_or, drop, sym, refl, ap, ◌∙◌, append_assoc, arith, get_or-drop, drop-drop, get_or-append-add, ext_get_or, drop_at, ltb-false, ltb-true}
 use mathlib.Core.Path.{fun_ext}
 use lib.ListN.{get_or-append}
@@ -14,8 +14,8 @@ pub from_is : (ws : List ℕ) (at : ℕ) (ys : List ℕ) → drop at ws ≡ ys �
 from_is ws at ys e = fun_ext (λ (k : ℕ). sym (get_or-drop at ws k 0) ∙ ap (λ (r : List ℕ). get_or r k 0) e)
 
 -- one of them
-pub at-is : (ws : List ℕ) (at : ℕ) (ys : List ℕ) → drop at ws ≡ ys → (k : ℕ) → get_or ws (at + k) 0 ≡ get_or ys k 0
-at-is ws at ys e k = sym (get_or-drop at ws k 0) ∙ ap (λ (r : List ℕ). get_or r k 0) e
+pub at_is : (ws : List ℕ) (at : ℕ) (ys : List ℕ) → drop at ws ≡ ys → (k : ℕ) → get_or ws (at + k) 0 ≡ get_or ys k 0
+at_is ws at ys e k = sym (get_or-drop at ws k 0) ∙ ap (λ (r : List ℕ). get_or r k 0) e
 
 module _ (ws : List ℕ) (at : ℕ) (x : List ℕ) (xs : List (List ℕ)) (zs : List ℕ) (e : drop at ws ≡ flat (x ∷ xs) ++ zs) where
   pub here : drop at ws ≡ x ++ (flat xs ++ zs)
@@ -40,8 +40,8 @@ module _ {A : Type 0} (f : ℕ → A) (d : A) where
           let last : i ≡ n = omega (arith, h, ltb-false i n e) in
           rw last (get_or_at (table f n) (f n) [] d n (length-table f n))
 
-  pub table-back : (xs : List A) (n : ℕ) → length xs ≡ n → ((i : ℕ) → i < n → f i ≡ get_or xs i d) → table f n ≡ xs
-  table-back xs n l same =
+  pub table_back : (xs : List A) (n : ℕ) → length xs ≡ n → ((i : ℕ) → i < n → f i ≡ get_or xs i d) → table f n ≡ xs
+  table_back xs n l same =
       ext_get_or d (table f n) xs (length-table f n ∙ sym l)
       (λ (i : ℕ) (h : i < length (table f n)). table_at n i (omega (arith, length-table f n)) ∙ same i (omega (arith, length-table f n)))
 

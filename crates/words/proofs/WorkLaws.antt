@@ -1,14 +1,14 @@
--- What a match and a road leave on words. What is read from words is what their engine has (`cache-in`, .., `horizon-in`); the parts that change, each put at its place, give the words of the
--- engine that is left (`asked-words`, .., `gone-words`); and the engine's own definitions by what the code tests (`matched-found`, .., `road-rematches`), and over the numbers that a road's lookups go by (`road-looked`). The idea: accepted words are those of
+-- What a match and a road leave on words. What is read from words is what their engine has (`cache_in`, .., `horizon_in`); the parts that change, each put at its place, give the words of the
+-- engine that is left (`asked_words`, .., `gone_words`); and the engine's own definitions by what the code tests (`matched_found`, .., `road_rematches`), and over the numbers that a road's lookups go by (`road_looked`). The idea: accepted words are those of
 -- their engine, and a piece put at its place gives the words of the engine with that part (`SetLaws`).
 use Rattle.std.proofs.Common.{◌≡◌, ℕ, ◌+◌, Bool, true, false, cond, eqb, ◌⊎◌, List, [], ◌∷◌, get_or, replicate, ℤ, pos, sym, refl, ap, ◌∙◌, ⊎_elim, true≢false, arith, eqb-true}
 use denote.Enum.Declared.{tag_of}
 use Rattle.pack.specs.declared.TileKey.{TileKey}
 use Rattle.cache.specs.Ages as Ages
-use Rattle.cache.specs.Ages.{lookupsOf, usesFrom}
+use Rattle.cache.specs.Ages.{lookups_of, uses_from}
 use Rattle.cache.specs.Lookups.{after}
 use Rattle.cache.specs.Stands.{Sized}
-use Rattle.cache.specs.Uses.{withUses}
+use Rattle.cache.specs.Uses.{with_uses}
 use Rattle.cache.specs.declared.Aging.{Aging}
 use Rattle.cache.specs.declared.Cache.{Cache}
 use Rattle.matcher.specs.Calls.{reset}
@@ -21,30 +21,30 @@ use Rattle.matcher.specs.declared.Outcome.{Outcome}
 use Rattle.matcher.specs.declared.Outcome.TheVariants as Outcome
 use Rattle.matcher.specs.declared.Updated.{Updated}
 use Rattle.matcher.specs.contracts.Outcome as Outcomes
-use Rattle.predict.specs.Predict.{Forecast, After, after_of, fromLooks}
+use Rattle.predict.specs.Predict.{Forecast, After, after_of, from_looks}
 use Rattle.predict.specs.declared.End.TheVariants as End
 use Rattle.predict.specs.declared.Outcome as RoadOutcome
 use Rattle.predict.specs.declared.Outcome.TheVariants as Road
 use Rattle.predict.specs.declared.Prediction.{Prediction}
-use Rattle.predict.proofs.InCache.{looks-predict}
+use Rattle.predict.proofs.InCache.{looks_predict}
 use Rattle.predict.specs.contracts.Outcome as RoadOutcomes
-use Rattle.engine.specs.Plans.{leftMap, roadDropped, matchMade, matchedDue, askingDue, roadFails, roadNumber}
-use Rattle.engine.specs.Publish.{withMatch}
+use Rattle.engine.specs.Plans.{left_map, road_dropped, match_made, matched_due, asking_due, road_fails, road_number}
+use Rattle.engine.specs.Publish.{with_match}
 use Rattle.engine.specs.State.{refused}
-use Rattle.engine.specs.Work.{asking, counted, ended, emptied, isMatched, mayAsk, matched, matchedBy, matchAsks, matchDone, matchEndedBy, matchingOff, matchingOn, offMap, published, rematch, roadDone, roadEndedBy, roadOff, roadStep, withMatcher, withDue, withAhead, withHeights}
+use Rattle.engine.specs.Work.{asking, counted, ended, emptied, is_matched, may_ask, matched, matched_by, match_asks, match_done, match_ended_by, matching_off, matching_on, off_map, published, rematch, road_done, road_ended_by, road_off, road_step, with_matcher, with_due, with_ahead, with_heights}
 use Rattle.engine.specs.declared.Ahead.{Ahead}
 use Rattle.engine.specs.declared.Due.{Due}
 use Rattle.engine.specs.declared.Engine.{Engine}
 use Rattle.engine.specs.declared.Fix.{Fix}
 use Rattle.engine.specs.declared.Follower.{Follower}
 use Rattle.engine.specs.declared.Status.TheVariants as Status
-use Rattle.engine.proofs.StepNeeds.{road-refused, road-ended, road-left}
-use Rattle.words.specs.Put.{put, usesIn}
+use Rattle.engine.proofs.StepNeeds.{road_refused, road_ended, road_left}
+use Rattle.words.specs.Put.{put, uses_in}
 use Rattle.words.specs.Words as Words
-use Rattle.words.specs.Words.{from, float_of, headerBy, pagesOf, cacheOf, sharedOf, headingOf, sight_of, currentBy, matcherOf, dueOf, ahead_of, followerOf, engineOf, usedWords, matcherWords, dueWords, aheadWords, words, accepted}
+use Rattle.words.specs.Words.{from, float_of, header_by, pages_of, cache_of, shared_of, heading_of, sight_of, current_by, matcher_of, due_of, ahead_of, follower_of, engine_of, used_words, matcher_words, due_words, ahead_words, words, accepted}
 use Rattle.words.specs.Worked as Worked
-use Rattle.words.proofs.SetLaws.{aged, clocked, matchedAs, dueAs, aheadAs, counting, used-put, clock-put, matcher-put-in, due-put-in, matching-put, road-due-put, ahead-put-in, steps-put}
-use Rattle.words.proofs.WordsLaws.{words-engine}
+use Rattle.words.proofs.SetLaws.{aged, clocked, matched_as, due_as, ahead_as, counting, used_put, clock_put, matcher_put_in, due_put_in, matching_put, road_due_put, ahead_put_in, steps_put}
+use Rattle.words.proofs.WordsLaws.{words_engine}
 
 -- by cases of which the types are known from what is given
 pub either {ℓ ℓ' ℓ''} : {A : Type ℓ} {B : Type ℓ'} {C : Type ℓ''} → A ⊎ B → (A → C) → (B → C) → C
@@ -53,58 +53,58 @@ either given one other = ⊎_elim one other given
 -- ---- what is read
 
 module _ (ws : List ℕ) where
-  pub cache-in : cacheOf ws 15 ≡ (engineOf ws).shared.cache
-  unfolding engineOf sharedOf
-  cache-in = refl
+  pub cache_in : cache_of ws 15 ≡ (engine_of ws).shared.cache
+  unfolding engine_of shared_of
+  cache_in = refl
 
-  pub header-in : headerBy (from ws 2) ≡ (engineOf ws).shared.header
-  unfolding engineOf sharedOf
-  header-in = refl
+  pub header_in : header_by (from ws 2) ≡ (engine_of ws).shared.header
+  unfolding engine_of shared_of
+  header_in = refl
 
-  pub count-in : get_or ws 399 0 ≡ (engineOf ws).shared.cache.pages.count
-  unfolding engineOf sharedOf cacheOf pagesOf
-  count-in = refl
+  pub count_in : get_or ws 399 0 ≡ (engine_of ws).shared.cache.pages.count
+  unfolding engine_of shared_of cache_of pages_of
+  count_in = refl
 
-  pub heading-in : headingOf (get_or ws 577 0) (get_or ws 578 0) ≡ (engineOf ws).follower.sight.heading
-  unfolding engineOf followerOf sight_of
-  heading-in = refl
+  pub heading_in : heading_of (get_or ws 577 0) (get_or ws 578 0) ≡ (engine_of ws).follower.sight.heading
+  unfolding engine_of follower_of sight_of
+  heading_in = refl
 
-  pub matcher-in : matcherOf ws 581 ≡ (engineOf ws).follower.matcher
-  unfolding engineOf followerOf
-  matcher-in = refl
+  pub matcher_in : matcher_of ws 581 ≡ (engine_of ws).follower.matcher
+  unfolding engine_of follower_of
+  matcher_in = refl
 
-  pub due_in : dueOf ws 603 ≡ (engineOf ws).follower.due
-  unfolding engineOf followerOf
+  pub due_in : due_of ws 603 ≡ (engine_of ws).follower.due
+  unfolding engine_of follower_of
   due_in = refl
 
-  pub ahead_in : ahead_of ws 611 ≡ (engineOf ws).follower.ahead
-  unfolding engineOf followerOf
+  pub ahead_in : ahead_of ws 611 ≡ (engine_of ws).follower.ahead
+  unfolding engine_of follower_of
   ahead_in = refl
 
-  pub generation-in : get_or ws 611 0 ≡ (engineOf ws).follower.ahead.generation
-  unfolding engineOf followerOf ahead_of
-  generation-in = refl
+  pub generation_in : get_or ws 611 0 ≡ (engine_of ws).follower.ahead.generation
+  unfolding engine_of follower_of ahead_of
+  generation_in = refl
 
-  pub published-in : currentBy (from ws 614) ≡ (engineOf ws).follower.ahead.matched
-  unfolding engineOf followerOf ahead_of
-  published-in = refl
+  pub published_in : current_by (from ws 614) ≡ (engine_of ws).follower.ahead.matched
+  unfolding engine_of follower_of ahead_of
+  published_in = refl
 
   -- whether a match is published is one word
-  pub is-published : isMatched (engineOf ws).follower.ahead.matched ≡ eqb (get_or ws 614 0) 1
-  unfolding currentBy
-  is-published = ap isMatched (sym published-in) ∙ by (eqb (get_or ws 614 0) 1)
+  pub is_published : is_matched (engine_of ws).follower.ahead.matched ≡ eqb (get_or ws 614 0) 1
+  unfolding current_by
+  is_published = ap is_matched (sym published_in) ∙ by (eqb (get_or ws 614 0) 1)
     where
-      by : (b : Bool) → isMatched (cond b (Current.Is (Words.matchedBy (from ws 614))) Current.Nothing) ≡ b
+      by : (b : Bool) → is_matched (cond b (Current.Is (Words.matched_by (from ws 614))) Current.Nothing) ≡ b
       by true = refl
       by false = refl
 
-  pub horizon-in : float_of (get_or ws 1148 0) ≡ (engineOf ws).follower.horizon_m
-  unfolding engineOf followerOf
-  horizon-in = refl
+  pub horizon_in : float_of (get_or ws 1148 0) ≡ (engine_of ws).follower.horizon_m
+  unfolding engine_of follower_of
+  horizon_in = refl
 
-  steps-in : get_or ws 1149 0 ≡ (engineOf ws).follower.steps
-  unfolding engineOf followerOf
-  steps-in = refl
+  steps_in : get_or ws 1149 0 ≡ (engine_of ws).follower.steps
+  unfolding engine_of follower_of
+  steps_in = refl
 
 -- ---- what is put
 
@@ -113,161 +113,161 @@ onto : (at : ℕ) (p : List ℕ) {ws xs ys : List ℕ} → ws ≡ xs → put at 
 onto at p before law = ap (put at p) before ∙ law
 
 module _ {xs : List ℕ} (e : Engine) (before : xs ≡ words e) where
-  due-put : (d : Due) → put 603 (dueWords d) xs ≡ words (dueAs e d)
-  due-put d = onto 603 (dueWords d) before (due-put-in e d)
+  due_put : (d : Due) → put 603 (due_words d) xs ≡ words (due_as e d)
+  due_put d = onto 603 (due_words d) before (due_put_in e d)
 
-  found-put : (m : Matcher) (d : Due) → put 603 (dueWords d) (put 581 (matcherWords m) xs) ≡ words (dueAs (matchedAs e m) d)
-  found-put m d = onto 603 (dueWords d) (onto 581 (matcherWords m) before (matcher-put-in e m)) (due-put-in (matchedAs e m) d)
+  found_put : (m : Matcher) (d : Due) → put 603 (due_words d) (put 581 (matcher_words m) xs) ≡ words (due_as (matched_as e m) d)
+  found_put m d = onto 603 (due_words d) (onto 581 (matcher_words m) before (matcher_put_in e m)) (due_put_in (matched_as e m) d)
 
 module _ (ws : List ℕ) (h : accepted ws ≡ true) where
   abbrev here : Engine
-  here = engineOf ws
+  here = engine_of ws
 
   own : ws ≡ words here
-  own = sym (words-engine ws h)
+  own = sym (words_engine ws h)
 
   -- clock and ages
-  abbrev pub agedBy : Aging → Engine
-  agedBy a = clocked (aged here a.used) a.clock
+  abbrev pub aged_by : Aging → Engine
+  aged_by a = clocked (aged here a.used) a.clock
 
-  pub uses-words : (a : Aging) → usesIn a ws ≡ words (agedBy a)
-  uses-words a = onto 400 (a.clock ∷ []) (onto 303 (usedWords a.used) own (used-put here a.used)) (clock-put (aged here a.used) a.clock)
+  pub uses_words : (a : Aging) → uses_in a ws ≡ words (aged_by a)
+  uses_words a = onto 400 (a.clock ∷ []) (onto 303 (used_words a.used) own (used_put here a.used)) (clock_put (aged here a.used) a.clock)
 
   module _ (n : ℕ) (more : n ≡ after (get_or ws 1149 0)) where
     -- the step counted last
     counts : {xs : List ℕ} (e : Engine) → xs ≡ words e → put 1149 (n ∷ []) xs ≡ words (counting e (after here.follower.steps))
     counts {xs} e before =
-        ap (λ (k : ℕ). put 1149 (k ∷ []) xs) (more ∙ ap after (steps-in ws))
-        ∙ onto 1149 (after here.follower.steps ∷ []) before (steps-put e (after here.follower.steps))
+        ap (λ (k : ℕ). put 1149 (k ∷ []) xs) (more ∙ ap after (steps_in ws))
+        ∙ onto 1149 (after here.follower.steps ∷ []) before (steps_put e (after here.follower.steps))
 
     -- a match, once clock and ages are put
-    pub asked-words : (d : Due) → put 1149 (n ∷ []) (put 603 (dueWords d) ws) ≡ words (Worked.asked here d)
-    asked-words d = counts (dueAs here d) (due-put here own d)
+    pub asked_words : (d : Due) → put 1149 (n ∷ []) (put 603 (due_words d) ws) ≡ words (Worked.asked here d)
+    asked_words d = counts (due_as here d) (due_put here own d)
 
-    pub found-words : (m : Matcher) (d : Due) → put 1149 (n ∷ []) (put 603 (dueWords d) (put 581 (matcherWords m) ws)) ≡ words (Worked.found here m d)
-    found-words m d = counts (dueAs (matchedAs here m) d) (found-put here own m d)
+    pub found_words : (m : Matcher) (d : Due) → put 1149 (n ∷ []) (put 603 (due_words d) (put 581 (matcher_words m) ws)) ≡ words (Worked.found here m d)
+    found_words m d = counts (due_as (matched_as here m) d) (found_put here own m d)
 
-    pub lost-words : (m : Matcher) (d : Due) (at : ℕ)
-        → put 1149 (n ∷ []) (put 611 (aheadWords (emptied here.follower.ahead at End.Uncertain)) (put 603 (dueWords d) (put 581 (matcherWords m) ws)))
+    pub lost_words : (m : Matcher) (d : Due) (at : ℕ)
+        → put 1149 (n ∷ []) (put 611 (ahead_words (emptied here.follower.ahead at End.Uncertain)) (put 603 (due_words d) (put 581 (matcher_words m) ws)))
         ≡ words (Worked.lost here m d at)
-    lost-words m d at =
-        let e : Engine = dueAs (matchedAs here m) d in
+    lost_words m d at =
+        let e : Engine = due_as (matched_as here m) d in
         let empty : Ahead = emptied here.follower.ahead at End.Uncertain in
-        counts (aheadAs e empty) (onto 611 (aheadWords empty) (found-put here own m d) (ahead-put-in e empty))
+        counts (ahead_as e empty) (onto 611 (ahead_words empty) (found_put here own m d) (ahead_put_in e empty))
 
     -- a road, with clock and ages
-    pub rematched-words : (a : Aging)
-        → put 1149 (n ∷ []) (put 603 (dueWords (matchingOn here.follower.due)) (put 581 (matcherWords reset) (usesIn a ws)))
+    pub rematched_words : (a : Aging)
+        → put 1149 (n ∷ []) (put 603 (due_words (matching_on here.follower.due)) (put 581 (matcher_words reset) (uses_in a ws)))
         ≡ words (Worked.rematched here a)
-    rematched-words a =
-        let due : Due = matchingOn here.follower.due in
-        counts (dueAs (matchedAs (agedBy a) reset) due) (found-put (agedBy a) (uses-words a) reset due)
+    rematched_words a =
+        let due : Due = matching_on here.follower.due in
+        counts (due_as (matched_as (aged_by a) reset) due) (found_put (aged_by a) (uses_words a) reset due)
 
-    pub published-words : (a : Aging) (d : Due) (road : Ahead)
-        → put 1149 (n ∷ []) (put 611 (aheadWords road) (put 603 (dueWords d) (usesIn a ws)))
-        ≡ words (Worked.leaves here (withUses here.shared.cache a) (withAhead (withDue (counted here.follower) d) road))
-    published-words a d road =
-        let e : Engine = dueAs (agedBy a) d in
-        counts (aheadAs e road) (onto 611 (aheadWords road) (due-put (agedBy a) (uses-words a) d) (ahead-put-in e road))
+    pub published_words : (a : Aging) (d : Due) (road : Ahead)
+        → put 1149 (n ∷ []) (put 611 (ahead_words road) (put 603 (due_words d) (uses_in a ws)))
+        ≡ words (Worked.leaves here (with_uses here.shared.cache a) (with_ahead (with_due (counted here.follower) d) road))
+    published_words a d road =
+        let e : Engine = due_as (aged_by a) d in
+        counts (ahead_as e road) (onto 611 (ahead_words road) (due_put (aged_by a) (uses_words a) d) (ahead_put_in e road))
 
-    pub dropped-words : put 1149 (n ∷ []) (put 604 (0 ∷ []) ws) ≡ words (roadDropped here).engine
-    dropped-words = counts (dueAs here (roadOff here.follower.due)) (onto 604 (0 ∷ []) (sym (words-engine ws h)) (road-due-put here false))
+    pub dropped_words : put 1149 (n ∷ []) (put 604 (0 ∷ []) ws) ≡ words (road_dropped here).engine
+    dropped_words = counts (due_as here (road_off here.follower.due)) (onto 604 (0 ∷ []) (sym (words_engine ws h)) (road_due_put here false))
 
     -- ---- off the map
 
     abbrev leaving : Engine → Engine
-    leaving e = counting (dueAs e (matchingOff e.follower.due)) (after here.follower.steps)
+    leaving e = counting (due_as e (matching_off e.follower.due)) (after here.follower.steps)
 
-    left-put : {xs : List ℕ} (e : Engine) → xs ≡ words e → put 1149 (n ∷ []) (put 603 (0 ∷ []) xs) ≡ words (leaving e)
-    left-put e before = counts (dueAs e (matchingOff e.follower.due)) (onto 603 (0 ∷ []) before (matching-put e false))
+    left_put : {xs : List ℕ} (e : Engine) → xs ≡ words e → put 1149 (n ∷ []) (put 603 (0 ∷ []) xs) ≡ words (leaving e)
+    left_put e before = counts (due_as e (matching_off e.follower.due)) (onto 603 (0 ∷ []) before (matching_put e false))
 
     -- with a road that is published
-    pub gone-left : (fix : Fix) → isMatched here.follower.ahead.matched ≡ true → {xs : List ℕ} → xs ≡ words (Worked.roadGone here fix.at_ms)
-        → put 1149 (n ∷ []) (put 603 (0 ∷ []) xs) ≡ words (leftMap here fix).engine
-    unfolding offMap
-    gone-left fix q before =
+    pub gone_left : (fix : Fix) → is_matched here.follower.ahead.matched ≡ true → {xs : List ℕ} → xs ≡ words (Worked.road_gone here fix.at_ms)
+        → put 1149 (n ∷ []) (put 603 (0 ∷ []) xs) ≡ words (left_map here fix).engine
+    unfolding off_map
+    gone_left fix q before =
         let empty : Ahead = emptied here.follower.ahead fix.at_ms End.MapEdge in
-        left-put (Worked.roadGone here fix.at_ms) before
-        ∙ ap (λ (b : Bool). words (leaving (aheadAs (matchedAs here (cond b reset here.follower.matcher)) empty))) (sym q)
+        left_put (Worked.road_gone here fix.at_ms) before
+        ∙ ap (λ (b : Bool). words (leaving (ahead_as (matched_as here (cond b reset here.follower.matcher)) empty))) (sym q)
 
     -- and without one
-    pub still-left : (fix : Fix) → isMatched here.follower.ahead.matched ≡ false → {xs : List ℕ} → xs ≡ ws
-        → put 1149 (n ∷ []) (put 603 (0 ∷ []) xs) ≡ words (leftMap here fix).engine
-    unfolding offMap
-    still-left fix q before = rw q (left-put here (before ∙ sym (words-engine ws h)))
+    pub still_left : (fix : Fix) → is_matched here.follower.ahead.matched ≡ false → {xs : List ℕ} → xs ≡ ws
+        → put 1149 (n ∷ []) (put 603 (0 ∷ []) xs) ≡ words (left_map here fix).engine
+    unfolding off_map
+    still_left fix q before = rw q (left_put here (before ∙ sym (words_engine ws h)))
 
-pub gone-words : (ws : List ℕ) → accepted ws ≡ true → (at : ℕ)
-    → put 611 (aheadWords (emptied (engineOf ws).follower.ahead at End.MapEdge)) (put 581 (matcherWords reset) ws) ≡ words (Worked.roadGone (engineOf ws) at)
-gone-words ws h at =
-    let e : Engine = engineOf ws in
+pub gone_words : (ws : List ℕ) → accepted ws ≡ true → (at : ℕ)
+    → put 611 (ahead_words (emptied (engine_of ws).follower.ahead at End.MapEdge)) (put 581 (matcher_words reset) ws) ≡ words (Worked.road_gone (engine_of ws) at)
+gone_words ws h at =
+    let e : Engine = engine_of ws in
     let empty : Ahead = emptied e.follower.ahead at End.MapEdge in
-    onto 611 (aheadWords empty) (onto 581 (matcherWords reset) (sym (words-engine ws h)) (matcher-put-in e reset)) (ahead-put-in (matchedAs e reset) empty)
+    onto 611 (ahead_words empty) (onto 581 (matcher_words reset) (sym (words_engine ws h)) (matcher_put_in e reset)) (ahead_put_in (matched_as e reset) empty)
 
 -- ---- how a match ends
 
-abbrev dueFor : Current → Follower → Fix → Due
-dueFor o f fix = matchedDue f.due o f.ahead.matched fix.at_ms
+abbrev due_for : Current → Follower → Fix → Due
+due_for o f fix = matched_due f.due o f.ahead.matched fix.at_ms
 
 module _ (f : Follower) (m : Matcher) (fix : Fix) where
-  by-found : (o : Current) → isMatched o ≡ true → matchedBy o f m fix ≡ withDue (withMatcher f m) (dueFor o f fix)
-  by-found Current.Nothing q = absurd (true≢false (sym q))
-  by-found (Current.Is found) q = refl
+  by_found : (o : Current) → is_matched o ≡ true → matched_by o f m fix ≡ with_due (with_matcher f m) (due_for o f fix)
+  by_found Current.Nothing q = absurd (true≢false (sym q))
+  by_found (Current.Is found) q = refl
 
-  by-none : (o : Current) → isMatched o ≡ false
-      → matchedBy o f m fix ≡ withDue (withAhead (withMatcher f m) (emptied f.ahead fix.at_ms End.Uncertain)) (dueFor o f fix)
-  by-none Current.Nothing q = refl
-  by-none (Current.Is found) q = absurd (true≢false q)
+  by_none : (o : Current) → is_matched o ≡ false
+      → matched_by o f m fix ≡ with_due (with_ahead (with_matcher f m) (emptied f.ahead fix.at_ms End.Uncertain)) (due_for o f fix)
+  by_none Current.Nothing q = refl
+  by_none (Current.Is found) q = absurd (true≢false q)
 
   -- with a match
-  pub matched-found : isMatched m.current ≡ true → matched f m fix ≡ withDue (withMatcher f m) (dueFor m.current f fix)
+  pub matched_found : is_matched m.current ≡ true → matched f m fix ≡ with_due (with_matcher f m) (due_for m.current f fix)
   unfolding matched
-  matched-found q = by-found m.current q
+  matched_found q = by_found m.current q
 
   -- without one
-  pub matched-lost : isMatched m.current ≡ false
-      → matched f m fix ≡ withDue (withAhead (withMatcher f m) (emptied f.ahead fix.at_ms End.Uncertain)) (dueFor m.current f fix)
+  pub matched_lost : is_matched m.current ≡ false
+      → matched f m fix ≡ with_due (with_ahead (with_matcher f m) (emptied f.ahead fix.at_ms End.Uncertain)) (due_for m.current f fix)
   unfolding matched
-  matched-lost q = by-none m.current q
+  matched_lost q = by_none m.current q
 
   -- and none is published
-  pub matched-still : isMatched m.current ≡ false → isMatched f.ahead.matched ≡ false → matched f m fix ≡ withDue (withMatcher f m) (dueFor m.current f fix)
-  matched-still q none = matched-lost q ∙ rw none
+  pub matched_still : is_matched m.current ≡ false → is_matched f.ahead.matched ≡ false → matched f m fix ≡ with_due (with_matcher f m) (due_for m.current f fix)
+  matched_still q none = matched_lost q ∙ rw none
 
-abbrev outcomeTag : Outcome → ℕ
-outcomeTag o = tag_of Outcomes.the_type o
+abbrev outcome_tag : Outcome → ℕ
+outcome_tag o = tag_of Outcomes.the_type o
 
-made_by : (o : Outcome) → (outcomeTag o ≡ 0) ⊎ (outcomeTag o ≡ 1) → (e : Engine) (f : Follower) (fix : Fix) (u : Updated)
-    → matchEndedBy o e f fix u ≡ ended e u.cache (matched f u.matcher fix) Status.Working
+made_by : (o : Outcome) → (outcome_tag o ≡ 0) ⊎ (outcome_tag o ≡ 1) → (e : Engine) (f : Follower) (fix : Fix) (u : Updated)
+    → match_ended_by o e f fix u ≡ ended e u.cache (matched f u.matcher fix) Status.Working
 made_by (Outcome.Found m) h e f fix u = refl
 made_by Outcome.Nothing h e f fix u = refl
 made_by (Outcome.Need key) h e f fix u = absurd (⊎_elim (λ z. omega arith) (λ z. omega arith) h)
 made_by (Outcome.Refused number) h e f fix u = absurd (⊎_elim (λ z. omega arith) (λ z. omega arith) h)
 
 -- with a match or without one
-pub match-made : (e : Engine) (fix : Fix) (u : Made) → (outcomeTag u.answer ≡ 0) ⊎ (outcomeTag u.answer ≡ 1)
-    → matchMade e fix u ≡ ended e (withUses e.shared.cache u.uses) (matched (counted e.follower) u.matcher fix) Status.Working
-match-made e fix u h =
-    made_by u.answer h e (counted e.follower) fix (record { answer = u.answer; matcher = u.matcher; cache = withUses e.shared.cache u.uses })
+pub match_made_lem : (e : Engine) (fix : Fix) (u : Made) → (outcome_tag u.answer ≡ 0) ⊎ (outcome_tag u.answer ≡ 1)
+    → match_made e fix u ≡ ended e (with_uses e.shared.cache u.uses) (matched (counted e.follower) u.matcher fix) Status.Working
+match_made_lem e fix u h =
+    made_by u.answer h e (counted e.follower) fix (record { answer = u.answer; matcher = u.matcher; cache = with_uses e.shared.cache u.uses })
 
 -- for want of a tile: what is due, by the one test
-pub asks-due : (f : Follower) (pages : ℕ) (key : TileKey) → matchAsks f pages key ≡ withDue f (askingDue f.due pages key)
-asks-due f pages key = by (mayAsk f.due pages) (asking f.due key (f.due.reloads + 1)) (matchDone f.due f.due.road)
+pub asks_due : (f : Follower) (pages : ℕ) (key : TileKey) → match_asks f pages key ≡ with_due f (asking_due f.due pages key)
+asks_due f pages key = by (may_ask f.due pages) (asking f.due key (f.due.reloads + 1)) (match_done f.due f.due.road)
   where
-    by : (b : Bool) (x y : Due) → cond b (withDue f x) (withDue f y) ≡ withDue f (cond b x y)
+    by : (b : Bool) (x y : Due) → cond b (with_due f x) (with_due f y) ≡ with_due f (cond b x y)
     by true x y = refl
     by false x y = refl
 
 -- ---- a road
 
 -- a road published over heights
-pub road-published : (f : Follower) (samples behind : List ℤ) (fix : Fix) (m : Matched) (p : Prediction)
-    → published f (withHeights f.ahead samples behind) fix m p
-    ≡ withAhead (withDue f (roadDone f.due fix.at_ms)) (Worked.roadOf f.ahead.generation fix.at_ms m p samples behind)
-unfolding published withMatch
-road-published f samples behind fix m p = refl
+pub road_published : (f : Follower) (samples behind : List ℤ) (fix : Fix) (m : Matched) (p : Prediction)
+    → published f (with_heights f.ahead samples behind) fix m p
+    ≡ with_ahead (with_due f (road_done f.due fix.at_ms)) (Worked.road_of f.ahead.generation fix.at_ms m p samples behind)
+unfolding published with_match
+road_published f samples behind fix m p = refl
 
-abbrev roadTag : RoadOutcome.Outcome → ℕ
-roadTag o = tag_of RoadOutcomes.the_type o
+abbrev road_tag : RoadOutcome.Outcome → ℕ
+road_tag o = tag_of RoadOutcomes.the_type o
 
 module _ (e : Engine) (fix : Fix) (m : Matched) where
   abbrev next : Follower
@@ -275,35 +275,35 @@ module _ (e : Engine) (fix : Fix) (m : Matched) where
 
   module _ (answer : RoadOutcome.Outcome) (uses : Aging) (samples behind : List ℤ) where
     abbrev left : Cache
-    left = withUses e.shared.cache uses
+    left = with_uses e.shared.cache uses
 
     abbrev worked : After
     worked = record { predicted = record { answer = answer; cache = left }; samples = samples; behind = behind }
 
     -- one that refuses the step
-    pub road-refuses : roadFails answer ≡ true → Worked.roadEnded e fix m answer uses samples behind ≡ refused e (roadNumber answer)
-    road-refuses fails = road-refused answer fails e next fix m worked
+    pub road_refuses : road_fails answer ≡ true → Worked.road_ended e fix m answer uses samples behind ≡ refused e (road_number answer)
+    road_refuses fails = road_refused answer fails e next fix m worked
 
     -- one that has the fix matched again
-    pub road-rematches : roadFails answer ≡ false → (roadTag answer ≡ 2) ⊎ (roadTag answer ≡ 3)
-        → Worked.roadEnded e fix m answer uses samples behind ≡ ended e left (rematch next) Status.Working
-    road-rematches stays h =
-        road-ended answer stays e next fix m worked
+    pub road_rematches : road_fails answer ≡ false → (road_tag answer ≡ 2) ⊎ (road_tag answer ≡ 3)
+        → Worked.road_ended e fix m answer uses samples behind ≡ ended e left (rematch next) Status.Working
+    road_rematches stays h =
+        road_ended answer stays e next fix m worked
         ∙ ap (λ (f : Follower). ended e left f Status.Working)
-        (road-left answer h next (withHeights e.follower.ahead samples behind) left.pages.count fix m)
+        (road_left answer h next (with_heights e.follower.ahead samples behind) left.pages.count fix m)
 
   -- after a late 12 the step is refused: so clock and ages may be put beside every other answer
-  road-closed : (o : RoadOutcome.Outcome) (looks : List ℕ) (samples behind : List ℤ)
-      → Worked.roadEnded e fix m o (usesFrom looks) samples behind
-      ≡ roadEndedBy o e next fix m (after_of e.shared.cache (record { answer = o; samples = samples; behind = behind; carried = looks }))
+  road_closed : (o : RoadOutcome.Outcome) (looks : List ℕ) (samples behind : List ℤ)
+      → Worked.road_ended e fix m o (uses_from looks) samples behind
+      ≡ road_ended_by o e next fix m (after_of e.shared.cache (record { answer = o; samples = samples; behind = behind; carried = looks }))
   unfolding Ages.aged
-  road-closed (Road.Road p) looks samples behind = refl
-  road-closed (Road.Need key) looks samples behind = refl
-  road-closed Road.Rematch looks samples behind = refl
-  road-closed (Road.Refused number) looks samples behind = by (eqb number 10) refl
+  road_closed (Road.Road p) looks samples behind = refl
+  road_closed (Road.Need key) looks samples behind = refl
+  road_closed Road.Rematch looks samples behind = refl
+  road_closed (Road.Refused number) looks samples behind = by (eqb number 10) refl
     where
       by : (t : Bool) → eqb number 10 ≡ t
-          → cond t (ended e (withUses e.shared.cache (usesFrom looks)) (rematch next) Status.Working) (refused e number)
+          → cond t (ended e (with_uses e.shared.cache (uses_from looks)) (rematch next) Status.Working) (refused e number)
           ≡ cond t (ended e (cond (eqb number 12) e.shared.cache (Ages.aged e.shared.cache looks)) (rematch next) Status.Working) (refused e number)
       by true q = let ten : number ≡ 10 = eqb-true number 10 q in rw ten
       by false q = refl
@@ -311,11 +311,11 @@ module _ (e : Engine) (fix : Fix) (m : Matched) where
   -- a road over the numbers that its lookups go by
   module _ (sized : Sized e.shared.cache) (arena : List ℕ) where
     abbrev road : Forecast (List ℕ)
-    road = fromLooks (lookupsOf e.shared.cache) arena e.shared.cache.pages.count e.shared.header m e.follower.horizon_m (replicate 501 (pos 0)) (replicate 11 (pos 0))
+    road = from_looks (lookups_of e.shared.cache) arena e.shared.cache.pages.count e.shared.header m e.follower.horizon_m (replicate 501 (pos 0)) (replicate 11 (pos 0))
 
-    pub road-looked : Worked.roadEnded e fix m road.answer (usesFrom road.carried) road.samples road.behind ≡ roadStep e arena next fix m
-    unfolding roadStep
-    road-looked =
-        road-closed road.answer road.carried road.samples road.behind
-        ∙ ap (λ (x : After). roadEndedBy x.predicted.answer e next fix m x)
-        (looks-predict e.shared.cache sized arena e.shared.header m e.follower.horizon_m (replicate 501 (pos 0)) (replicate 11 (pos 0)))
+    pub road_looked : Worked.road_ended e fix m road.answer (uses_from road.carried) road.samples road.behind ≡ road_step e arena next fix m
+    unfolding road_step
+    road_looked =
+        road_closed road.answer road.carried road.samples road.behind
+        ∙ ap (λ (x : After). road_ended_by x.predicted.answer e next fix m x)
+        (looks_predict e.shared.cache sized arena e.shared.header m e.follower.horizon_m (replicate 501 (pos 0)) (replicate 11 (pos 0)))

@@ -18,7 +18,7 @@ use Rattle.engine.specs.declared.Status.{Status}
 use Rattle.engine.specs.declared.Status.TheVariants as Status
 use Rattle.engine.specs.declared.Stepped.{Stepped}
 use Rattle.engine.specs.declared.Engine.{Engine}
-use Rattle.words.specs.Words.{words, engineOf, cacheOf, accepted}
+use Rattle.words.specs.Words.{words, engine_of, cache_of, accepted}
 
 -- an answer, and the words and the arena that are left
 pub record Moved : Type 0 where
@@ -43,28 +43,28 @@ abbrev pub keeps : List ℕ → List ℕ → Delivered
 keeps ws arena = record { answer = Status.Refused 12; words = ws; arena = arena }
 
 unfoldable pub step : List ℕ → List ℕ → Moved
-step ws arena = cond (accepted ws) (moved (Calls.step (engineOf ws) arena)) (stays ws)
+step ws arena = cond (accepted ws) (moved (Calls.step (engine_of ws) arena)) (stays ws)
 
 unfoldable pub deliver : List ℕ → List ℕ → ℕ → List ℕ → Delivered
-deliver ws arena failure bs = cond (accepted ws) (delivered (Calls.deliver (engineOf ws) arena failure bs)) (keeps ws arena)
+deliver ws arena failure bs = cond (accepted ws) (delivered (Calls.deliver (engine_of ws) arena failure bs)) (keeps ws arena)
 
-unfoldable pub stepFrom : List ℕ → List ℕ → List ℕ → Delivered
-stepFrom ws arena pack = cond (accepted ws) (delivered (Calls.stepFrom (engineOf ws) arena pack)) (keeps ws arena)
+unfoldable pub step_from : List ℕ → List ℕ → List ℕ → Delivered
+step_from ws arena pack = cond (accepted ws) (delivered (Calls.step_from (engine_of ws) arena pack)) (keeps ws arena)
 
 -- ---- the matcher's and predict's own calls (`Calls` of the matcher, `Predict` of predict), on the cache of the engine that the words are
 
-abbrev pub withCache : Cache → Engine → Engine
-withCache c e = record { shared = record { phase = e.shared.phase; header = e.shared.header; cache = c }; follower = e.follower }
+abbrev pub with_cache : Cache → Engine → Engine
+with_cache c e = record { shared = record { phase = e.shared.phase; header = e.shared.header; cache = c }; follower = e.follower }
 
 -- the words after a call that left the cache c
 abbrev pub left : List ℕ → Cache → List ℕ
-left ws c = cond (accepted ws) (words (withCache c (engineOf ws))) ws
+left ws c = cond (accepted ws) (words (with_cache c (engine_of ws))) ws
 
 unfoldable pub update : List ℕ → List ℕ → Matcher → Header → Point → Heading → Updated
-update ws arena m h fix heading = cond (accepted ws) (Matching.update m (cacheOf ws 15) arena h fix heading) (refused m (cacheOf ws 15) 12)
+update ws arena m h fix heading = cond (accepted ws) (Matching.update m (cache_of ws 15) arena h fix heading) (refused m (cache_of ws 15) 12)
 
 unfoldable pub predict : List ℕ → List ℕ → Header → Matched → Float → List ℤ → List ℤ → After
 predict ws arena h m horizon samples behind =
     cond (accepted ws)
-    (Predict.predict (cacheOf ws 15) arena h m horizon samples behind)
-    (Predict.untouched (Predict.refused (cacheOf ws 15) 12) samples behind)
+    (Predict.predict (cache_of ws 15) arena h m horizon samples behind)
+    (Predict.untouched (Predict.refused (cache_of ws 15) 12) samples behind)

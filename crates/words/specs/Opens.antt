@@ -2,74 +2,74 @@
 use Rattle.std.specs.Prelude.{ℕ, Bool, cond, ◌&&◌, List}
 use Rattle.pack.specs.declared.Header.{Header}
 use Rattle.pack.specs.declared.TileKey.{TileKey}
-use Rattle.cache.specs.Lookups.{nextStep}
-use Rattle.cache.specs.State.{stateOk, cacheOk}
+use Rattle.cache.specs.Lookups.{next_step}
+use Rattle.cache.specs.State.{state_ok, cache_ok}
 use Rattle.cache.specs.declared.Cache.{Cache}
 use Rattle.cache.specs.declared.Pending.{Pending}
 use Rattle.cache.specs.declared.Pending.TheVariants as Pending
 use Rattle.cache.specs.declared.next.Next.{Next}
 use Rattle.cache.specs.declared.next.Next.TheVariants as Next
 use Rattle.engine.specs.Plans.{plan_of}
-use Rattle.engine.specs.State.{engineOk}
+use Rattle.engine.specs.State.{engine_ok}
 use Rattle.engine.specs.Steps.{opened}
 use Rattle.engine.specs.declared.Engine.{Engine}
 use Rattle.engine.specs.declared.plan.Plan.{Plan}
 use Rattle.engine.specs.declared.plan.Plan.TheVariants as Plan
 use Rattle.words.specs.declared.steps.Planned.{Planned}
 use Rattle.words.specs.declared.steps.Planned.TheVariants as Planned
-use Rattle.words.specs.Words.{accepted, engineOf, cacheOf}
+use Rattle.words.specs.Words.{accepted, engine_of, cache_of}
 
 -- words of an engine whose cache's own state number 12 leaves alone
-unfoldable pub cacheTested : List ℕ → Bool
-cacheTested ws = accepted ws && stateOk (cacheOf ws 15)
+unfoldable pub cache_tested : List ℕ → Bool
+cache_tested ws = accepted ws && state_ok (cache_of ws 15)
 
 -- words of an engine, and a call that is given its cache, a header and an arena of `size` bytes, which number 12 leaves alone
-unfoldable pub givenTested : List ℕ → Header → ℕ → Bool
-givenTested ws h size = accepted ws && cacheOk (cacheOf ws 15) h size
+unfoldable pub given_tested : List ℕ → Header → ℕ → Bool
+given_tested ws h size = accepted ws && cache_ok (cache_of ws 15) h size
 
 -- words of an engine that number 12 leaves alone
 unfoldable pub tested : List ℕ → ℕ → Bool
-tested ws size = accepted ws && engineOk (engineOf ws) size
+tested ws size = accepted ws && engine_ok (engine_of ws) size
 
 -- towards a tile: its entry or a chunk, none where the cache settles it without a read
-abbrev pub opensNext : Next → TileKey → Pending
-opensNext Next.Entry key = Pending.Entry key
-opensNext (Next.Chunk l) key = Pending.Chunk
-opensNext (Next.Ready i) key = Pending.Nothing
-opensNext Next.Missing key = Pending.Nothing
-opensNext Next.NoPages key = Pending.Nothing
+abbrev pub opens_next : Next → TileKey → Pending
+opens_next Next.Entry key = Pending.Entry key
+opens_next (Next.Chunk l) key = Pending.Chunk
+opens_next (Next.Ready i) key = Pending.Nothing
+opens_next Next.Missing key = Pending.Nothing
+opens_next Next.NoPages key = Pending.Nothing
 
-abbrev pub opensPlan : Plan → Cache → Pending
-opensPlan Plan.Header c = Pending.Header
-opensPlan (Plan.Need key) c = opensNext (nextStep c key) key
-opensPlan Plan.Rest c = Pending.Nothing
-opensPlan Plan.NoPack c = Pending.Nothing
-opensPlan (Plan.Match fix) c = Pending.Nothing
-opensPlan (Plan.Road fix found) c = Pending.Nothing
-opensPlan Plan.Roadless c = Pending.Nothing
-opensPlan (Plan.Off fix) c = Pending.Nothing
+abbrev pub opens_plan : Plan → Cache → Pending
+opens_plan Plan.Header c = Pending.Header
+opens_plan (Plan.Need key) c = opens_next (next_step c key) key
+opens_plan Plan.Rest c = Pending.Nothing
+opens_plan Plan.NoPack c = Pending.Nothing
+opens_plan (Plan.Match fix) c = Pending.Nothing
+opens_plan (Plan.Road fix found) c = Pending.Nothing
+opens_plan Plan.Roadless c = Pending.Nothing
+opens_plan (Plan.Off fix) c = Pending.Nothing
 
 -- the fetch that is open, else the one that the plan opens
-abbrev pub opensBy : Pending → Plan → Cache → Pending
-opensBy Pending.Nothing plan c = opensPlan plan c
-opensBy Pending.Header plan c = Pending.Header
-opensBy (Pending.Entry key) plan c = Pending.Entry key
-opensBy Pending.Chunk plan c = Pending.Chunk
+abbrev pub opens_by : Pending → Plan → Cache → Pending
+opens_by Pending.Nothing plan c = opens_plan plan c
+opens_by Pending.Header plan c = Pending.Header
+opens_by (Pending.Entry key) plan c = Pending.Entry key
+opens_by Pending.Chunk plan c = Pending.Chunk
 
 unfoldable pub opens : Engine → Pending
-opens e = opensBy e.shared.cache.pending (plan_of e) e.shared.cache
+opens e = opens_by e.shared.cache.pending (plan_of e) e.shared.cache
 
 -- what a step is to do: leave that fetch open, or work by the plan where there is none
-abbrev pub plannedFor : Pending → Plan → Planned
-plannedFor Pending.Nothing plan = Planned.Works plan
-plannedFor Pending.Header plan = Planned.Opens Pending.Header
-plannedFor (Pending.Entry key) plan = Planned.Opens (Pending.Entry key)
-plannedFor Pending.Chunk plan = Planned.Opens Pending.Chunk
+abbrev pub planned_for : Pending → Plan → Planned
+planned_for Pending.Nothing plan = Planned.Works plan
+planned_for Pending.Header plan = Planned.Opens Pending.Header
+planned_for (Pending.Entry key) plan = Planned.Opens (Pending.Entry key)
+planned_for Pending.Chunk plan = Planned.Opens Pending.Chunk
 
 -- nothing, where number 12 refuses it
 unfoldable pub planned : List ℕ → ℕ → Planned
-planned ws size = let e = engineOf ws in cond (tested ws size) (plannedFor (opens e) (plan_of e)) Planned.Refused
+planned ws size = let e = engine_of ws in cond (tested ws size) (planned_for (opens e) (plan_of e)) Planned.Refused
 
 -- the engine with a fetch open
-abbrev pub openedAs : Engine → Pending → Engine
-openedAs e pending = (opened e pending).engine
+abbrev pub opened_as : Engine → Pending → Engine
+opened_as e pending = (opened e pending).engine

@@ -1,5 +1,5 @@
 -- What the Rust types say of an engine, as far as writing it as words asks it: each number that could be cut within its field, each float a single float, each array of its length; and that the counts that the Rust has as `usize` fit a word, which
--- number 12 says of them (`small` of the proofs). An engine that the code holds is so by its types; that every call's definition leaves one so is `typed-kept` of crate terrain_lists.
+-- number 12 says of them (`small` of the proofs). An engine that the code holds is so by its types; that every call's definition leaves one so is `typed_kept` of crate terrain_lists.
 use Rattle.std.specs.Prelude.{◌≡◌, ℕ, ◌<◌, T, length, get_or, ℤ, pos, slice_index_or, Float}
 use Rattle.std.specs.Float.{binary32}
 use Rattle.std.specs.Float.Ieee.{fits}
@@ -8,8 +8,8 @@ use Rattle.pack.specs.declared.Header.{Header}
 use Rattle.pack.specs.declared.TileKey.{TileKey}
 use Rattle.tile.specs.declared.TileId.{TileId}
 use Rattle.geo.specs.declared.Point.{Point}
-use Rattle.cache.specs.Keys.{emptyPlace}
-use Rattle.cache.specs.Runs.{emptySlot}
+use Rattle.cache.specs.Keys.{empty_place}
+use Rattle.cache.specs.Runs.{empty_slot}
 use Rattle.cache.specs.declared.Cache.{Cache}
 use Rattle.cache.specs.declared.MaybeKey.{MaybeKey}
 use Rattle.cache.specs.declared.MaybeKey.TheVariants as MaybeKey
@@ -39,7 +39,7 @@ use Rattle.engine.specs.declared.MaybeFix.TheVariants as MaybeFix
 use Rattle.engine.specs.declared.Places.{Places}
 use Rattle.engine.specs.declared.Shared.{Shared}
 use Rattle.engine.specs.declared.Sight.{Sight}
-use Rattle.words.specs.Words.{noPoint}
+use Rattle.words.specs.Words.{no_point}
 
 -- ---- numbers
 
@@ -89,13 +89,13 @@ pub record TypedSlot (s : Slot) : Type 0 where
 
 pub record TypedPages (g : Pages) : Type 0 where
   pub slots : length g.slots ≡ 96
-  pub slot : (i : ℕ) → i < 96 → TypedSlot (slice_index_or g.slots i emptySlot)
+  pub slot : (i : ℕ) → i < 96 → TypedSlot (slice_index_or g.slots i empty_slot)
   pub used : length g.used ≡ 96
   pub count : Word g.count
 
 pub record TypedRing (r : Ring) : Type 0 where
   pub keys : length r.keys ≡ 64
-  pub key : (i : ℕ) → i < 64 → TypedMaybe (get_or r.keys i emptyPlace).key
+  pub key : (i : ℕ) → i < 64 → TypedMaybe (get_or r.keys i empty_place).key
   pub next : Word r.next
 
 abbrev pub TypedLoading : MaybeLoading → Type 0
@@ -125,7 +125,7 @@ TypedFix (MaybeFix.Is f) = Signed f.lat × Signed f.lon
 
 pub record TypedPlaces (h : Places) : Type 0 where
   pub v : length h.v ≡ 16
-  pub point : (i : ℕ) → i < 16 → TypedPoint (slice_index_or h.v i noPoint)
+  pub point : (i : ℕ) → i < 16 → TypedPoint (slice_index_or h.v i no_point)
   pub len : Word h.len
 
 abbrev pub TypedHeading : Heading → Type 0
@@ -182,9 +182,9 @@ pub record TypedAhead (a : Ahead) : Type 0 where
   pub len : Word a.len
   pub behind : length a.behind ≡ 11
   pub back : (i : ℕ) → i < 11 → Height (slice_index_or a.behind i (pos 0))
-  pub behindLen : Word a.behind_len
-  pub behindM : Single a.behind_m
-  pub endM : Single a.end_m
+  pub behind_len : Word a.behind_len
+  pub behind_m : Single a.behind_m
+  pub end_m : Single a.end_m
   pub confidence : Byte a.confidence
 
 pub record TypedShared (s : Shared) : Type 0 where

@@ -1,12 +1,12 @@
--- The engine's state as 32-bit words: which words an engine has (`words`), which engine is read from words (`engineOf`), and which words are some engine's
+-- The engine's state as 32-bit words: which words an engine has (`words`), which engine is read from words (`engine_of`), and which words are some engine's
 -- (`accepted`). include/terrain.h tells a host the same.
 --
--- One number a word, in the order in which the structs declare their fields, but for a slot, whose three words are told at `slotWords`; a 64-bit number is two words, the low one
+-- One number a word, in the order in which the structs declare their fields, but for a slot, whose three words are told at `slot_words`; a 64-bit number is two words, the low one
 -- first; a signed number is in two's complement of 32 bits, a height of 16 bits too; a float is its bits, and not-a-number 0x7fc00000; false is 0 and true 1. A key is
--- row · 65,536 + col. An enum is its tag, 0 for the first variant, and its fields, 0 where the variant has none; a part and a direction are one word (`partWord`, `forwardWord`).
+-- row · 65,536 + col. An enum is its tag, 0 for the first variant, and its fields, 0 where the variant has none; a part and a direction are one word (`part_word`, `forward_word`).
 --
--- `engineOf` reads every field at its place, whatever stands there: it cuts what a field can't hold, and takes an unknown tag for the first variant. Nobody needs to believe it:
--- words are accepted only where the words of what was read are the same again (`words-engine`), and of an engine within its types it is the way back (`engine-words`).
+-- `engine_of` reads every field at its place, whatever stands there: it cuts what a field can't hold, and takes an unknown tag for the first variant. Nobody needs to believe it:
+-- words are accepted only where the words of what was read are the same again (`words_engine`), and of an engine within its types it is the way back (`engine_words`).
 use Rattle.std.specs.Prelude.{ℕ, zero, suc, ◌+◌, ◌-◌, ◌*◌, ◌/◌, ◌%◌, Bool, true, false, cond, ◌&&◌, List, [], ◌∷◌, ◌++◌, get_or, ℤ, pos, ◌==◌, from_bits, slice_index, slice_index_or, to_bits, Float}
 use Rattle.std.specs.Float.{binary32}
 use Rattle.num.specs.Cast.{bits32, low16}
@@ -15,8 +15,8 @@ use Rattle.pack.specs.declared.Header.{Header}
 use Rattle.pack.specs.declared.TileKey.{TileKey}
 use Rattle.tile.specs.declared.TileId.{TileId}
 use Rattle.geo.specs.declared.Point.{Point}
-use Rattle.cache.specs.Runs.{emptySlot}
-use Rattle.cache.specs.Keys.{emptyPlace}
+use Rattle.cache.specs.Runs.{empty_slot}
+use Rattle.cache.specs.Keys.{empty_place}
 use Rattle.cache.specs.declared.Cache.{Cache}
 use Rattle.cache.specs.declared.MaybeKey.{MaybeKey}
 use Rattle.cache.specs.declared.MaybeKey.TheVariants as MaybeKey
@@ -92,54 +92,54 @@ low_word n = n % 0x1_0000_0000
 abbrev pub high_word : ℕ → ℕ
 high_word n = n / 0x1_0000_0000
 
-abbrev pub longOf : ℕ → ℕ → ℕ
-longOf low high = low + high * 0x1_0000_0000
+abbrev pub long_of : ℕ → ℕ → ℕ
+long_of low high = low + high * 0x1_0000_0000
 
 -- a float's bits, 0x7fc00000 for not-a-number; and back, where every not-a-number's bits are one
-abbrev pub floatWord : Float → ℕ
-floatWord x = to_bits binary32 x
+abbrev pub float_word : Float → ℕ
+float_word x = to_bits binary32 x
 
 abbrev pub float_of : ℕ → Float
 float_of n = from_bits binary32 n
 
 -- a height of 16 bits in a word
-abbrev pub heightOf : ℕ → ℤ
-heightOf n = low16 (signed32 n)
+abbrev pub height_of : ℕ → ℤ
+height_of n = low16 (signed32 n)
 
-abbrev pub keyWord : TileKey → ℕ
-keyWord k = k.row * 0x1_0000 + k.col
+abbrev pub key_word : TileKey → ℕ
+key_word k = k.row * 0x1_0000 + k.col
 
 abbrev pub key_of : ℕ → TileKey
 key_of n = record { row = n / 0x1_0000; col = n % 0x1_0000 }
 
 -- a key or none
-abbrev pub keyTag : MaybeKey → ℕ
-keyTag MaybeKey.Nothing = 0
-keyTag (MaybeKey.Key k) = 1
+abbrev pub key_tag : MaybeKey → ℕ
+key_tag MaybeKey.Nothing = 0
+key_tag (MaybeKey.Key k) = 1
 
-abbrev pub keyHeld : MaybeKey → ℕ
-keyHeld MaybeKey.Nothing = 0
-keyHeld (MaybeKey.Key k) = keyWord k
+abbrev pub key_held : MaybeKey → ℕ
+key_held MaybeKey.Nothing = 0
+key_held (MaybeKey.Key k) = key_word k
 
-abbrev pub maybeKeyWords : MaybeKey → List ℕ
-maybeKeyWords k = keyTag k ∷ keyHeld k ∷ []
+abbrev pub maybe_key_words : MaybeKey → List ℕ
+maybe_key_words k = key_tag k ∷ key_held k ∷ []
 
-abbrev pub maybeKeyOf : ℕ → ℕ → MaybeKey
-maybeKeyOf tag n = cond (is_set tag) (MaybeKey.Key (key_of n)) MaybeKey.Nothing
+abbrev pub maybe_key_of : ℕ → ℕ → MaybeKey
+maybe_key_of tag n = cond (is_set tag) (MaybeKey.Key (key_of n)) MaybeKey.Nothing
 
 -- ---- the pack
 
-abbrev pub phaseWord : Phase → ℕ
-phaseWord Phase.Unread = 0
-phaseWord Phase.Ready = 1
-phaseWord Phase.Failed = 2
+abbrev pub phase_word : Phase → ℕ
+phase_word Phase.Unread = 0
+phase_word Phase.Ready = 1
+phase_word Phase.Failed = 2
 
-abbrev pub phaseOf : ℕ → Phase
-phaseOf n = cond (n == 1) Phase.Ready (cond (n == 2) Phase.Failed Phase.Unread)
+abbrev pub phase_of : ℕ → Phase
+phase_of n = cond (n == 1) Phase.Ready (cond (n == 2) Phase.Failed Phase.Unread)
 
 -- 13 words
-abbrev pub headerWords : Header → List ℕ
-headerWords h =
+abbrev pub header_words : Header → List ℕ
+header_words h =
     h.tile
     ∷ bits32 h.south
     ∷ bits32 h.west
@@ -155,8 +155,8 @@ headerWords h =
     ∷ h.attribution_len
     ∷ []
 
-abbrev pub headerBy : (ℕ → ℕ) → Header
-headerBy w = record {
+abbrev pub header_by : (ℕ → ℕ) → Header
+header_by w = record {
   tile = w 0;
   south = signed32 (w 1);
   west = signed32 (w 2);
@@ -166,7 +166,7 @@ headerBy w = record {
   «data» = w 6;
   total = w 7;
   tiles = w 8;
-  created = longOf (w 9) (w 10);
+  created = long_of (w 9) (w 10);
   attribution_offset = w 11;
   attribution_len = w 12;
 }
@@ -174,39 +174,39 @@ headerBy w = record {
 -- ---- the cache
 
 -- a first page is 0, a page of the run from page h on h + 1
-abbrev pub partWord : Part → ℕ
-partWord Part.Head = 0
-partWord (Part.Of h) = h + 1
+abbrev pub part_word : Part → ℕ
+part_word Part.Head = 0
+part_word (Part.Of h) = h + 1
 
 abbrev pub part_of : ℕ → Part
 part_of n = cond (n == 0) Part.Head (Part.Of ((n - 1) % 256))
 
 -- 3 words: has key + 2 · ready + 4 · part; key or 0; length
-abbrev pub slotWords : Slot → List ℕ
-slotWords s = (keyTag s.key + 2 * bit s.ready + 4 * partWord s.part) ∷ keyHeld s.key ∷ s.len ∷ []
+abbrev pub slot_words : Slot → List ℕ
+slot_words s = (key_tag s.key + 2 * bit s.ready + 4 * part_word s.part) ∷ key_held s.key ∷ s.len ∷ []
 
 abbrev pub slot_by : (ℕ → ℕ) → Slot
 slot_by w = record {
-  key = maybeKeyOf (w 0 % 2) (w 1);
+  key = maybe_key_of (w 0 % 2) (w 1);
   len = w 2 % 0x1_0000;
   ready = is_set (w 0 / 2 % 2);
   part = part_of (w 0 / 4);
 }
 
 -- 96 slots of 3 words
-unfoldable pub slotsWords : List Slot → List ℕ
-slotsWords s = spread (λ (i : ℕ). slotWords (slice_index_or s i emptySlot)) 96
+unfoldable pub slots_words : List Slot → List ℕ
+slots_words s = spread (λ (i : ℕ). slot_words (slice_index_or s i empty_slot)) 96
 
 -- 96 ages
-unfoldable pub usedWords : List ℕ → List ℕ
-usedWords used = spread (λ (i : ℕ). slice_index used i ∷ []) 96
+unfoldable pub used_words : List ℕ → List ℕ
+used_words used = spread (λ (i : ℕ). slice_index used i ∷ []) 96
 
 -- 386 words: the slots, when each was last used, how many there are, the clock
-unfoldable pub pagesWords : Pages → List ℕ
-pagesWords g = flat (slotsWords g.slots ∷ usedWords g.used ∷ (low_word g.count ∷ g.clock ∷ []) ∷ [])
+unfoldable pub pages_words : Pages → List ℕ
+pages_words g = flat (slots_words g.slots ∷ used_words g.used ∷ (low_word g.count ∷ g.clock ∷ []) ∷ [])
 
-unfoldable pub pagesOf : List ℕ → ℕ → Pages
-pagesOf ws at = record {
+unfoldable pub pages_of : List ℕ → ℕ → Pages
+pages_of ws at = record {
   slots = table (λ (i : ℕ). slot_by (from ws (at + 3 * i))) 96;
   used = table (λ (i : ℕ). slice_index ws (at + 288 + i)) 96;
   count = from ws at 384;
@@ -214,153 +214,153 @@ pagesOf ws at = record {
 }
 
 -- 64 places of the ring of 2 words
-unfoldable pub keysWords : List RingKey → List ℕ
-keysWords ks = spread (λ (i : ℕ). maybeKeyWords (get_or ks i emptyPlace).key) 64
+unfoldable pub keys_words : List RingKey → List ℕ
+keys_words ks = spread (λ (i : ℕ). maybe_key_words (get_or ks i empty_place).key) 64
 
 -- 129 words: the ring of missing tiles, and its next place
-unfoldable pub ringWords : Ring → List ℕ
-ringWords r = flat (keysWords r.keys ∷ (low_word r.next ∷ []) ∷ [])
+unfoldable pub ring_words : Ring → List ℕ
+ring_words r = flat (keys_words r.keys ∷ (low_word r.next ∷ []) ∷ [])
 
-abbrev pub placeBy : (ℕ → ℕ) → RingKey
-placeBy w = record { key = maybeKeyOf (w 0) (w 1) }
+abbrev pub place_by : (ℕ → ℕ) → RingKey
+place_by w = record { key = maybe_key_of (w 0) (w 1) }
 
-unfoldable pub ringOf : List ℕ → ℕ → Ring
-ringOf ws at = record { keys = table (λ (i : ℕ). placeBy (from ws (at + 2 * i))) 64; next = from ws at 128 }
+unfoldable pub ring_of : List ℕ → ℕ → Ring
+ring_of ws at = record { keys = table (λ (i : ℕ). place_by (from ws (at + 2 * i))) 64; next = from ws at 128 }
 
 -- 6 words
-abbrev pub loadingWords : MaybeLoading → List ℕ
-loadingWords MaybeLoading.Nothing = 0 ∷ 0 ∷ 0 ∷ 0 ∷ 0 ∷ 0 ∷ []
-loadingWords (MaybeLoading.Tile l) = 1 ∷ keyWord l.key ∷ low_word l.slot ∷ l.offset ∷ l.len ∷ l.done ∷ []
+abbrev pub loading_words : MaybeLoading → List ℕ
+loading_words MaybeLoading.Nothing = 0 ∷ 0 ∷ 0 ∷ 0 ∷ 0 ∷ 0 ∷ []
+loading_words (MaybeLoading.Tile l) = 1 ∷ key_word l.key ∷ low_word l.slot ∷ l.offset ∷ l.len ∷ l.done ∷ []
 
-abbrev pub loadingBy : (ℕ → ℕ) → MaybeLoading
-loadingBy w =
+abbrev pub loading_by : (ℕ → ℕ) → MaybeLoading
+loading_by w =
     cond (is_set (w 0)) (MaybeLoading.Tile (record { key = key_of (w 1); slot = w 2; offset = w 3; len = w 4; done = w 5 })) MaybeLoading.Nothing
 
 -- 2 words
-abbrev pub pendingWords : Pending → List ℕ
-pendingWords Pending.Nothing = 0 ∷ 0 ∷ []
-pendingWords Pending.Header = 1 ∷ 0 ∷ []
-pendingWords (Pending.Entry key) = 2 ∷ keyWord key ∷ []
-pendingWords Pending.Chunk = 3 ∷ 0 ∷ []
+abbrev pub pending_words : Pending → List ℕ
+pending_words Pending.Nothing = 0 ∷ 0 ∷ []
+pending_words Pending.Header = 1 ∷ 0 ∷ []
+pending_words (Pending.Entry key) = 2 ∷ key_word key ∷ []
+pending_words Pending.Chunk = 3 ∷ 0 ∷ []
 
-abbrev pub pendingOf : ℕ → ℕ → Pending
-pendingOf tag n = cond (tag == 1) Pending.Header (cond (tag == 2) (Pending.Entry (key_of n)) (cond (tag == 3) Pending.Chunk Pending.Nothing))
+abbrev pub pending_of : ℕ → ℕ → Pending
+pending_of tag n = cond (tag == 1) Pending.Header (cond (tag == 2) (Pending.Entry (key_of n)) (cond (tag == 3) Pending.Chunk Pending.Nothing))
 
 -- 524 words
-unfoldable pub cacheWords : Cache → List ℕ
-cacheWords c = flat (pagesWords c.pages ∷ ringWords c.missing ∷ loadingWords c.loading ∷ pendingWords c.pending ∷ (c.loads ∷ []) ∷ [])
+unfoldable pub cache_words : Cache → List ℕ
+cache_words c = flat (pages_words c.pages ∷ ring_words c.missing ∷ loading_words c.loading ∷ pending_words c.pending ∷ (c.loads ∷ []) ∷ [])
 
-unfoldable pub cacheOf : List ℕ → ℕ → Cache
-cacheOf ws at = record {
-  pages = pagesOf ws at;
-  missing = ringOf ws (at + 386);
-  loading = loadingBy (from ws (at + 515));
-  pending = pendingOf (from ws at 521) (from ws at 522);
+unfoldable pub cache_of : List ℕ → ℕ → Cache
+cache_of ws at = record {
+  pages = pages_of ws at;
+  missing = ring_of ws (at + 386);
+  loading = loading_by (from ws (at + 515));
+  pending = pending_of (from ws at 521) (from ws at 522);
   loads = from ws at 523;
 }
 
 -- 539 words, with the layout's version first
-unfoldable pub sharedWords : Shared → List ℕ
-sharedWords s = flat ((1 ∷ phaseWord s.phase ∷ []) ∷ headerWords s.header ∷ cacheWords s.cache ∷ [])
+unfoldable pub shared_words : Shared → List ℕ
+shared_words s = flat ((1 ∷ phase_word s.phase ∷ []) ∷ header_words s.header ∷ cache_words s.cache ∷ [])
 
-unfoldable pub sharedOf : List ℕ → Shared
-sharedOf ws = record { phase = phaseOf (from ws 0 1); header = headerBy (from ws 2); cache = cacheOf ws 15 }
+unfoldable pub shared_of : List ℕ → Shared
+shared_of ws = record { phase = phase_of (from ws 0 1); header = header_by (from ws 2); cache = cache_of ws 15 }
 
 -- ---- the fixes
 
 -- 5 words
-abbrev pub fixWords : MaybeFix → List ℕ
-fixWords MaybeFix.Nothing = 0 ∷ 0 ∷ 0 ∷ 0 ∷ 0 ∷ []
-fixWords (MaybeFix.Is f) = 1 ∷ bits32 f.lat ∷ bits32 f.lon ∷ low_word f.at_ms ∷ high_word f.at_ms ∷ []
+abbrev pub fix_words : MaybeFix → List ℕ
+fix_words MaybeFix.Nothing = 0 ∷ 0 ∷ 0 ∷ 0 ∷ 0 ∷ []
+fix_words (MaybeFix.Is f) = 1 ∷ bits32 f.lat ∷ bits32 f.lon ∷ low_word f.at_ms ∷ high_word f.at_ms ∷ []
 
-abbrev pub fixBy : (ℕ → ℕ) → MaybeFix
-fixBy w =
-    cond (is_set (w 0)) (MaybeFix.Is (record { lat = signed32 (w 1); lon = signed32 (w 2); at_ms = longOf (w 3) (w 4) })) MaybeFix.Nothing
+abbrev pub fix_by : (ℕ → ℕ) → MaybeFix
+fix_by w =
+    cond (is_set (w 0)) (MaybeFix.Is (record { lat = signed32 (w 1); lon = signed32 (w 2); at_ms = long_of (w 3) (w 4) })) MaybeFix.Nothing
 
 -- 2 words
-abbrev pub pointWords : Point → List ℕ
-pointWords p = bits32 p.lat ∷ bits32 p.lon ∷ []
+abbrev pub point_words : Point → List ℕ
+point_words p = bits32 p.lat ∷ bits32 p.lon ∷ []
 
-abbrev pub pointBy : (ℕ → ℕ) → Point
-pointBy w = record { lat = signed32 (w 0); lon = signed32 (w 1) }
+abbrev pub point_by : (ℕ → ℕ) → Point
+point_by w = record { lat = signed32 (w 0); lon = signed32 (w 1) }
 
-abbrev pub noPoint : Point
-noPoint = record { lat = pos 0; lon = pos 0 }
+abbrev pub no_point : Point
+no_point = record { lat = pos 0; lon = pos 0 }
 
 -- 16 places of 2 words
-unfoldable pub pointsWords : List Point → List ℕ
-pointsWords ps = spread (λ (i : ℕ). pointWords (slice_index_or ps i noPoint)) 16
+unfoldable pub points_words : List Point → List ℕ
+points_words ps = spread (λ (i : ℕ). point_words (slice_index_or ps i no_point)) 16
 
 -- 33 words: the places, and how many they are
-unfoldable pub placesWords : Places → List ℕ
-placesWords h = flat (pointsWords h.v ∷ (low_word h.len ∷ []) ∷ [])
+unfoldable pub places_words : Places → List ℕ
+places_words h = flat (points_words h.v ∷ (low_word h.len ∷ []) ∷ [])
 
 unfoldable pub places_of : List ℕ → ℕ → Places
-places_of ws at = record { v = table (λ (i : ℕ). pointBy (from ws (at + 2 * i))) 16; len = from ws at 32 }
+places_of ws at = record { v = table (λ (i : ℕ). point_by (from ws (at + 2 * i))) 16; len = from ws at 32 }
 
 -- 2 words
-abbrev pub headingWords : Heading → List ℕ
-headingWords Heading.Nothing = 0 ∷ 0 ∷ []
-headingWords (Heading.Degrees d) = 1 ∷ floatWord d ∷ []
+abbrev pub heading_words : Heading → List ℕ
+heading_words Heading.Nothing = 0 ∷ 0 ∷ []
+heading_words (Heading.Degrees d) = 1 ∷ float_word d ∷ []
 
-abbrev pub headingOf : ℕ → ℕ → Heading
-headingOf tag degrees = cond (is_set tag) (Heading.Degrees (float_of degrees)) Heading.Nothing
+abbrev pub heading_of : ℕ → ℕ → Heading
+heading_of tag degrees = cond (is_set tag) (Heading.Degrees (float_of degrees)) Heading.Nothing
 
 -- 42 words
-unfoldable pub sightWords : Sight → List ℕ
-sightWords s =
+unfoldable pub sight_words : Sight → List ℕ
+sight_words s =
     flat
-    (fixWords s.fix
-    ∷ placesWords s.history
-    ∷ headingWords s.heading
+    (fix_words s.fix
+    ∷ places_words s.history
+    ∷ heading_words s.heading
     ∷ (low_word s.heading_at ∷ high_word s.heading_at ∷ [])
     ∷ [])
 
 unfoldable pub sight_of : List ℕ → ℕ → Sight
 sight_of ws at = record {
-  fix = fixBy (from ws at);
+  fix = fix_by (from ws at);
   history = places_of ws (at + 5);
-  heading = headingOf (from ws at 38) (from ws at 39);
-  heading_at = longOf (from ws at 40) (from ws at 41);
+  heading = heading_of (from ws at 38) (from ws at 39);
+  heading_at = long_of (from ws at 40) (from ws at 41);
 }
 
 -- ---- the match
 
-abbrev pub forwardWord : Forward → ℕ
-forwardWord Forward.Unknown = 0
-forwardWord (Forward.Is ahead) = cond ahead 2 1
+abbrev pub forward_word : Forward → ℕ
+forward_word Forward.Unknown = 0
+forward_word (Forward.Is ahead) = cond ahead 2 1
 
-abbrev pub forwardOf : ℕ → Forward
-forwardOf n = cond (n == 1) (Forward.Is false) (cond (n == 2) (Forward.Is true) Forward.Unknown)
+abbrev pub forward_of : ℕ → Forward
+forward_of n = cond (n == 1) (Forward.Is false) (cond (n == 2) (Forward.Is true) Forward.Unknown)
 
 abbrev pub id_of : ℕ → ℕ → ℕ → TileId
 id_of n crc edges = record { key = key_of n; crc = crc; edges = edges % 0x1_0000 }
 
 -- 13 words behind a tag
-abbrev pub matchedWords : Matched → List ℕ
-matchedWords m =
-    keyWord m.tile.key
+abbrev pub matched_words : Matched → List ℕ
+matched_words m =
+    key_word m.tile.key
     ∷ m.tile.crc
     ∷ m.tile.edges
     ∷ m.edge
     ∷ m.segment
-    ∷ floatWord m.fraction
-    ∷ forwardWord m.forward
-    ∷ floatWord m.offset_m
+    ∷ float_word m.fraction
+    ∷ forward_word m.forward
+    ∷ float_word m.offset_m
     ∷ bits32 m.z_dm
     ∷ m.class
     ∷ m.flags
     ∷ m.confidence
-    ∷ floatWord m.ridden_m
+    ∷ float_word m.ridden_m
     ∷ []
 
-abbrev pub matchedBy : (ℕ → ℕ) → Matched
-matchedBy w = record {
+abbrev pub matched_by : (ℕ → ℕ) → Matched
+matched_by w = record {
   tile = id_of (w 1) (w 2) (w 3);
   edge = w 4 % 0x1_0000;
   segment = w 5 % 0x1_0000;
   fraction = float_of (w 6);
-  forward = forwardOf (w 7);
+  forward = forward_of (w 7);
   offset_m = float_of (w 8);
   z_dm = signed32 (w 9);
   class = w 10 % 256;
@@ -369,29 +369,29 @@ matchedBy w = record {
   ridden_m = float_of (w 13);
 }
 
-abbrev pub currentWords : Current → List ℕ
-currentWords Current.Nothing = 0 ∷ 0 ∷ 0 ∷ 0 ∷ 0 ∷ 0 ∷ 0 ∷ 0 ∷ 0 ∷ 0 ∷ 0 ∷ 0 ∷ 0 ∷ 0 ∷ []
-currentWords (Current.Is m) = 1 ∷ matchedWords m
+abbrev pub current_words : Current → List ℕ
+current_words Current.Nothing = 0 ∷ 0 ∷ 0 ∷ 0 ∷ 0 ∷ 0 ∷ 0 ∷ 0 ∷ 0 ∷ 0 ∷ 0 ∷ 0 ∷ 0 ∷ 0 ∷ []
+current_words (Current.Is m) = 1 ∷ matched_words m
 
-unfoldable pub currentBy : (ℕ → ℕ) → Current
-currentBy w = cond (is_set (w 0)) (Current.Is (matchedBy w)) Current.Nothing
+unfoldable pub current_by : (ℕ → ℕ) → Current
+current_by w = cond (is_set (w 0)) (Current.Is (matched_by w)) Current.Nothing
 
 -- 6 words
-abbrev pub challengerWords : Challenger → List ℕ
-challengerWords Challenger.Nothing = 0 ∷ 0 ∷ 0 ∷ 0 ∷ 0 ∷ 0 ∷ []
-challengerWords (Challenger.Is tile edge count) = 1 ∷ keyWord tile.key ∷ tile.crc ∷ tile.edges ∷ edge ∷ count ∷ []
+abbrev pub challenger_words : Challenger → List ℕ
+challenger_words Challenger.Nothing = 0 ∷ 0 ∷ 0 ∷ 0 ∷ 0 ∷ 0 ∷ []
+challenger_words (Challenger.Is tile edge count) = 1 ∷ key_word tile.key ∷ tile.crc ∷ tile.edges ∷ edge ∷ count ∷ []
 
-abbrev pub challengerBy : (ℕ → ℕ) → Challenger
-challengerBy w = cond (is_set (w 0)) (Challenger.Is (id_of (w 1) (w 2) (w 3)) (w 4 % 0x1_0000) (w 5 % 256)) Challenger.Nothing
+abbrev pub challenger_by : (ℕ → ℕ) → Challenger
+challenger_by w = cond (is_set (w 0)) (Challenger.Is (id_of (w 1) (w 2) (w 3)) (w 4 % 0x1_0000) (w 5 % 256)) Challenger.Nothing
 
 -- 22 words
-unfoldable pub matcherWords : Matcher → List ℕ
-matcherWords m = flat (currentWords m.current ∷ challengerWords m.challenger ∷ (m.misses ∷ floatWord m.run_from_m ∷ []) ∷ [])
+unfoldable pub matcher_words : Matcher → List ℕ
+matcher_words m = flat (current_words m.current ∷ challenger_words m.challenger ∷ (m.misses ∷ float_word m.run_from_m ∷ []) ∷ [])
 
-unfoldable pub matcherOf : List ℕ → ℕ → Matcher
-matcherOf ws at = record {
-  current = currentBy (from ws at);
-  challenger = challengerBy (from ws (at + 14));
+unfoldable pub matcher_of : List ℕ → ℕ → Matcher
+matcher_of ws at = record {
+  current = current_by (from ws at);
+  challenger = challenger_by (from ws (at + 14));
   misses = from ws at 20 % 256;
   run_from_m = float_of (from ws at 21);
 }
@@ -399,24 +399,24 @@ matcherOf ws at = record {
 -- ---- what is due
 
 -- 3 words
-abbrev pub timeWords : MaybeTime → List ℕ
-timeWords MaybeTime.Nothing = 0 ∷ 0 ∷ 0 ∷ []
-timeWords (MaybeTime.At at) = 1 ∷ low_word at ∷ high_word at ∷ []
+abbrev pub time_words : MaybeTime → List ℕ
+time_words MaybeTime.Nothing = 0 ∷ 0 ∷ 0 ∷ []
+time_words (MaybeTime.At at) = 1 ∷ low_word at ∷ high_word at ∷ []
 
-abbrev pub timeOf : ℕ → ℕ → ℕ → MaybeTime
-timeOf tag low high = cond (is_set tag) (MaybeTime.At (longOf low high)) MaybeTime.Nothing
+abbrev pub time_of : ℕ → ℕ → ℕ → MaybeTime
+time_of tag low high = cond (is_set tag) (MaybeTime.At (long_of low high)) MaybeTime.Nothing
 
 -- 8 words
-unfoldable pub dueWords : Due → List ℕ
-dueWords d =
-    flat ((bit d.matching ∷ bit d.road ∷ []) ∷ timeWords d.last_road ∷ (keyTag d.need ∷ keyHeld d.need ∷ d.reloads ∷ []) ∷ [])
+unfoldable pub due_words : Due → List ℕ
+due_words d =
+    flat ((bit d.matching ∷ bit d.road ∷ []) ∷ time_words d.last_road ∷ (key_tag d.need ∷ key_held d.need ∷ d.reloads ∷ []) ∷ [])
 
-unfoldable pub dueOf : List ℕ → ℕ → Due
-dueOf ws at = record {
+unfoldable pub due_of : List ℕ → ℕ → Due
+due_of ws at = record {
   matching = is_set (from ws at 0);
   road = is_set (from ws at 1);
-  last_road = timeOf (from ws at 2) (from ws at 3) (from ws at 4);
-  need = maybeKeyOf (from ws at 5) (from ws at 6);
+  last_road = time_of (from ws at 2) (from ws at 3) (from ws at 4);
+  need = maybe_key_of (from ws at 5) (from ws at 6);
   reloads = from ws at 7 % 0x1_0000;
 }
 
@@ -435,34 +435,34 @@ end_of n =
     cond (n == 1) End.Fork (cond (n == 2) End.DeadEnd (cond (n == 3) End.MapEdge (cond (n == 4) End.Uncertain (cond (n == 5) End.Memory End.Horizon))))
 
 -- n heights, one a word
-unfoldable pub heightsWords : List ℤ → ℕ → List ℕ
-heightsWords zs n = spread (λ (i : ℕ). bits32 (slice_index_or zs i (pos 0)) ∷ []) n
+unfoldable pub heights_words : List ℤ → ℕ → List ℕ
+heights_words zs n = spread (λ (i : ℕ). bits32 (slice_index_or zs i (pos 0)) ∷ []) n
 
-unfoldable pub heightsOf : List ℕ → ℕ → ℕ → List ℤ
-heightsOf ws at n = table (λ (i : ℕ). heightOf (slice_index ws (at + i))) n
+unfoldable pub heights_of : List ℕ → ℕ → ℕ → List ℤ
+heights_of ws at n = table (λ (i : ℕ). height_of (slice_index ws (at + i))) n
 
 -- 536 words
-unfoldable pub aheadWords : Ahead → List ℕ
-aheadWords a =
+unfoldable pub ahead_words : Ahead → List ℕ
+ahead_words a =
     flat
     ((a.generation ∷ low_word a.at_ms ∷ high_word a.at_ms ∷ [])
-    ∷ currentWords a.matched
+    ∷ current_words a.matched
     ∷ (bits32 a.start_z_dm ∷ [])
-    ∷ heightsWords a.samples 501
+    ∷ heights_words a.samples 501
     ∷ (low_word a.len ∷ [])
-    ∷ heightsWords a.behind 11
-    ∷ (low_word a.behind_len ∷ floatWord a.behind_m ∷ end_word a.end ∷ floatWord a.end_m ∷ a.confidence ∷ [])
+    ∷ heights_words a.behind 11
+    ∷ (low_word a.behind_len ∷ float_word a.behind_m ∷ end_word a.end ∷ float_word a.end_m ∷ a.confidence ∷ [])
     ∷ [])
 
 unfoldable pub ahead_of : List ℕ → ℕ → Ahead
 ahead_of ws at = record {
   generation = from ws at 0;
-  at_ms = longOf (from ws at 1) (from ws at 2);
-  matched = currentBy (from ws (at + 3));
+  at_ms = long_of (from ws at 1) (from ws at 2);
+  matched = current_by (from ws (at + 3));
   start_z_dm = signed32 (from ws at 17);
-  samples = heightsOf ws (at + 18) 501;
+  samples = heights_of ws (at + 18) 501;
   len = from ws at 519;
-  behind = heightsOf ws (at + 520) 11;
+  behind = heights_of ws (at + 520) 11;
   behind_len = from ws at 531;
   behind_m = float_of (from ws at 532);
   end = end_of (from ws at 533);
@@ -473,21 +473,21 @@ ahead_of ws at = record {
 -- ---- the whole
 
 -- 611 words
-unfoldable pub followerWords : Follower → List ℕ
-followerWords f =
+unfoldable pub follower_words : Follower → List ℕ
+follower_words f =
     flat
-    (sightWords f.sight
-    ∷ matcherWords f.matcher
-    ∷ dueWords f.due
-    ∷ aheadWords f.ahead
-    ∷ (f.failures ∷ floatWord f.horizon_m ∷ f.steps ∷ [])
+    (sight_words f.sight
+    ∷ matcher_words f.matcher
+    ∷ due_words f.due
+    ∷ ahead_words f.ahead
+    ∷ (f.failures ∷ float_word f.horizon_m ∷ f.steps ∷ [])
     ∷ [])
 
-unfoldable pub followerOf : List ℕ → Follower
-followerOf ws = record {
+unfoldable pub follower_of : List ℕ → Follower
+follower_of ws = record {
   sight = sight_of ws 539;
-  matcher = matcherOf ws 581;
-  due = dueOf ws 603;
+  matcher = matcher_of ws 581;
+  due = due_of ws 603;
   ahead = ahead_of ws 611;
   failures = from ws 0 1147 % 256;
   horizon_m = float_of (from ws 0 1148);
@@ -496,10 +496,10 @@ followerOf ws = record {
 
 -- 1,150 words
 unfoldable pub words : Engine → List ℕ
-words e = flat (sharedWords e.shared ∷ followerWords e.follower ∷ [])
+words e = flat (shared_words e.shared ∷ follower_words e.follower ∷ [])
 
-unfoldable pub engineOf : List ℕ → Engine
-engineOf ws = record { shared = sharedOf ws; follower = followerOf ws }
+unfoldable pub engine_of : List ℕ → Engine
+engine_of ws = record { shared = shared_of ws; follower = follower_of ws }
 
 unfoldable pub same_words : List ℕ → List ℕ → Bool
 same_words [] [] = true
@@ -509,4 +509,4 @@ same_words (x ∷ xs) (y ∷ ys) = x == y && same_words xs ys
 
 -- words that are some engine's
 unfoldable pub accepted : List ℕ → Bool
-accepted ws = same_words (words (engineOf ws)) ws
+accepted ws = same_words (words (engine_of ws)) ws

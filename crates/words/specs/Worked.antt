@@ -2,7 +2,7 @@
 use Rattle.std.specs.Prelude.{ℕ, Bool, false, List, ℤ, ◌==◌}
 use Rattle.pack.specs.declared.TileKey.{TileKey}
 use Rattle.cache.specs.Lookups.{after}
-use Rattle.cache.specs.Uses.{withUses}
+use Rattle.cache.specs.Uses.{with_uses}
 use Rattle.cache.specs.declared.Aging.{Aging}
 use Rattle.cache.specs.declared.Cache.{Cache}
 use Rattle.matcher.specs.Calls.{reset}
@@ -13,7 +13,7 @@ use Rattle.predict.specs.declared.End.TheVariants as End
 use Rattle.predict.specs.declared.Outcome.{Outcome}
 use Rattle.predict.specs.declared.Outcome.TheVariants as Outcome
 use Rattle.predict.specs.declared.Prediction.{Prediction}
-use Rattle.engine.specs.Work.{counted, ended, emptied, matched, roadDone, roadAsks, rematch, roadEndedBy, withMatcher, withDue, withAhead}
+use Rattle.engine.specs.Work.{counted, ended, emptied, matched, road_done, road_asks, rematch, road_ended_by, with_matcher, with_due, with_ahead}
 use Rattle.engine.specs.declared.Ahead.{Ahead}
 use Rattle.engine.specs.declared.Due.{Due}
 use Rattle.engine.specs.declared.Engine.{Engine}
@@ -28,14 +28,14 @@ leaves e c f = (ended e c f Status.Working).engine
 -- ---- a match, once clock and ages are put
 
 abbrev pub asked : Engine → Due → Engine
-asked e due = leaves e e.shared.cache (withDue (counted e.follower) due)
+asked e due = leaves e e.shared.cache (with_due (counted e.follower) due)
 
 abbrev pub found : Engine → Matcher → Due → Engine
-found e m due = leaves e e.shared.cache (withDue (withMatcher (counted e.follower) m) due)
+found e m due = leaves e e.shared.cache (with_due (with_matcher (counted e.follower) m) due)
 
 abbrev pub lost : Engine → Matcher → Due → ℕ → Engine
 lost e m due at =
-    leaves e e.shared.cache (withDue (withAhead (withMatcher (counted e.follower) m) (emptied e.follower.ahead at End.Uncertain)) due)
+    leaves e e.shared.cache (with_due (with_ahead (with_matcher (counted e.follower) m) (emptied e.follower.ahead at End.Uncertain)) due)
 
 abbrev pub made : Engine → Fix → Matcher → Engine
 made e fix m = leaves e e.shared.cache (matched (counted e.follower) m fix)
@@ -43,18 +43,18 @@ made e fix m = leaves e e.shared.cache (matched (counted e.follower) m fix)
 -- ---- a road: of the cache it changes clock and ages alone
 
 abbrev pub rematched : Engine → Aging → Engine
-rematched e uses = leaves e (withUses e.shared.cache uses) (rematch (counted e.follower))
+rematched e uses = leaves e (with_uses e.shared.cache uses) (rematch (counted e.follower))
 
 abbrev pub published : Engine → Aging → ℕ → Ahead → Engine
 published e uses at road =
-    leaves e (withUses e.shared.cache uses) (withAhead (withDue (counted e.follower) (roadDone e.follower.due at)) road)
+    leaves e (with_uses e.shared.cache uses) (with_ahead (with_due (counted e.follower) (road_done e.follower.due at)) road)
 
-abbrev pub roadNeeds : Engine → Aging → Fix → Matched → TileKey → Engine
-roadNeeds e uses fix m key =
-    leaves e (withUses e.shared.cache uses) (roadAsks (counted e.follower) e.shared.cache.pages.count fix m key)
+abbrev pub road_needs : Engine → Aging → Fix → Matched → TileKey → Engine
+road_needs e uses fix m key =
+    leaves e (with_uses e.shared.cache uses) (road_asks (counted e.follower) e.shared.cache.pages.count fix m key)
 
-abbrev pub roadOf : ℕ → ℕ → Matched → Prediction → List ℤ → List ℤ → Ahead
-roadOf generation at m p samples behind = record {
+abbrev pub road_of : ℕ → ℕ → Matched → Prediction → List ℤ → List ℤ → Ahead
+road_of generation at m p samples behind = record {
   generation = after generation;
   at_ms = at;
   matched = Current.Is m;
@@ -69,19 +69,19 @@ roadOf generation at m p samples behind = record {
   confidence = p.confidence;
 }
 
-abbrev pub roadEnded : Engine → Fix → Matched → Outcome → Aging → List ℤ → List ℤ → Stepped
-roadEnded e fix m answer uses samples behind =
-    roadEndedBy answer e (counted e.follower) fix m
-    (record { predicted = record { answer = answer; cache = withUses e.shared.cache uses }; samples = samples; behind = behind })
+abbrev pub road_ended : Engine → Fix → Matched → Outcome → Aging → List ℤ → List ℤ → Stepped
+road_ended e fix m answer uses samples behind =
+    road_ended_by answer e (counted e.follower) fix m
+    (record { predicted = record { answer = answer; cache = with_uses e.shared.cache uses }; samples = samples; behind = behind })
 
 -- the late 12, after which clock and ages stay as they were
-abbrev pub isStale : Outcome → Bool
-isStale (Outcome.Road p) = false
-isStale (Outcome.Need key) = false
-isStale Outcome.Rematch = false
-isStale (Outcome.Refused number) = number == 12
+abbrev pub is_stale : Outcome → Bool
+is_stale (Outcome.Road p) = false
+is_stale (Outcome.Need key) = false
+is_stale Outcome.Rematch = false
+is_stale (Outcome.Refused number) = number == 12
 
 -- ---- off the map: a road that is published goes, and its match
 
-abbrev pub roadGone : Engine → ℕ → Engine
-roadGone e at = record { shared = e.shared; follower = withAhead (withMatcher e.follower reset) (emptied e.follower.ahead at End.MapEdge) }
+abbrev pub road_gone : Engine → ℕ → Engine
+road_gone e at = record { shared = e.shared; follower = with_ahead (with_matcher e.follower reset) (emptied e.follower.ahead at End.MapEdge) }

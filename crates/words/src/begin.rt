@@ -15,7 +15,7 @@ use pack::TileKey;
 // The first page of the run that page `p` is of.
 fn head_of(ws: &[u32; crate::WORDS], p: usize) -> usize
     requires { p < 96 }
-    ensures { result ≡ Evict.head_of p (Runs.kind_at (Words.pagesOf ws.now 15).slots p) }
+    ensures { result ≡ Evict.head_of p (Runs.kind_at (Words.pages_of ws.now 15).slots p) }
 {
     let part = ws[15 + 3 * p] / 4;
     if part == 0 {
@@ -27,7 +27,7 @@ fn head_of(ws: &[u32; crate::WORDS], p: usize) -> usize
 // Whether a run starts at page `p`.
 fn is_run(ws: &[u32; crate::WORDS], p: usize) -> bool
     requires { p < 96 }
-    ensures { result ≡ Runs.isRun (Runs.kind_at (Words.pagesOf ws.now 15).slots p) }
+    ensures { result ≡ Runs.is_run (Runs.kind_at (Words.pages_of ws.now 15).slots p) }
 {
     let tag = ws[15 + 3 * p];
     tag < 4 && tag % 2 == 1
@@ -36,7 +36,7 @@ fn is_run(ws: &[u32; crate::WORDS], p: usize) -> bool
 // How long ago the run that page `p` is of was used; a page without a run counts as oldest.
 fn age(ws: &[u32; crate::WORDS], p: usize) -> u32
     requires { p < 96 }
-    ensures { result ≡ Victim.age (Words.pagesOf ws.now 15) p }
+    ensures { result ≡ Victim.age (Words.pages_of ws.now 15) p }
 {
     let h = head_of(ws, p);
     if cache::MAX_PAGES <= h {
@@ -51,7 +51,7 @@ fn age(ws: &[u32; crate::WORDS], p: usize) -> u32
 // The ages of the pages below the count.
 fn ages(ws: &[u32; crate::WORDS], count: usize) -> [u32; cache::MAX_PAGES]
     requires { count ≤ 96 }
-    ensures { Victim.Aged (Words.pagesOf ws.now 15) result count }
+    ensures { Victim.Aged (Words.pages_of ws.now 15) result count }
 {
     let mut v = [0u32; cache::MAX_PAGES];
     let mut i = 0;
@@ -64,7 +64,7 @@ fn ages(ws: &[u32; crate::WORDS], count: usize) -> [u32; cache::MAX_PAGES]
 
 // The run of pages to replace.
 fn victim(ws: &[u32; crate::WORDS], pages: usize) -> Found
-    ensures { result ≡ Victim.victim (Words.pagesOf ws.now 15) pages }
+    ensures { result ≡ Victim.victim (Words.pages_of ws.now 15) pages }
 {
     let count = decode::size(ws[399]);
     if cache::MAX_PAGES < count {
@@ -88,7 +88,7 @@ fn put_slot(ws: &mut [u32; crate::WORDS], p: usize, tag: u32, key: u32, len: u32
 // `n` pages from `from` on emptied, and their ages; none past the last.
 fn clear_run(ws: &mut [u32; crate::WORDS], from: usize, n: usize)
     requires { Words.accepted ws.old ≡ true }
-    ensures { ws.new ≡ Words.words (Came.withPages (Words.engineOf ws.old) (Evict.clearRun n from (Words.pagesOf ws.old 15))) }
+    ensures { ws.new ≡ Words.words (Came.with_pages (Words.engine_of ws.old) (Evict.clear_run n from (Words.pages_of ws.old 15))) }
 {
     let mut at = from;
     let mut left = n;
@@ -105,7 +105,7 @@ fn clear_run(ws: &mut [u32; crate::WORDS], from: usize, n: usize)
 
 // Pages of the run that starts at page `h`, one where none does, as far as they lie below the count.
 fn room_at(ws: &[u32; crate::WORDS], h: usize) -> usize
-    ensures { result ≡ Evict.roomOf h (Evict.whole_of (Runs.slot_at (Words.pagesOf ws.now 15).slots h)) (Words.pagesOf ws.now 15).count }
+    ensures { result ≡ Evict.room_of h (Evict.whole_of (Runs.slot_at (Words.pages_of ws.now 15).slots h)) (Words.pages_of ws.now 15).count }
 {
     let count = decode::size(ws[399]);
     if count <= h {
@@ -126,7 +126,7 @@ fn room_at(ws: &[u32; crate::WORDS], h: usize) -> usize
 // Every tile that overlaps the `pages` pages from `first` on emptied.
 fn evict(ws: &mut [u32; crate::WORDS], first: usize, pages: usize)
     requires { Words.accepted ws.old ≡ true }
-    ensures { ws.new ≡ Words.words (Came.withPages (Words.engineOf ws.old) (Evict.evicted pages first (Words.pagesOf ws.old 15))) }
+    ensures { ws.new ≡ Words.words (Came.with_pages (Words.engine_of ws.old) (Evict.evicted pages first (Words.pages_of ws.old 15))) }
 {
     let mut at = first;
     let mut left = pages;
@@ -145,7 +145,7 @@ fn evict(ws: &mut [u32; crate::WORDS], first: usize, pages: usize)
 // `n` pages from `from` on as pieces of the run at `head`; none past the last.
 fn piece_run(ws: &mut [u32; crate::WORDS], head: usize, from: usize, n: usize)
     requires { (Words.accepted ws.old ≡ true) × (head < 96) }
-    ensures { ws.new ≡ Words.words (Came.withPages (Words.engineOf ws.old) (Evict.pieceRun n from head (Words.pagesOf ws.old 15))) }
+    ensures { ws.new ≡ Words.words (Came.with_pages (Words.engine_of ws.old) (Evict.piece_run n from head (Words.pages_of ws.old 15))) }
 {
     let tag = (4 * head + 4) as u32;
     let mut at = from;
@@ -163,7 +163,7 @@ fn piece_run(ws: &mut [u32; crate::WORDS], head: usize, from: usize, n: usize)
 // A load begins at the victim that is given.
 pub(crate) fn begin(ws: &mut [u32; crate::WORDS], at: usize, key: TileKey, len: u16)
     requires { Words.accepted ws.old ≡ true }
-    ensures { ws.new ≡ Words.words (Came.withPages (Words.engineOf ws.old) (Begin.replaced (Words.pagesOf ws.old 15) at key len)) }
+    ensures { ws.new ≡ Words.words (Came.with_pages (Words.engine_of ws.old) (Begin.replaced (Words.pages_of ws.old 15) at key len)) }
 {
     let pages = cache::runs::span(len as usize);
     evict(ws, at, pages);
@@ -176,7 +176,7 @@ pub(crate) fn begin(ws: &mut [u32; crate::WORDS], at: usize, key: TileKey, len: 
 
 // The run of pages to replace by a tile of `len` bytes.
 pub(crate) fn victim_of(ws: &[u32; crate::WORDS], len: u16) -> Found
-    ensures { result ≡ Victim.victim (Words.pagesOf ws.now 15) (Runs.span len) }
+    ensures { result ≡ Victim.victim (Words.pages_of ws.now 15) (Runs.span len) }
 {
     victim(ws, cache::runs::span(len as usize))
 }

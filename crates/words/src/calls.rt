@@ -20,7 +20,7 @@ pub struct Matching {
 
 // Whether the words are an engine's, and the causes of number 12 in a call that is given its cache, a header and an arena of `size` bytes.
 fn given_ok(ws: &[u32; crate::WORDS], header: Header, size: usize) -> bool
-    ensures { result ≡ Opens.givenTested ws.now header size }
+    ensures { result ≡ Opens.given_tested ws.now header size }
 {
     if !crate::pages::cache_ok(ws) {
         return false;
@@ -81,7 +81,7 @@ pub fn update(
 
 // Whether clock and ages stay as they were: after a late 12.
 fn is_stale(answer: Outcome) -> bool
-    ensures { result ≡ Worked.isStale answer }
+    ensures { result ≡ Worked.is_stale answer }
 {
     match answer {
         Outcome::Road(_) => false,

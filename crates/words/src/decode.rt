@@ -1,7 +1,7 @@
 // An engine from its words, piece by piece. What a field can't hold is cut, and a tag that no variant has is the first one's: `words::accepted` then sees that the words of
 // what was read are others, and refuses them.
 ghost use Rattle.std.specs.Prelude.{◌≡◌, ◌+◌, ◌%◌, ◌≤◌};
-ghost use Rattle.engine.specs.Summaries.{summaryOf};
+ghost use Rattle.engine.specs.Summaries.{summary_of};
 ghost use Rattle.words.specs.Words as Words;
 
 use cache::{Cache, Loading, MaybeKey, MaybeLoading, Pages, Part, Pending, Ring, RingKey, Slot};
@@ -37,7 +37,7 @@ pub(crate) fn size(n: u32) -> usize
 
 // Two words, the low one first.
 pub(crate) fn long(low: u32, high: u32) -> u64
-    ensures { result ≡ Words.longOf low high }
+    ensures { result ≡ Words.long_of low high }
 {
     (low as u64) + (high as u64) * 4294967296
 }
@@ -63,7 +63,7 @@ fn key(n: u32) -> TileKey
 }
 
 pub(crate) fn maybe_key(tag: u32, n: u32) -> MaybeKey
-    ensures { result ≡ Words.maybeKeyOf tag n }
+    ensures { result ≡ Words.maybe_key_of tag n }
 {
     if tag == 1 {
         return MaybeKey::Key(key(n));
@@ -74,7 +74,7 @@ pub(crate) fn maybe_key(tag: u32, n: u32) -> MaybeKey
 // ---- the pack
 
 pub(crate) fn phase(tag: u32) -> Phase
-    ensures { result ≡ Words.phaseOf tag }
+    ensures { result ≡ Words.phase_of tag }
 {
     if tag == 1 {
         return Phase::Ready;
@@ -86,7 +86,7 @@ pub(crate) fn phase(tag: u32) -> Phase
 }
 
 pub(crate) fn header(ws: &[u32; crate::WORDS]) -> Header
-    ensures { result ≡ Words.headerBy (Words.from ws.now 2) }
+    ensures { result ≡ Words.header_by (Words.from ws.now 2) }
 {
     Header {
         tile: ws[2],
@@ -134,7 +134,7 @@ pub(crate) fn slot(ws: &[u32; crate::WORDS], at: usize) -> Slot
 
 // The slots, and when each was last used.
 fn pages(ws: &[u32; crate::WORDS]) -> Pages
-    ensures { result ≡ Words.pagesOf ws.now 15 }
+    ensures { result ≡ Words.pages_of ws.now 15 }
 {
     let none = Slot {
         key: MaybeKey::Nothing,
@@ -163,14 +163,14 @@ fn pages(ws: &[u32; crate::WORDS]) -> Pages
 // The place of the ring whose words begin at `at`.
 pub(crate) fn place(ws: &[u32; crate::WORDS], at: usize) -> RingKey
     requires { at + 2 ≤ 1150 }
-    ensures { result ≡ Words.placeBy (Words.from ws.now at) }
+    ensures { result ≡ Words.place_by (Words.from ws.now at) }
 {
     let key = maybe_key(ws[at], ws[at + 1]);
     RingKey { key }
 }
 
 fn ring(ws: &[u32; crate::WORDS]) -> Ring
-    ensures { result ≡ Words.ringOf ws.now 401 }
+    ensures { result ≡ Words.ring_of ws.now 401 }
 {
     let none = RingKey {
         key: MaybeKey::Nothing,
@@ -190,7 +190,7 @@ fn ring(ws: &[u32; crate::WORDS]) -> Ring
 }
 
 pub(crate) fn loading(ws: &[u32; crate::WORDS]) -> MaybeLoading
-    ensures { result ≡ Words.loadingBy (Words.from ws.now 530) }
+    ensures { result ≡ Words.loading_by (Words.from ws.now 530) }
 {
     if ws[530] == 1 {
         return MaybeLoading::Tile(Loading {
@@ -205,7 +205,7 @@ pub(crate) fn loading(ws: &[u32; crate::WORDS]) -> MaybeLoading
 }
 
 pub(crate) fn pending(tag: u32, at: u32) -> Pending
-    ensures { result ≡ Words.pendingOf tag at }
+    ensures { result ≡ Words.pending_of tag at }
 {
     if tag == 1 {
         return Pending::Header;
@@ -220,7 +220,7 @@ pub(crate) fn pending(tag: u32, at: u32) -> Pending
 }
 
 pub(crate) fn cache(ws: &[u32; crate::WORDS]) -> Cache
-    ensures { result ≡ Words.cacheOf ws.now 15 }
+    ensures { result ≡ Words.cache_of ws.now 15 }
 {
     let pages = pages(ws);
     let missing = ring(ws);
@@ -236,7 +236,7 @@ pub(crate) fn cache(ws: &[u32; crate::WORDS]) -> Cache
 }
 
 fn shared(ws: &[u32; crate::WORDS]) -> Shared
-    ensures { result ≡ Words.sharedOf ws.now }
+    ensures { result ≡ Words.shared_of ws.now }
 {
     let phase = phase(ws[1]);
     let header = header(ws);
@@ -251,7 +251,7 @@ fn shared(ws: &[u32; crate::WORDS]) -> Shared
 // ---- the fixes
 
 pub(crate) fn fix(ws: &[u32; crate::WORDS]) -> MaybeFix
-    ensures { result ≡ Words.fixBy (Words.from ws.now 539) }
+    ensures { result ≡ Words.fix_by (Words.from ws.now 539) }
 {
     if ws[539] == 1 {
         return MaybeFix::Is(Fix {
@@ -266,7 +266,7 @@ pub(crate) fn fix(ws: &[u32; crate::WORDS]) -> MaybeFix
 // The place whose words begin at `at`.
 pub(crate) fn point(ws: &[u32; crate::WORDS], at: usize) -> Point
     requires { at + 2 ≤ 1150 }
-    ensures { result ≡ Words.pointBy (Words.from ws.now at) }
+    ensures { result ≡ Words.point_by (Words.from ws.now at) }
 {
     Point {
         lat: pack::bytes::signed_32(ws[at]),
@@ -293,7 +293,7 @@ fn places(ws: &[u32; crate::WORDS]) -> Places
 }
 
 pub(crate) fn heading(tag: u32, degrees: u32) -> Heading
-    ensures { result ≡ Words.headingOf tag degrees }
+    ensures { result ≡ Words.heading_of tag degrees }
 {
     if tag == 1 {
         return Heading::Degrees(float(degrees));
@@ -318,7 +318,7 @@ pub(crate) fn sight(ws: &[u32; crate::WORDS]) -> Sight
 // ---- the match
 
 pub fn forward(tag: u32) -> Forward
-    ensures { result ≡ Words.forwardOf tag }
+    ensures { result ≡ Words.forward_of tag }
 {
     if tag == 1 {
         return Forward::Is(false);
@@ -342,7 +342,7 @@ pub fn id(at: u32, crc: u32, edges: u32) -> TileId
 // The match whose tag stands at `at`, and its words behind it.
 fn matched(ws: &[u32; crate::WORDS], at: usize) -> Matched
     requires { at + 14 ≤ 1150 }
-    ensures { result ≡ Words.matchedBy (Words.from ws.now at) }
+    ensures { result ≡ Words.matched_by (Words.from ws.now at) }
 {
     let tile = id(ws[at + 1], ws[at + 2], ws[at + 3]);
     let forward = forward(ws[at + 7]);
@@ -364,7 +364,7 @@ fn matched(ws: &[u32; crate::WORDS], at: usize) -> Matched
 // Tag and match, 14 words from `at` on.
 pub(crate) fn current(ws: &[u32; crate::WORDS], at: usize) -> Current
     requires { at + 14 ≤ 1150 }
-    ensures { result ≡ Words.currentBy (Words.from ws.now at) }
+    ensures { result ≡ Words.current_by (Words.from ws.now at) }
 {
     if ws[at] == 1 {
         let found = matched(ws, at);
@@ -374,7 +374,7 @@ pub(crate) fn current(ws: &[u32; crate::WORDS], at: usize) -> Current
 }
 
 pub(crate) fn challenger(ws: &[u32; crate::WORDS]) -> Challenger
-    ensures { result ≡ Words.challengerBy (Words.from ws.now 595) }
+    ensures { result ≡ Words.challenger_by (Words.from ws.now 595) }
 {
     if ws[595] == 1 {
         let tile = id(ws[596], ws[597], ws[598]);
@@ -384,7 +384,7 @@ pub(crate) fn challenger(ws: &[u32; crate::WORDS]) -> Challenger
 }
 
 pub(crate) fn matcher(ws: &[u32; crate::WORDS]) -> Matcher
-    ensures { result ≡ Words.matcherOf ws.now 581 }
+    ensures { result ≡ Words.matcher_of ws.now 581 }
 {
     let current = current(ws, 581);
     let challenger = challenger(ws);
@@ -399,7 +399,7 @@ pub(crate) fn matcher(ws: &[u32; crate::WORDS]) -> Matcher
 // ---- what is due
 
 pub(crate) fn time(tag: u32, low: u32, high: u32) -> MaybeTime
-    ensures { result ≡ Words.timeOf tag low high }
+    ensures { result ≡ Words.time_of tag low high }
 {
     if tag == 1 {
         return MaybeTime::At(long(low, high));
@@ -408,7 +408,7 @@ pub(crate) fn time(tag: u32, low: u32, high: u32) -> MaybeTime
 }
 
 pub(crate) fn due(ws: &[u32; crate::WORDS]) -> Due
-    ensures { result ≡ Words.dueOf ws.now 603 }
+    ensures { result ≡ Words.due_of ws.now 603 }
 {
     let last_road = time(ws[605], ws[606], ws[607]);
     let need = maybe_key(ws[608], ws[609]);
@@ -425,13 +425,13 @@ pub(crate) fn due(ws: &[u32; crate::WORDS]) -> Due
 
 // A height: 16 bits of a word in two's complement.
 pub(crate) fn height(n: u32) -> i16
-    ensures { result ≡ Words.heightOf n }
+    ensures { result ≡ Words.height_of n }
 {
     num::cast::i16_of_i32(pack::bytes::signed_32(n))
 }
 
 fn samples(ws: &[u32; crate::WORDS]) -> [i16; predict::MAX_SAMPLES]
-    ensures { result ≡ Words.heightsOf ws.now 629 501 }
+    ensures { result ≡ Words.heights_of ws.now 629 501 }
 {
     let mut out = [0i16; predict::MAX_SAMPLES];
     let mut i = 0;
@@ -443,7 +443,7 @@ fn samples(ws: &[u32; crate::WORDS]) -> [i16; predict::MAX_SAMPLES]
 }
 
 fn behind(ws: &[u32; crate::WORDS]) -> [i16; predict::BEHIND_SAMPLES]
-    ensures { result ≡ Words.heightsOf ws.now 1131 11 }
+    ensures { result ≡ Words.heights_of ws.now 1131 11 }
 {
     let mut out = [0i16; predict::BEHIND_SAMPLES];
     let mut i = 0;
@@ -501,7 +501,7 @@ pub(crate) fn ahead(ws: &[u32; crate::WORDS]) -> Ahead
 // ---- the whole
 
 fn follower(ws: &[u32; crate::WORDS]) -> Follower
-    ensures { result ≡ Words.followerOf ws.now }
+    ensures { result ≡ Words.follower_of ws.now }
 {
     let sight = sight(ws);
     let matcher = matcher(ws);
@@ -519,7 +519,7 @@ fn follower(ws: &[u32; crate::WORDS]) -> Follower
 }
 
 pub(crate) fn engine(ws: &[u32; crate::WORDS]) -> Engine
-    ensures { result ≡ Words.engineOf ws.now }
+    ensures { result ≡ Words.engine_of ws.now }
 {
     let shared = shared(ws);
     let follower = follower(ws);
@@ -528,7 +528,7 @@ pub(crate) fn engine(ws: &[u32; crate::WORDS]) -> Engine
 
 // What number 12 asks of the engine beside the cache's own state, and what its plan is made of.
 pub(crate) fn summary(ws: &[u32; crate::WORDS]) -> Summary
-    ensures { result ≡ summaryOf (Words.engineOf ws.now) }
+    ensures { result ≡ summary_of (Words.engine_of ws.now) }
 {
     let phase = phase(ws[1]);
     let header = header(ws);

@@ -21,8 +21,8 @@ use pack::{Located, TileKey};
 // Refused: the fetch stays open.
 fn refused(ws: &mut [u32; crate::WORDS], pending: Pending, number: u32) -> Status
     requires { Words.accepted ws.old ≡ true }
-    ensures value { result ≡ (State.refused (Opens.openedAs (Words.engineOf ws.old) pending) number).answer }
-    ensures ws_after { ws.new ≡ Words.words (Opens.openedAs (Words.engineOf ws.old) pending) }
+    ensures value { result ≡ (State.refused (Opens.opened_as (Words.engine_of ws.old) pending) number).answer }
+    ensures ws_after { ws.new ≡ Words.words (Opens.opened_as (Words.engine_of ws.old) pending) }
 {
     encode::put_pending(pending, ws);
     Status::Refused(number)
@@ -33,7 +33,7 @@ fn refused(ws: &mut [u32; crate::WORDS], pending: Pending, number: u32) -> Statu
 // The pack in another phase, with so many failures; a fetch is open no more.
 fn put_phase(ws: &mut [u32; crate::WORDS], phase: Phase, failures: u8)
     requires { Words.accepted ws.old ≡ true }
-    ensures { ws.new ≡ Words.words (Came.phased (Words.engineOf ws.old) phase (Words.engineOf ws.old).shared.header failures) }
+    ensures { ws.new ≡ Words.words (Came.phased (Words.engine_of ws.old) phase (Words.engine_of ws.old).shared.header failures) }
 {
     encode::put_word(ws, 1, encode::phase(phase));
     encode::put_pending(Pending::Nothing, ws);
@@ -43,7 +43,7 @@ fn put_phase(ws: &mut [u32; crate::WORDS], phase: Phase, failures: u8)
 // The header read.
 fn put_read(ws: &mut [u32; crate::WORDS], header: Header)
     requires { Words.accepted ws.old ≡ true }
-    ensures { ws.new ≡ Words.words (Came.phased (Words.engineOf ws.old) Phases.Ready header 0) }
+    ensures { ws.new ≡ Words.words (Came.phased (Words.engine_of ws.old) Phases.Ready header 0) }
 {
     encode::put_word(ws, 1, 1);
     encode::put_header(header, ws);
@@ -54,8 +54,8 @@ fn put_read(ws: &mut [u32; crate::WORDS], header: Header)
 // No readable header: a missed read is tried again, up to the eighth.
 fn header_failed(ws: &mut [u32; crate::WORDS], failure: u32) -> Status
     requires { Words.accepted ws.old ≡ true }
-    ensures value { result ≡ (Deliver.headerFailed (Opens.openedAs (Words.engineOf ws.old) Pendings.Header) failure).answer }
-    ensures ws_after { ws.new ≡ Words.words (Deliver.headerFailed (Opens.openedAs (Words.engineOf ws.old) Pendings.Header) failure).engine }
+    ensures value { result ≡ (Deliver.header_failed (Opens.opened_as (Words.engine_of ws.old) Pendings.Header) failure).answer }
+    ensures ws_after { ws.new ≡ Words.words (Deliver.header_failed (Opens.opened_as (Words.engine_of ws.old) Pendings.Header) failure).engine }
 {
     let failures = decode::byte(ws[1147]);
     if failure == 1 {
@@ -71,8 +71,8 @@ fn header_failed(ws: &mut [u32; crate::WORDS], failure: u32) -> Status
 // The header came.
 fn header_came(ws: &mut [u32; crate::WORDS], failure: u32, bytes: &[u8]) -> Status
     requires { Words.accepted ws.old ≡ true }
-    ensures value { result ≡ (Deliver.headerCame (Opens.openedAs (Words.engineOf ws.old) Pendings.Header) failure bytes.now).answer }
-    ensures ws_after { ws.new ≡ Words.words (Deliver.headerCame (Opens.openedAs (Words.engineOf ws.old) Pendings.Header) failure bytes.now).engine }
+    ensures value { result ≡ (Deliver.header_came (Opens.opened_as (Words.engine_of ws.old) Pendings.Header) failure bytes.now).answer }
+    ensures ws_after { ws.new ≡ Words.words (Deliver.header_came (Opens.opened_as (Words.engine_of ws.old) Pendings.Header) failure bytes.now).engine }
 {
     if failure != 0 {
         return header_failed(ws, failure);
@@ -95,7 +95,7 @@ fn header_came(ws: &mut [u32; crate::WORDS], failure: u32, bytes: &[u8]) -> Stat
 // The tile is settled: nothing is needed any more.
 fn put_done(ws: &mut [u32; crate::WORDS], c: Cache)
     requires { Words.accepted ws.old ≡ true }
-    ensures { ws.new ≡ Words.words (Came.done (Words.engineOf ws.old) c) }
+    ensures { ws.new ≡ Words.words (Came.done (Words.engine_of ws.old) c) }
 {
     let n = std::num::wrapping_add_u32(ws[1149], 1);
     let due = decode::due(&*ws);
@@ -116,7 +116,7 @@ fn put_done(ws: &mut [u32; crate::WORDS], c: Cache)
 // A part came, and the load goes on.
 fn put_more(ws: &mut [u32; crate::WORDS], c: Cache)
     requires { Words.accepted ws.old ≡ true }
-    ensures { ws.new ≡ Words.words (Came.more (Words.engineOf ws.old) c) }
+    ensures { ws.new ≡ Words.words (Came.more (Words.engine_of ws.old) c) }
 {
     let n = std::num::wrapping_add_u32(ws[1149], 1);
     encode::put_cache(c, ws);
@@ -126,8 +126,8 @@ fn put_more(ws: &mut [u32; crate::WORDS], c: Cache)
 // A part failed: the eighth failure fails the pack.
 fn put_failed(ws: &mut [u32; crate::WORDS], c: Cache) -> Status
     requires { Words.accepted ws.old ≡ true }
-    ensures value { result ≡ (Deliver.loadFailed (Words.engineOf ws.old) c).answer }
-    ensures ws_after { ws.new ≡ Words.words (Deliver.loadFailed (Words.engineOf ws.old) c).engine }
+    ensures value { result ≡ (Deliver.load_failed (Words.engine_of ws.old) c).answer }
+    ensures ws_after { ws.new ≡ Words.words (Deliver.load_failed (Words.engine_of ws.old) c).engine }
 {
     let n = std::num::wrapping_add_u32(ws[1149], 1);
     let failures = decode::byte(ws[1147]);
@@ -145,8 +145,8 @@ fn put_failed(ws: &mut [u32; crate::WORDS], c: Cache) -> Status
 // What a step of the load leaves.
 fn left(ws: &mut [u32; crate::WORDS], pending: Pending, l: Loaded) -> Status
     requires { Words.accepted ws.old ≡ true }
-    ensures value { result ≡ (Deliver.loaded (Opens.openedAs (Words.engineOf ws.old) pending) l).answer }
-    ensures ws_after { ws.new ≡ Words.words (Deliver.loaded (Opens.openedAs (Words.engineOf ws.old) pending) l).engine }
+    ensures value { result ≡ (Deliver.loaded (Opens.opened_as (Words.engine_of ws.old) pending) l).answer }
+    ensures ws_after { ws.new ≡ Words.words (Deliver.loaded (Opens.opened_as (Words.engine_of ws.old) pending) l).engine }
 {
     let answer = l.answer;
     let c = l.cache;
@@ -167,8 +167,8 @@ fn left(ws: &mut [u32; crate::WORDS], pending: Pending, l: Loaded) -> Status
 // The tile that is needed is settled without a read.
 pub(crate) fn settled(ws: &mut [u32; crate::WORDS], arena: &[u8], key: TileKey) -> Status
     requires { Words.accepted ws.old ≡ true }
-    ensures value { result ≡ (Came.settled (Words.engineOf ws.old) arena.now key).answer }
-    ensures ws_after { ws.new ≡ Words.words (Came.settled (Words.engineOf ws.old) arena.now key).engine }
+    ensures value { result ≡ (Came.settled (Words.engine_of ws.old) arena.now key).answer }
+    ensures ws_after { ws.new ≡ Words.words (Came.settled (Words.engine_of ws.old) arena.now key).engine }
 {
     let c = decode::cache(&*ws);
     let pending = c.pending;
@@ -186,9 +186,9 @@ fn part_came(
     bytes: &[u8],
 ) -> Status
     requires { Words.accepted ws.old ≡ true }
-    ensures value { result ≡ (Deliver.needCame (Opens.openedAs (Words.engineOf ws.old) pending) arena.old failure bytes.now).answer }
-    ensures ws_after { ws.new ≡ Words.words (Deliver.needCame (Opens.openedAs (Words.engineOf ws.old) pending) arena.old failure bytes.now).engine }
-    ensures arena_after { arena.new ≡ (Deliver.needCame (Opens.openedAs (Words.engineOf ws.old) pending) arena.old failure bytes.now).arena }
+    ensures value { result ≡ (Deliver.need_came (Opens.opened_as (Words.engine_of ws.old) pending) arena.old failure bytes.now).answer }
+    ensures ws_after { ws.new ≡ Words.words (Deliver.need_came (Opens.opened_as (Words.engine_of ws.old) pending) arena.old failure bytes.now).engine }
+    ensures arena_after { arena.new ≡ (Deliver.need_came (Opens.opened_as (Words.engine_of ws.old) pending) arena.old failure bytes.now).arena }
 {
     let due = decode::due(&*ws);
     let need = due.need;
@@ -212,7 +212,7 @@ enum Begins {
 }
 
 fn begins_at(ws: &[u32; crate::WORDS], key: TileKey, offset: u32, len: u32) -> Begins
-    ensures { result ≡ Came.beginsAt (Words.engineOf ws.now) key offset len }
+    ensures { result ≡ Came.begins_at (Words.engine_of ws.now) key offset len }
 {
     if cache::MAX_TILE_BYTES < len as usize {
         return Begins::Nothing;
@@ -225,7 +225,7 @@ fn begins_at(ws: &[u32; crate::WORDS], key: TileKey, offset: u32, len: u32) -> B
 
 fn entry_begins(ws: &[u32; crate::WORDS], failure: u32, bytes: &[u8]) -> Begins
     requires { Words.accepted ws.now ≡ true }
-    ensures { result ≡ Came.begins (Words.engineOf ws.now) failure bytes.now }
+    ensures { result ≡ Came.begins (Words.engine_of ws.now) failure bytes.now }
 {
     if failure != 0 {
         return Begins::Nothing;
@@ -253,7 +253,7 @@ fn entry_begins(ws: &[u32; crate::WORDS], failure: u32, bytes: &[u8]) -> Begins
 // The load begun.
 fn put_begun(ws: &mut [u32; crate::WORDS], key: TileKey, slot: usize, offset: u32, len: u32)
     requires { (Words.accepted ws.old ≡ true) × (len ≤ 49152) }
-    ensures { ws.new ≡ Words.words (Came.begun (Words.engineOf ws.old) key slot offset len) }
+    ensures { ws.new ≡ Words.words (Came.begun (Words.engine_of ws.old) key slot offset len) }
 {
     let n = std::num::wrapping_add_u32(ws[1149], 1);
     crate::begin::begin(ws, slot, key, len as u16);
@@ -278,10 +278,10 @@ fn entry_came(
     bytes: &[u8],
 ) -> Status
     requires ws_value { Words.accepted ws.old ≡ true }
-    requires arena_value { State.engineOk (Opens.openedAs (Words.engineOf ws.old) (Pendings.Entry key)) (length arena.old) ≡ true }
-    ensures value { result ≡ (Deliver.needCame (Opens.openedAs (Words.engineOf ws.old) (Pendings.Entry key)) arena.old failure bytes.now).answer }
-    ensures ws_after { ws.new ≡ Words.words (Deliver.needCame (Opens.openedAs (Words.engineOf ws.old) (Pendings.Entry key)) arena.old failure bytes.now).engine }
-    ensures arena_after { arena.new ≡ (Deliver.needCame (Opens.openedAs (Words.engineOf ws.old) (Pendings.Entry key)) arena.old failure bytes.now).arena }
+    requires arena_value { State.engine_ok (Opens.opened_as (Words.engine_of ws.old) (Pendings.Entry key)) (length arena.old) ≡ true }
+    ensures value { result ≡ (Deliver.need_came (Opens.opened_as (Words.engine_of ws.old) (Pendings.Entry key)) arena.old failure bytes.now).answer }
+    ensures ws_after { ws.new ≡ Words.words (Deliver.need_came (Opens.opened_as (Words.engine_of ws.old) (Pendings.Entry key)) arena.old failure bytes.now).engine }
+    ensures arena_after { arena.new ≡ (Deliver.need_came (Opens.opened_as (Words.engine_of ws.old) (Pendings.Entry key)) arena.old failure bytes.now).arena }
 {
     match entry_begins(&*ws, failure, bytes) {
         Begins::Nothing => part_came(ws, arena, Pending::Entry(key), failure, bytes),
@@ -295,7 +295,7 @@ fn entry_came(
 // The load with so many bytes of its tile.
 fn put_further(ws: &mut [u32; crate::WORDS], l: Loading, done: u32)
     requires { Words.accepted ws.old ≡ true }
-    ensures { ws.new ≡ Words.words (Came.further (Words.engineOf ws.old) l done) }
+    ensures { ws.new ≡ Words.words (Came.further (Words.engine_of ws.old) l done) }
 {
     let n = std::num::wrapping_add_u32(ws[1149], 1);
     let key = l.key;
@@ -313,7 +313,7 @@ fn put_further(ws: &mut [u32; crate::WORDS], l: Loading, done: u32)
 
 // Whether a chunk's answer is its bytes, and leaves more to come.
 fn is_more(l: Loading, failure: u32, len: usize) -> bool
-    ensures { result ≡ Came.isMore l failure len }
+    ensures { result ≡ Came.is_more l failure len }
 {
     if failure != 0 {
         return false;
@@ -328,10 +328,10 @@ fn is_more(l: Loading, failure: u32, len: usize) -> bool
 // A chunk came. One that leaves more to come changes nothing of the pages.
 fn chunk_came(ws: &mut [u32; crate::WORDS], arena: &mut [u8], failure: u32, bytes: &[u8]) -> Status
     requires ws_value { Words.accepted ws.old ≡ true }
-    requires arena_value { State.engineOk (Opens.openedAs (Words.engineOf ws.old) Pendings.Chunk) (length arena.old) ≡ true }
-    ensures value { result ≡ (Deliver.needCame (Opens.openedAs (Words.engineOf ws.old) Pendings.Chunk) arena.old failure bytes.now).answer }
-    ensures ws_after { ws.new ≡ Words.words (Deliver.needCame (Opens.openedAs (Words.engineOf ws.old) Pendings.Chunk) arena.old failure bytes.now).engine }
-    ensures arena_after { arena.new ≡ (Deliver.needCame (Opens.openedAs (Words.engineOf ws.old) Pendings.Chunk) arena.old failure bytes.now).arena }
+    requires arena_value { State.engine_ok (Opens.opened_as (Words.engine_of ws.old) Pendings.Chunk) (length arena.old) ≡ true }
+    ensures value { result ≡ (Deliver.need_came (Opens.opened_as (Words.engine_of ws.old) Pendings.Chunk) arena.old failure bytes.now).answer }
+    ensures ws_after { ws.new ≡ Words.words (Deliver.need_came (Opens.opened_as (Words.engine_of ws.old) Pendings.Chunk) arena.old failure bytes.now).engine }
+    ensures arena_after { arena.new ≡ (Deliver.need_came (Opens.opened_as (Words.engine_of ws.old) Pendings.Chunk) arena.old failure bytes.now).arena }
 {
     let loading = decode::loading(&*ws);
     if let MaybeLoading::Tile(l) = loading {
@@ -355,10 +355,10 @@ fn came(
     bytes: &[u8],
 ) -> Status
     requires ws_value { Words.accepted ws.old ≡ true }
-    requires arena_value { State.engineOk (Opens.openedAs (Words.engineOf ws.old) pending) (length arena.old) ≡ true }
-    ensures value { result ≡ (Deliver.delivered (Opens.openedAs (Words.engineOf ws.old) pending) arena.old failure bytes.now).answer }
-    ensures ws_after { ws.new ≡ Words.words (Deliver.delivered (Opens.openedAs (Words.engineOf ws.old) pending) arena.old failure bytes.now).engine }
-    ensures arena_after { arena.new ≡ (Deliver.delivered (Opens.openedAs (Words.engineOf ws.old) pending) arena.old failure bytes.now).arena }
+    requires arena_value { State.engine_ok (Opens.opened_as (Words.engine_of ws.old) pending) (length arena.old) ≡ true }
+    ensures value { result ≡ (Deliver.delivered (Opens.opened_as (Words.engine_of ws.old) pending) arena.old failure bytes.now).answer }
+    ensures ws_after { ws.new ≡ Words.words (Deliver.delivered (Opens.opened_as (Words.engine_of ws.old) pending) arena.old failure bytes.now).engine }
+    ensures arena_after { arena.new ≡ (Deliver.delivered (Opens.opened_as (Words.engine_of ws.old) pending) arena.old failure bytes.now).arena }
 {
     match pending {
         Pending::Nothing => refused(ws, pending, 11),
@@ -396,10 +396,10 @@ fn answered(
     pack: &[u8],
 ) -> Status
     requires ws_value { Words.accepted ws.old ≡ true }
-    requires arena_value { State.engineOk (Opens.openedAs (Words.engineOf ws.old) pending) (length arena.old) ≡ true }
-    ensures value { result ≡ (Engines.answeredFrom (Opens.openedAs (Words.engineOf ws.old) pending) arena.old offset len pack.now).answer }
-    ensures ws_after { ws.new ≡ Words.words (Engines.answeredFrom (Opens.openedAs (Words.engineOf ws.old) pending) arena.old offset len pack.now).engine }
-    ensures arena_after { arena.new ≡ (Engines.answeredFrom (Opens.openedAs (Words.engineOf ws.old) pending) arena.old offset len pack.now).arena }
+    requires arena_value { State.engine_ok (Opens.opened_as (Words.engine_of ws.old) pending) (length arena.old) ≡ true }
+    ensures value { result ≡ (Engines.answered_from (Opens.opened_as (Words.engine_of ws.old) pending) arena.old offset len pack.now).answer }
+    ensures ws_after { ws.new ≡ Words.words (Engines.answered_from (Opens.opened_as (Words.engine_of ws.old) pending) arena.old offset len pack.now).engine }
+    ensures arena_after { arena.new ≡ (Engines.answered_from (Opens.opened_as (Words.engine_of ws.old) pending) arena.old offset len pack.now).arena }
 {
     match pack::read(pack, offset, len) {
         pack::Range::At(at) => came(ws, arena, pending, 0, &pack[at..at + len]),
@@ -410,10 +410,10 @@ fn answered(
 // A step that fetches, over a pack that is lent whole.
 fn fetched(ws: &mut [u32; crate::WORDS], arena: &mut [u8], pending: Pending, pack: &[u8]) -> Status
     requires ws_value { Words.accepted ws.old ≡ true }
-    requires arena_value { State.engineOk (Opens.openedAs (Words.engineOf ws.old) pending) (length arena.old) ≡ true }
-    ensures value { result ≡ (Engines.stepFromBy (Steps.opened (Words.engineOf ws.old) pending).answer (Steps.opened (Words.engineOf ws.old) pending) arena.old pack.now).answer }
-    ensures ws_after { ws.new ≡ Words.words (Engines.stepFromBy (Steps.opened (Words.engineOf ws.old) pending).answer (Steps.opened (Words.engineOf ws.old) pending) arena.old pack.now).engine }
-    ensures arena_after { arena.new ≡ (Engines.stepFromBy (Steps.opened (Words.engineOf ws.old) pending).answer (Steps.opened (Words.engineOf ws.old) pending) arena.old pack.now).arena }
+    requires arena_value { State.engine_ok (Opens.opened_as (Words.engine_of ws.old) pending) (length arena.old) ≡ true }
+    ensures value { result ≡ (Engines.step_from_by (Steps.opened (Words.engine_of ws.old) pending).answer (Steps.opened (Words.engine_of ws.old) pending) arena.old pack.now).answer }
+    ensures ws_after { ws.new ≡ Words.words (Engines.step_from_by (Steps.opened (Words.engine_of ws.old) pending).answer (Steps.opened (Words.engine_of ws.old) pending) arena.old pack.now).engine }
+    ensures arena_after { arena.new ≡ (Engines.step_from_by (Steps.opened (Words.engine_of ws.old) pending).answer (Steps.opened (Words.engine_of ws.old) pending) arena.old pack.now).arena }
 {
     let request = steps::request(&*ws, pending);
     match request {
@@ -427,9 +427,9 @@ fn fetched(ws: &mut [u32; crate::WORDS], arena: &mut [u8], pending: Pending, pac
 
 // One step over a pack that is lent whole.
 pub fn step_from(ws: &mut [u32; crate::WORDS], arena: &mut [u8], pack: &[u8]) -> Status
-    ensures value { result ≡ (Calls.stepFrom ws.old arena.old pack.now).answer }
-    ensures ws_after { ws.new ≡ (Calls.stepFrom ws.old arena.old pack.now).words }
-    ensures arena_after { arena.new ≡ (Calls.stepFrom ws.old arena.old pack.now).arena }
+    ensures value { result ≡ (Calls.step_from ws.old arena.old pack.now).answer }
+    ensures ws_after { ws.new ≡ (Calls.step_from ws.old arena.old pack.now).words }
+    ensures arena_after { arena.new ≡ (Calls.step_from ws.old arena.old pack.now).arena }
 {
     match steps::plan_step(&*ws, arena.len()) {
         Planned::Refused => Status::Refused(12),

@@ -1,7 +1,7 @@
 // An engine's words, piece by piece, each put at its place.
 ghost use Rattle.std.specs.Prelude.{◌≡◌, ◌+◌, ◌≤◌, [], ◌∷◌, length};
 ghost use Rattle.num.specs.Cast.{bits32};
-ghost use Rattle.words.specs.Put.{put, usesIn};
+ghost use Rattle.words.specs.Put.{put, uses_in};
 ghost use Rattle.words.specs.Words as Words;
 
 use cache::{Aging, Cache, MaybeKey, MaybeLoading, Pages, Part, Pending, Ring, Slot};
@@ -77,7 +77,7 @@ pub(crate) fn bit(b: bool) -> u32
 
 // A float's pattern; a not-a-number's is always the same.
 pub fn pattern(x: f32) -> u32
-    ensures { result ≡ Words.floatWord x }
+    ensures { result ≡ Words.float_word x }
 {
     if x != x {
         return 2143289344;
@@ -86,14 +86,14 @@ pub fn pattern(x: f32) -> u32
 }
 
 pub(crate) fn of_key(key: TileKey) -> u32
-    ensures { result ≡ Words.keyWord key }
+    ensures { result ≡ Words.key_word key }
 {
     (key.row as u32) * 65536 + (key.col as u32)
 }
 
 // Whether there is a key, and the key.
 pub(crate) fn has(key: MaybeKey) -> u32
-    ensures value { result ≡ Words.keyTag key }
+    ensures value { result ≡ Words.key_tag key }
     ensures upper_bound { result ≤ 1 }
 {
     match key {
@@ -103,7 +103,7 @@ pub(crate) fn has(key: MaybeKey) -> u32
 }
 
 pub(crate) fn held(key: MaybeKey) -> u32
-    ensures { result ≡ Words.keyHeld key }
+    ensures { result ≡ Words.key_held key }
 {
     match key {
         MaybeKey::Nothing => 0,
@@ -114,7 +114,7 @@ pub(crate) fn held(key: MaybeKey) -> u32
 // ---- the pack
 
 pub(crate) fn phase(phase: Phase) -> u32
-    ensures { result ≡ Words.phaseWord phase }
+    ensures { result ≡ Words.phase_word phase }
 {
     match phase {
         Phase::Unread => 0,
@@ -124,7 +124,7 @@ pub(crate) fn phase(phase: Phase) -> u32
 }
 
 pub(crate) fn header(h: Header) -> [u32; 13]
-    ensures { result ≡ Words.headerWords h }
+    ensures { result ≡ Words.header_words h }
 {
     [
         h.tile,
@@ -145,7 +145,7 @@ pub(crate) fn header(h: Header) -> [u32; 13]
 
 pub(crate) fn put_header(h: Header, out: &mut [u32; crate::WORDS])
     requires { length out.old ≡ 1150 }
-    ensures out_after { out.new ≡ put 2 (Words.headerWords h) out.old }
+    ensures out_after { out.new ≡ put 2 (Words.header_words h) out.old }
     ensures out_len { length out.new ≡ 1150 }
 {
     let ws = header(h);
@@ -156,7 +156,7 @@ pub(crate) fn put_header(h: Header, out: &mut [u32; crate::WORDS])
 
 // A first page is 0, a page of the run from page h on h + 1.
 fn part(part: Part) -> u32
-    ensures value { result ≡ Words.partWord part }
+    ensures value { result ≡ Words.part_word part }
     ensures upper_bound { result ≤ 256 }
 {
     match part {
@@ -166,7 +166,7 @@ fn part(part: Part) -> u32
 }
 
 pub(crate) fn slot(s: Slot) -> [u32; 3]
-    ensures { result ≡ Words.slotWords s }
+    ensures { result ≡ Words.slot_words s }
 {
     let key = s.key;
     let own = s.part;
@@ -179,7 +179,7 @@ pub(crate) fn slot(s: Slot) -> [u32; 3]
 
 fn put_slots(g: Pages, out: &mut [u32; crate::WORDS])
     requires { length out.old ≡ 1150 }
-    ensures out_after { out.new ≡ put 15 (Words.slotsWords g.slots) out.old }
+    ensures out_after { out.new ≡ put 15 (Words.slots_words g.slots) out.old }
     ensures out_len { length out.new ≡ 1150 }
 {
     let mut i = 0;
@@ -192,7 +192,7 @@ fn put_slots(g: Pages, out: &mut [u32; crate::WORDS])
 
 fn put_used(used: &[u32; cache::MAX_PAGES], out: &mut [u32; crate::WORDS])
     requires { length out.old ≡ 1150 }
-    ensures out_after { out.new ≡ put 303 (Words.usedWords used.now) out.old }
+    ensures out_after { out.new ≡ put 303 (Words.used_words used.now) out.old }
     ensures out_len { length out.new ≡ 1150 }
 {
     let mut i = 0;
@@ -206,7 +206,7 @@ fn put_used(used: &[u32; cache::MAX_PAGES], out: &mut [u32; crate::WORDS])
 // What lookups change: when each page was last used, and the clock.
 pub(crate) fn put_uses(a: Aging, out: &mut [u32; crate::WORDS])
     requires { length out.old ≡ 1150 }
-    ensures out_after { out.new ≡ usesIn a out.old }
+    ensures out_after { out.new ≡ uses_in a out.old }
     ensures out_len { length out.new ≡ 1150 }
 {
     put_used(&a.used, out);
@@ -215,7 +215,7 @@ pub(crate) fn put_uses(a: Aging, out: &mut [u32; crate::WORDS])
 
 fn put_pages(g: Pages, out: &mut [u32; crate::WORDS])
     requires { length out.old ≡ 1150 }
-    ensures out_after { out.new ≡ put 15 (Words.pagesWords g) out.old }
+    ensures out_after { out.new ≡ put 15 (Words.pages_words g) out.old }
     ensures out_len { length out.new ≡ 1150 }
 {
     put_slots(g, out);
@@ -226,7 +226,7 @@ fn put_pages(g: Pages, out: &mut [u32; crate::WORDS])
 
 fn put_keys(ring: Ring, out: &mut [u32; crate::WORDS])
     requires { length out.old ≡ 1150 }
-    ensures out_after { out.new ≡ put 401 (Words.keysWords ring.keys) out.old }
+    ensures out_after { out.new ≡ put 401 (Words.keys_words ring.keys) out.old }
     ensures out_len { length out.new ≡ 1150 }
 {
     let mut i = 0;
@@ -241,7 +241,7 @@ fn put_keys(ring: Ring, out: &mut [u32; crate::WORDS])
 
 fn put_ring(ring: Ring, out: &mut [u32; crate::WORDS])
     requires { length out.old ≡ 1150 }
-    ensures out_after { out.new ≡ put 401 (Words.ringWords ring) out.old }
+    ensures out_after { out.new ≡ put 401 (Words.ring_words ring) out.old }
     ensures out_len { length out.new ≡ 1150 }
 {
     put_keys(ring, out);
@@ -250,7 +250,7 @@ fn put_ring(ring: Ring, out: &mut [u32; crate::WORDS])
 }
 
 pub(crate) fn loading(loading: MaybeLoading) -> [u32; 6]
-    ensures { result ≡ Words.loadingWords loading }
+    ensures { result ≡ Words.loading_words loading }
 {
     match loading {
         MaybeLoading::Nothing => [0, 0, 0, 0, 0, 0],
@@ -262,7 +262,7 @@ pub(crate) fn loading(loading: MaybeLoading) -> [u32; 6]
 }
 
 pub(crate) fn pending(pending: Pending) -> [u32; 2]
-    ensures { result ≡ Words.pendingWords pending }
+    ensures { result ≡ Words.pending_words pending }
 {
     match pending {
         Pending::Nothing => [0, 0],
@@ -274,7 +274,7 @@ pub(crate) fn pending(pending: Pending) -> [u32; 2]
 
 pub(crate) fn put_loading(l: MaybeLoading, out: &mut [u32; crate::WORDS])
     requires { length out.old ≡ 1150 }
-    ensures out_after { out.new ≡ put 530 (Words.loadingWords l) out.old }
+    ensures out_after { out.new ≡ put 530 (Words.loading_words l) out.old }
     ensures out_len { length out.new ≡ 1150 }
 {
     let ws = loading(l);
@@ -283,7 +283,7 @@ pub(crate) fn put_loading(l: MaybeLoading, out: &mut [u32; crate::WORDS])
 
 pub(crate) fn put_pending(p: Pending, out: &mut [u32; crate::WORDS])
     requires { length out.old ≡ 1150 }
-    ensures out_after { out.new ≡ put 536 (Words.pendingWords p) out.old }
+    ensures out_after { out.new ≡ put 536 (Words.pending_words p) out.old }
     ensures out_len { length out.new ≡ 1150 }
 {
     let ws = pending(p);
@@ -292,7 +292,7 @@ pub(crate) fn put_pending(p: Pending, out: &mut [u32; crate::WORDS])
 
 pub(crate) fn put_cache(c: Cache, out: &mut [u32; crate::WORDS])
     requires { length out.old ≡ 1150 }
-    ensures out_after { out.new ≡ put 15 (Words.cacheWords c) out.old }
+    ensures out_after { out.new ≡ put 15 (Words.cache_words c) out.old }
     ensures out_len { length out.new ≡ 1150 }
 {
     let g = c.pages;
@@ -308,7 +308,7 @@ pub(crate) fn put_cache(c: Cache, out: &mut [u32; crate::WORDS])
 
 fn put_shared(s: Shared, out: &mut [u32; crate::WORDS])
     requires { length out.old ≡ 1150 }
-    ensures out_after { out.new ≡ put 0 (Words.sharedWords s) out.old }
+    ensures out_after { out.new ≡ put 0 (Words.shared_words s) out.old }
     ensures out_len { length out.new ≡ 1150 }
 {
     let read = s.phase;
@@ -323,7 +323,7 @@ fn put_shared(s: Shared, out: &mut [u32; crate::WORDS])
 // ---- the fixes
 
 pub(crate) fn fix(fix: MaybeFix) -> [u32; 5]
-    ensures { result ≡ Words.fixWords fix }
+    ensures { result ≡ Words.fix_words fix }
 {
     match fix {
         MaybeFix::Nothing => [0, 0, 0, 0, 0],
@@ -338,14 +338,14 @@ pub(crate) fn fix(fix: MaybeFix) -> [u32; 5]
 }
 
 pub(crate) fn point(p: Point) -> [u32; 2]
-    ensures { result ≡ Words.pointWords p }
+    ensures { result ≡ Words.point_words p }
 {
     [num::cast::u32_of_i32(p.lat), num::cast::u32_of_i32(p.lon)]
 }
 
 fn put_points(h: Places, out: &mut [u32; crate::WORDS])
     requires { length out.old ≡ 1150 }
-    ensures out_after { out.new ≡ put 544 (Words.pointsWords h.v) out.old }
+    ensures out_after { out.new ≡ put 544 (Words.points_words h.v) out.old }
     ensures out_len { length out.new ≡ 1150 }
 {
     let mut i = 0;
@@ -358,7 +358,7 @@ fn put_points(h: Places, out: &mut [u32; crate::WORDS])
 
 fn put_places(h: Places, out: &mut [u32; crate::WORDS])
     requires { length out.old ≡ 1150 }
-    ensures out_after { out.new ≡ put 544 (Words.placesWords h) out.old }
+    ensures out_after { out.new ≡ put 544 (Words.places_words h) out.old }
     ensures out_len { length out.new ≡ 1150 }
 {
     put_points(h, out);
@@ -367,7 +367,7 @@ fn put_places(h: Places, out: &mut [u32; crate::WORDS])
 }
 
 pub(crate) fn heading(heading: Heading) -> [u32; 2]
-    ensures { result ≡ Words.headingWords heading }
+    ensures { result ≡ Words.heading_words heading }
 {
     match heading {
         Heading::Nothing => [0, 0],
@@ -377,7 +377,7 @@ pub(crate) fn heading(heading: Heading) -> [u32; 2]
 
 fn put_sight(s: Sight, out: &mut [u32; crate::WORDS])
     requires { length out.old ≡ 1150 }
-    ensures out_after { out.new ≡ put 539 (Words.sightWords s) out.old }
+    ensures out_after { out.new ≡ put 539 (Words.sight_words s) out.old }
     ensures out_len { length out.new ≡ 1150 }
 {
     let newest = s.fix;
@@ -395,7 +395,7 @@ fn put_sight(s: Sight, out: &mut [u32; crate::WORDS])
 // ---- the match
 
 pub(crate) fn forward(forward: Forward) -> u32
-    ensures { result ≡ Words.forwardWord forward }
+    ensures { result ≡ Words.forward_word forward }
 {
     match forward {
         Forward::Unknown => 0,
@@ -409,7 +409,7 @@ pub(crate) fn forward(forward: Forward) -> u32
 }
 
 fn matched(m: Matched) -> [u32; 14]
-    ensures { result ≡ 1 ∷ Words.matchedWords m }
+    ensures { result ≡ 1 ∷ Words.matched_words m }
 {
     let tile = m.tile;
     let key = tile.key;
@@ -433,7 +433,7 @@ fn matched(m: Matched) -> [u32; 14]
 }
 
 pub fn current(c: Current) -> [u32; 14]
-    ensures { result ≡ Words.currentWords c }
+    ensures { result ≡ Words.current_words c }
 {
     match c {
         Current::Nothing => [0, 0, 0, 0, 0, 0, 0, 0, 0, 0, 0, 0, 0, 0],
@@ -442,7 +442,7 @@ pub fn current(c: Current) -> [u32; 14]
 }
 
 pub fn challenger(c: Challenger) -> [u32; 6]
-    ensures { result ≡ Words.challengerWords c }
+    ensures { result ≡ Words.challenger_words c }
 {
     match c {
         Challenger::Nothing => [0, 0, 0, 0, 0, 0],
@@ -462,7 +462,7 @@ pub fn challenger(c: Challenger) -> [u32; 6]
 
 pub(crate) fn put_matcher(m: Matcher, out: &mut [u32; crate::WORDS])
     requires { length out.old ≡ 1150 }
-    ensures out_after { out.new ≡ put 581 (Words.matcherWords m) out.old }
+    ensures out_after { out.new ≡ put 581 (Words.matcher_words m) out.old }
     ensures out_len { length out.new ≡ 1150 }
 {
     let held = m.current;
@@ -478,7 +478,7 @@ pub(crate) fn put_matcher(m: Matcher, out: &mut [u32; crate::WORDS])
 // ---- what is due
 
 pub(crate) fn time(t: MaybeTime) -> [u32; 3]
-    ensures { result ≡ Words.timeWords t }
+    ensures { result ≡ Words.time_words t }
 {
     match t {
         MaybeTime::Nothing => [0, 0, 0],
@@ -488,7 +488,7 @@ pub(crate) fn time(t: MaybeTime) -> [u32; 3]
 
 pub(crate) fn put_due(d: Due, out: &mut [u32; crate::WORDS])
     requires { length out.old ≡ 1150 }
-    ensures out_after { out.new ≡ put 603 (Words.dueWords d) out.old }
+    ensures out_after { out.new ≡ put 603 (Words.due_words d) out.old }
     ensures out_len { length out.new ≡ 1150 }
 {
     let flags = [bit(d.matching), bit(d.road)];
@@ -511,7 +511,7 @@ pub(crate) fn height(z: i16) -> u32
 
 fn put_samples(a: Ahead, out: &mut [u32; crate::WORDS])
     requires { length out.old ≡ 1150 }
-    ensures out_after { out.new ≡ put 629 (Words.heightsWords a.samples 501) out.old }
+    ensures out_after { out.new ≡ put 629 (Words.heights_words a.samples 501) out.old }
     ensures out_len { length out.new ≡ 1150 }
 {
     let mut i = 0;
@@ -524,7 +524,7 @@ fn put_samples(a: Ahead, out: &mut [u32; crate::WORDS])
 
 fn put_behind(a: Ahead, out: &mut [u32; crate::WORDS])
     requires { length out.old ≡ 1150 }
-    ensures out_after { out.new ≡ put 1131 (Words.heightsWords a.behind 11) out.old }
+    ensures out_after { out.new ≡ put 1131 (Words.heights_words a.behind 11) out.old }
     ensures out_len { length out.new ≡ 1150 }
 {
     let mut i = 0;
@@ -550,7 +550,7 @@ pub(crate) fn end(end: End) -> u32
 
 pub(crate) fn put_ahead(a: Ahead, out: &mut [u32; crate::WORDS])
     requires { length out.old ≡ 1150 }
-    ensures out_after { out.new ≡ put 611 (Words.aheadWords a) out.old }
+    ensures out_after { out.new ≡ put 611 (Words.ahead_words a) out.old }
     ensures out_len { length out.new ≡ 1150 }
 {
     let first = [a.generation, low(a.at_ms), high(a.at_ms)];
@@ -579,7 +579,7 @@ pub(crate) fn put_ahead(a: Ahead, out: &mut [u32; crate::WORDS])
 
 fn put_follower(f: Follower, out: &mut [u32; crate::WORDS])
     requires { length out.old ≡ 1150 }
-    ensures out_after { out.new ≡ put 539 (Words.followerWords f) out.old }
+    ensures out_after { out.new ≡ put 539 (Words.follower_words f) out.old }
     ensures out_len { length out.new ≡ 1150 }
 {
     let s = f.sight;

@@ -34,14 +34,14 @@ fn held(ws: &[u32; crate::WORDS], at: usize, piece: &[u32]) -> bool
 
 fn slot(ws: &[u32; crate::WORDS], at: usize) -> bool
     requires { at + 3 ≤ 1150 }
-    ensures { result ≡ Held.slotHeld ws.now at }
+    ensures { result ≡ Held.slot_held ws.now at }
 {
     let s = encode::slot(decode::slot(ws, at));
     held(ws, at, &s)
 }
 
 fn slots(ws: &[u32; crate::WORDS]) -> bool
-    ensures { result ≡ Held.slotsHeld ws.now 96 }
+    ensures { result ≡ Held.slots_held ws.now 96 }
 {
     let mut ok = true;
     let mut i = 0;
@@ -54,7 +54,7 @@ fn slots(ws: &[u32; crate::WORDS]) -> bool
 
 fn place(ws: &[u32; crate::WORDS], at: usize) -> bool
     requires { at + 2 ≤ 1150 }
-    ensures { result ≡ Held.placeHeld ws.now at }
+    ensures { result ≡ Held.place_held ws.now at }
 {
     let p = decode::place(ws, at);
     let key = p.key;
@@ -63,7 +63,7 @@ fn place(ws: &[u32; crate::WORDS], at: usize) -> bool
 }
 
 fn keys(ws: &[u32; crate::WORDS]) -> bool
-    ensures { result ≡ Held.keysHeld ws.now 64 }
+    ensures { result ≡ Held.keys_held ws.now 64 }
 {
     let mut ok = true;
     let mut i = 0;
@@ -76,14 +76,14 @@ fn keys(ws: &[u32; crate::WORDS]) -> bool
 
 fn point(ws: &[u32; crate::WORDS], at: usize) -> bool
     requires { at + 2 ≤ 1150 }
-    ensures { result ≡ Held.pointHeld ws.now at }
+    ensures { result ≡ Held.point_held ws.now at }
 {
     let p = encode::point(decode::point(ws, at));
     held(ws, at, &p)
 }
 
 fn points(ws: &[u32; crate::WORDS]) -> bool
-    ensures { result ≡ Held.pointsHeld ws.now 16 }
+    ensures { result ≡ Held.points_held ws.now 16 }
 {
     let mut ok = true;
     let mut i = 0;
@@ -95,14 +95,14 @@ fn points(ws: &[u32; crate::WORDS]) -> bool
 }
 
 fn height(word: u32) -> bool
-    ensures { result ≡ Held.heightHeld word }
+    ensures { result ≡ Held.height_held word }
 {
     encode::height(decode::height(word)) == word
 }
 
 fn heights(ws: &[u32; crate::WORDS], at: usize, n: usize) -> bool
     requires { at + n ≤ 1150 }
-    ensures { result ≡ Held.heightsHeld ws.now at n }
+    ensures { result ≡ Held.heights_held ws.now at n }
 {
     let mut ok = true;
     let mut i = 0;
@@ -116,7 +116,7 @@ fn heights(ws: &[u32; crate::WORDS], at: usize, n: usize) -> bool
 // ---- the pack
 
 fn ring(ws: &[u32; crate::WORDS]) -> bool
-    ensures { result ≡ Held.held_at 401 (Words.ringWords (Words.ringOf ws.now 401)) ws.now }
+    ensures { result ≡ Held.held_at 401 (Words.ring_words (Words.ring_of ws.now 401)) ws.now }
 {
     let next = [encode::size(decode::size(ws[529]))];
     both(keys(ws), held(ws, 529, &next))
@@ -124,7 +124,7 @@ fn ring(ws: &[u32; crate::WORDS]) -> bool
 
 // But for the slots; an age is its word.
 fn cache(ws: &[u32; crate::WORDS]) -> bool
-    ensures { result ≡ Held.besideCache ws.now }
+    ensures { result ≡ Held.beside_cache ws.now }
 {
     let counts = [encode::size(decode::size(ws[399])), ws[400]];
     let l = encode::loading(decode::loading(ws));
@@ -143,7 +143,7 @@ fn cache(ws: &[u32; crate::WORDS]) -> bool
 }
 
 fn shared(ws: &[u32; crate::WORDS]) -> bool
-    ensures { result ≡ Held.besideShared ws.now }
+    ensures { result ≡ Held.beside_shared ws.now }
 {
     let first = [crate::VERSION, encode::phase(decode::phase(ws[1]))];
     let h = encode::header(decode::header(ws));
@@ -153,14 +153,14 @@ fn shared(ws: &[u32; crate::WORDS]) -> bool
 // ---- the fixes and the match
 
 fn places(ws: &[u32; crate::WORDS]) -> bool
-    ensures { result ≡ Held.held_at 544 (Words.placesWords (Words.places_of ws.now 544)) ws.now }
+    ensures { result ≡ Held.held_at 544 (Words.places_words (Words.places_of ws.now 544)) ws.now }
 {
     let len = [encode::size(decode::size(ws[576]))];
     both(points(ws), held(ws, 576, &len))
 }
 
 fn sight(ws: &[u32; crate::WORDS]) -> bool
-    ensures { result ≡ Held.held_at 539 (Words.sightWords (Words.sight_of ws.now 539)) ws.now }
+    ensures { result ≡ Held.held_at 539 (Words.sight_words (Words.sight_of ws.now 539)) ws.now }
 {
     let f = encode::fix(decode::fix(ws));
     let h = encode::heading(decode::heading(ws[577], ws[578]));
@@ -173,7 +173,7 @@ fn sight(ws: &[u32; crate::WORDS]) -> bool
 }
 
 fn matcher(ws: &[u32; crate::WORDS]) -> bool
-    ensures { result ≡ Held.held_at 581 (Words.matcherWords (Words.matcherOf ws.now 581)) ws.now }
+    ensures { result ≡ Held.held_at 581 (Words.matcher_words (Words.matcher_of ws.now 581)) ws.now }
 {
     let c = encode::current(decode::current(ws, 581));
     let d = encode::challenger(decode::challenger(ws));
@@ -190,7 +190,7 @@ fn matcher(ws: &[u32; crate::WORDS]) -> bool
 // ---- what is due and the road
 
 fn due(ws: &[u32; crate::WORDS]) -> bool
-    ensures { result ≡ Held.held_at 603 (Words.dueWords (Words.dueOf ws.now 603)) ws.now }
+    ensures { result ≡ Held.held_at 603 (Words.due_words (Words.due_of ws.now 603)) ws.now }
 {
     let flags = [encode::bit(ws[603] == 1), encode::bit(ws[604] == 1)];
     let t = encode::time(decode::time(ws[605], ws[606], ws[607]));
@@ -208,7 +208,7 @@ fn due(ws: &[u32; crate::WORDS]) -> bool
 
 // The heights, and what stands behind them.
 fn road(ws: &[u32; crate::WORDS]) -> bool
-    ensures { result ≡ Held.roadHeld ws.now }
+    ensures { result ≡ Held.road_held ws.now }
 {
     let len = [encode::size(decode::size(ws[1130]))];
     let rest = [
@@ -228,7 +228,7 @@ fn road(ws: &[u32; crate::WORDS]) -> bool
 }
 
 fn ahead(ws: &[u32; crate::WORDS]) -> bool
-    ensures { result ≡ Held.held_at 611 (Words.aheadWords (Words.ahead_of ws.now 611)) ws.now }
+    ensures { result ≡ Held.held_at 611 (Words.ahead_words (Words.ahead_of ws.now 611)) ws.now }
 {
     let n = decode::long(ws[612], ws[613]);
     let first = [ws[611], encode::low(n), encode::high(n)];
@@ -243,7 +243,7 @@ fn ahead(ws: &[u32; crate::WORDS]) -> bool
 // ---- the whole
 
 fn follower(ws: &[u32; crate::WORDS]) -> bool
-    ensures { result ≡ Held.held_at 539 (Words.followerWords (Words.followerOf ws.now)) ws.now }
+    ensures { result ≡ Held.held_at 539 (Words.follower_words (Words.follower_of ws.now)) ws.now }
 {
     let last = [
         encode::byte(decode::byte(ws[1147])),

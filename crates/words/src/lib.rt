@@ -79,7 +79,7 @@ pub fn accepted(ws: &[u32; WORDS]) -> bool
 }
 
 pub fn read(ws: &[u32; WORDS]) -> Reading
-    ensures { (result.accepted ≡ Words.accepted ws.now) × (result.engine ≡ Words.engineOf ws.now) }
+    ensures { (result.accepted ≡ Words.accepted ws.now) × (result.engine ≡ Words.engine_of ws.now) }
 {
     let engine = crate::decode::engine(ws);
     Reading {
@@ -90,14 +90,14 @@ pub fn read(ws: &[u32; WORDS]) -> Reading
 
 // The cache alone, for calls that ask for no more.
 pub fn cache(ws: &[u32; WORDS]) -> Cache
-    ensures { result ≡ Words.cacheOf ws.now 15 }
+    ensures { result ≡ Words.cache_of ws.now 15 }
 {
     crate::decode::cache(ws)
 }
 
 // The cache's words in their place, and no others written; nothing where there are not as many words as an engine has.
 pub fn put_cache(c: Cache, ws: &mut [u32; WORDS])
-    ensures { ws.new ≡ Put.cacheIn c ws.old }
+    ensures { ws.new ≡ Put.cache_in c ws.old }
 {
     if count(&*ws) != WORDS {
         return;

@@ -19,7 +19,7 @@ use pack::TileKey;
 
 // What a lookup lands on, with the length of the run, which is not checked yet.
 fn landed(ws: &[u32; crate::WORDS], key: TileKey) -> Lookup
-    ensures { result ≡ Lookups.landed (Words.cacheOf ws.now 15) key }
+    ensures { result ≡ Lookups.landed (Words.cache_of ws.now 15) key }
 {
     if crate::pages::in_ring(ws, key) {
         return Lookup::Missing;
@@ -36,7 +36,7 @@ fn landed(ws: &[u32; crate::WORDS], key: TileKey) -> Lookup
 }
 
 fn land(ws: &[u32; crate::WORDS], place: NearKey) -> Landed
-    ensures { result ≡ Gather.land place.key (Words.cacheOf ws.now 15) }
+    ensures { result ≡ Gather.land place.key (Words.cache_of ws.now 15) }
 {
     let key = place.key;
     match key {
@@ -52,7 +52,7 @@ fn land(ws: &[u32; crate::WORDS], place: NearKey) -> Landed
 
 // What the lookups of the tiles around a fix land on.
 pub(crate) fn landings(ws: &[u32; crate::WORDS], near: NearKeys) -> Landings
-    ensures { result ≡ Gather.landings (Words.cacheOf ws.now 15) near }
+    ensures { result ≡ Gather.landings (Words.cache_of ws.now 15) near }
 {
     let first = land(ws, near.keys[0]);
     let second = land(ws, near.keys[1]);
@@ -67,7 +67,7 @@ pub(crate) fn landings(ws: &[u32; crate::WORDS], near: NearKeys) -> Landings
 // A run is the most recently used: the clock goes on by one, and is the run's age.
 fn use_run(ws: &mut [u32; crate::WORDS], first: usize)
     requires { Words.accepted ws.old ≡ true }
-    ensures { ws.new ≡ Put.usesIn (Uses.usedAt (Uses.usesOf (Words.cacheOf ws.old 15)) first) ws.old }
+    ensures { ws.new ≡ Put.uses_in (Uses.used_at (Uses.uses_of (Words.cache_of ws.old 15)) first) ws.old }
 {
     let age = std::num::wrapping_add_u32(ws[400], 1);
     encode::put_word(ws, 400, age);
@@ -80,7 +80,7 @@ fn use_run(ws: &mut [u32; crate::WORDS], first: usize)
 // What a lookup landed on, if it is a run, is the most recently used.
 fn use_landed(ws: &mut [u32; crate::WORDS], lookup: Lookup)
     requires { Words.accepted ws.old ≡ true }
-    ensures { ws.new ≡ Put.usesIn (Gather.usedBy lookup (Uses.usesOf (Words.cacheOf ws.old 15))) ws.old }
+    ensures { ws.new ≡ Put.uses_in (Gather.used_by lookup (Uses.uses_of (Words.cache_of ws.old 15))) ws.old }
 {
     match lookup {
         Lookup::Missing => {}
@@ -94,7 +94,7 @@ fn use_landed(ws: &mut [u32; crate::WORDS], lookup: Lookup)
 pub(crate) fn use_tiles(ws: &mut [u32; crate::WORDS], at: Landings, n: usize)
     requires ws_value { Words.accepted ws.old ≡ true }
     requires n_bound { n ≤ 4 }
-    ensures { ws.new ≡ Put.usesIn (Gather.usesAfter at (Uses.usesOf (Words.cacheOf ws.old 15)) n) ws.old }
+    ensures { ws.new ≡ Put.uses_in (Gather.uses_after at (Uses.uses_of (Words.cache_of ws.old 15)) n) ws.old }
 {
     let mut i = 0;
     while i < n {
@@ -117,7 +117,7 @@ fn row_of(word: u32) -> u32
 // Page `i`: its age, and the tile that is ready there.
 fn page_in(looks: &mut [u32; LOOKUPS], ws: &[u32; crate::WORDS], i: usize)
     requires { i < 96 }
-    ensures { looks.new ≡ Ages.pageIn looks.old i (slice_index (Words.pagesOf ws.now 15).used i) (Runs.slot_at (Words.pagesOf ws.now 15).slots i) }
+    ensures { looks.new ≡ Ages.page_in looks.old i (slice_index (Words.pages_of ws.now 15).used i) (Runs.slot_at (Words.pages_of ws.now 15).slots i) }
 {
     let at = 15 + 3 * i;
     let mut row = 0;
@@ -133,7 +133,7 @@ fn page_in(looks: &mut [u32; LOOKUPS], ws: &[u32; crate::WORDS], i: usize)
 }
 
 fn pages_in(looks: &mut [u32; LOOKUPS], ws: &[u32; crate::WORDS])
-    ensures { looks.new ≡ Ages.pagesIn looks.old (Words.pagesOf ws.now 15) 96 }
+    ensures { looks.new ≡ Ages.pages_in looks.old (Words.pages_of ws.now 15) 96 }
 {
     let mut i = 0;
     while i < cache::MAX_PAGES {
@@ -145,7 +145,7 @@ fn pages_in(looks: &mut [u32; LOOKUPS], ws: &[u32; crate::WORDS])
 // The ring's place `i`.
 fn place_in(looks: &mut [u32; LOOKUPS], ws: &[u32; crate::WORDS], i: usize)
     requires { i < 64 }
-    ensures { looks.new ≡ Ages.place_in looks.old i (Keys.key_at (Words.ringOf ws.now 401) i) }
+    ensures { looks.new ≡ Ages.place_in looks.old i (Keys.key_at (Words.ring_of ws.now 401) i) }
 {
     let at = 401 + 2 * i;
     let mut row = 0;
@@ -159,7 +159,7 @@ fn place_in(looks: &mut [u32; LOOKUPS], ws: &[u32; crate::WORDS], i: usize)
 }
 
 fn ring_in(looks: &mut [u32; LOOKUPS], ws: &[u32; crate::WORDS])
-    ensures { looks.new ≡ Ages.ringIn looks.old (Words.ringOf ws.now 401) 64 }
+    ensures { looks.new ≡ Ages.ring_in looks.old (Words.ring_of ws.now 401) 64 }
 {
     let mut i = 0;
     while i < cache::MISSING {
@@ -180,7 +180,7 @@ fn most(count: u32) -> u32
 
 // The numbers that the lookups of a road go by.
 pub(crate) fn lookups(ws: &[u32; crate::WORDS]) -> [u32; LOOKUPS]
-    ensures { result ≡ Ages.lookupsOf (Words.cacheOf ws.now 15) }
+    ensures { result ≡ Ages.lookups_of (Words.cache_of ws.now 15) }
 {
     let mut looks = [0u32; LOOKUPS];
     pages_in(&mut looks, ws);

@@ -27,7 +27,7 @@ fn page_ok(
     count: usize,
 ) -> bool
     requires { (at + 3 ≤ 1150) × ((p < 96) × ((head < 96) × (count ≤ 96))) }
-    ensures { result ≡ (Held.slotHeld ws.now at && Pass.fits (Words.slot_by (Words.from ws.now at)) p (record { head = head; end = end }) count) }
+    ensures { result ≡ (Held.slot_held ws.now at && Pass.fits (Words.slot_by (Words.from ws.now at)) p (record { head = head; end = end }) count) }
 {
     let tag = ws[at];
     let len = ws[at + 2];
@@ -48,7 +48,7 @@ fn page_ok(
 
 // Whether the words of the pages are those of slots, the count is at most `MAX_PAGES` and the runs are well-formed, in one pass.
 pub(crate) fn pages_ok(ws: &[u32; crate::WORDS]) -> bool
-    ensures { result ≡ (Held.slotsHeld ws.now 96 && Runs.runsOk (Words.pagesOf ws.now 15)) }
+    ensures { result ≡ (Held.slots_held ws.now 96 && Runs.runs_ok (Words.pages_of ws.now 15)) }
 {
     let count = decode::size(ws[399]);
     if cache::MAX_PAGES < count {
@@ -73,7 +73,7 @@ pub(crate) fn pages_ok(ws: &[u32; crate::WORDS]) -> bool
 
 // Whether a load has its run, not ready, with the load's key and length, and has not all of it.
 fn tile_loads(ws: &[u32; crate::WORDS], l: Loading) -> bool
-    ensures { result ≡ State.tileLoads (Words.pagesOf ws.now 15) l }
+    ensures { result ≡ State.tile_loads (Words.pages_of ws.now 15) l }
 {
     if cache::MAX_PAGES <= l.slot {
         return false;
@@ -93,7 +93,7 @@ fn tile_loads(ws: &[u32; crate::WORDS], l: Loading) -> bool
 }
 
 fn load_ok(ws: &[u32; crate::WORDS]) -> bool
-    ensures { result ≡ State.loadOk (Words.cacheOf ws.now 15) }
+    ensures { result ≡ State.load_ok (Words.cache_of ws.now 15) }
 {
     let loading = decode::loading(ws);
     match loading {
@@ -121,7 +121,7 @@ fn holds(tag: u32, held: u32, word: u32) -> bool
 
 // Whether one of the ring's places holds the key.
 pub(crate) fn in_ring(ws: &[u32; crate::WORDS], key: TileKey) -> bool
-    ensures { result ≡ Keys.inRing (Words.ringOf ws.now 401) key }
+    ensures { result ≡ Keys.in_ring (Words.ring_of ws.now 401) key }
 {
     let word = encode::of_key(key);
     let mut found = false;
@@ -135,7 +135,7 @@ pub(crate) fn in_ring(ws: &[u32; crate::WORDS], key: TileKey) -> bool
 
 // The lowest page below the count that starts a ready run of the key.
 pub(crate) fn ready_at(ws: &[u32; crate::WORDS], key: TileKey) -> Found
-    ensures { result ≡ Keys.readyAt (Words.pagesOf ws.now 15) key }
+    ensures { result ≡ Keys.ready_at (Words.pages_of ws.now 15) key }
 {
     let word = encode::of_key(key);
     let count = decode::size(ws[399]);
@@ -154,7 +154,7 @@ pub(crate) fn ready_at(ws: &[u32; crate::WORDS], key: TileKey) -> Found
 
 // What the next step towards a tile is.
 pub(crate) fn next_step(ws: &[u32; crate::WORDS], key: TileKey) -> Next
-    ensures { result ≡ Lookups.nextStep (Words.cacheOf ws.now 15) key }
+    ensures { result ≡ Lookups.next_step (Words.cache_of ws.now 15) key }
 {
     if in_ring(ws, key) {
         return Next::Missing;
@@ -173,7 +173,7 @@ pub(crate) fn next_step(ws: &[u32; crate::WORDS], key: TileKey) -> Next
 
 // Whether the next step towards the key reads its entry.
 fn wants_entry(ws: &[u32; crate::WORDS], key: TileKey) -> bool
-    ensures { result ≡ State.wantsEntry (Words.cacheOf ws.now 15) key }
+    ensures { result ≡ State.wants_entry (Words.cache_of ws.now 15) key }
 {
     match next_step(ws, key) {
         Next::Entry => true,
@@ -186,7 +186,7 @@ fn wants_entry(ws: &[u32; crate::WORDS], key: TileKey) -> bool
 
 // Whether the next step towards the load's key reads a chunk.
 fn wants_chunk(ws: &[u32; crate::WORDS]) -> bool
-    ensures { result ≡ State.wantsChunk (Words.cacheOf ws.now 15) }
+    ensures { result ≡ State.wants_chunk (Words.cache_of ws.now 15) }
 {
     let loading = decode::loading(ws);
     match loading {
@@ -202,7 +202,7 @@ fn wants_chunk(ws: &[u32; crate::WORDS]) -> bool
 }
 
 fn pending_ok(ws: &[u32; crate::WORDS]) -> bool
-    ensures { result ≡ State.pendingOk (Words.cacheOf ws.now 15) }
+    ensures { result ≡ State.pending_ok (Words.cache_of ws.now 15) }
 {
     let pending = decode::pending(ws[536], ws[537]);
     match pending {
@@ -215,7 +215,7 @@ fn pending_ok(ws: &[u32; crate::WORDS]) -> bool
 
 // Whether the words are an engine's, and the causes of number 12 in the cache's own state.
 pub(crate) fn cache_ok(ws: &[u32; crate::WORDS]) -> bool
-    ensures { result ≡ Opens.cacheTested ws.now }
+    ensures { result ≡ Opens.cache_tested ws.now }
 {
     if !crate::kept::beside(ws) {
         return false;

@@ -1,6 +1,6 @@
 // The engine's steps on words. Number 12 is tested on the words themselves; then a step reads what its plan asks for, and writes the words that change. No engine is made of the words.
 ghost use Rattle.std.specs.Prelude.{◌≡◌, true, length};
-ghost use Rattle.cache.specs.Lookups.{nextStep};
+ghost use Rattle.cache.specs.Lookups.{next_step};
 ghost use Rattle.engine.specs.Steps as Steps;
 ghost use Rattle.engine.specs.Work as Work;
 ghost use Rattle.engine.specs.declared.Status.TheVariants as Statuses;
@@ -37,7 +37,7 @@ pub(crate) fn tested(ws: &[u32; crate::WORDS], size: usize) -> bool
 
 // The fetch that the next step towards a tile opens.
 fn opens_next(ws: &[u32; crate::WORDS], key: TileKey) -> Pending
-    ensures { result ≡ Opens.opensNext (nextStep (Words.cacheOf ws.now 15) key) key }
+    ensures { result ≡ Opens.opens_next (next_step (Words.cache_of ws.now 15) key) key }
 {
     match crate::pages::next_step(ws, key) {
         Next::Entry => Pending::Entry(key),
@@ -50,7 +50,7 @@ fn opens_next(ws: &[u32; crate::WORDS], key: TileKey) -> Pending
 
 // The fetch that a plan opens.
 fn opens_plan(ws: &[u32; crate::WORDS], plan: Plan) -> Pending
-    ensures { result ≡ Opens.opensPlan plan (Words.cacheOf ws.now 15) }
+    ensures { result ≡ Opens.opens_plan plan (Words.cache_of ws.now 15) }
 {
     match plan {
         Plan::Header => Pending::Header,
@@ -66,7 +66,7 @@ fn opens_plan(ws: &[u32; crate::WORDS], plan: Plan) -> Pending
 
 // The fetch that a step leaves open, or what it does where it leaves none.
 fn planned_by(ws: &[u32; crate::WORDS], pending: Pending, plan: Plan) -> Planned
-    ensures { result ≡ Opens.plannedFor (Opens.opensBy pending plan (Words.cacheOf ws.now 15)) plan }
+    ensures { result ≡ Opens.planned_for (Opens.opens_by pending plan (Words.cache_of ws.now 15)) plan }
 {
     match pending {
         Pending::Nothing => {
@@ -102,7 +102,7 @@ pub(crate) fn plan_step(ws: &[u32; crate::WORDS], size: usize) -> Planned
 
 // The read that a fetch asks for.
 pub(crate) fn request(ws: &[u32; crate::WORDS], pending: Pending) -> Status
-    ensures { result ≡ Steps.requestOf (Words.engineOf ws.now).shared pending }
+    ensures { result ≡ Steps.request_of (Words.engine_of ws.now).shared pending }
 {
     let header = decode::header(ws);
     let loading = decode::loading(ws);
@@ -112,8 +112,8 @@ pub(crate) fn request(ws: &[u32; crate::WORDS], pending: Pending) -> Status
 // A fetch opened, and its read.
 fn opened(ws: &mut [u32; crate::WORDS], pending: Pending) -> Status
     requires { Words.accepted ws.old ≡ true }
-    ensures value { result ≡ (Steps.opened (Words.engineOf ws.old) pending).answer }
-    ensures ws_after { ws.new ≡ Words.words (Steps.opened (Words.engineOf ws.old) pending).engine }
+    ensures value { result ≡ (Steps.opened (Words.engine_of ws.old) pending).answer }
+    ensures ws_after { ws.new ≡ Words.words (Steps.opened (Words.engine_of ws.old) pending).engine }
 {
     let answer = request(&*ws, pending);
     encode::put_pending(pending, ws);
@@ -124,7 +124,7 @@ fn opened(ws: &mut [u32; crate::WORDS], pending: Pending) -> Status
 fn rested(ws: &mut [u32; crate::WORDS]) -> Status
     requires { Words.accepted ws.old ≡ true }
     ensures value { result ≡ Statuses.Idle }
-    ensures ws_after { ws.new ≡ Words.words (Work.ended (Words.engineOf ws.old) (Words.engineOf ws.old).shared.cache (Work.counted (Words.engineOf ws.old).follower) Statuses.Idle).engine }
+    ensures ws_after { ws.new ≡ Words.words (Work.ended (Words.engine_of ws.old) (Words.engine_of ws.old).shared.cache (Work.counted (Words.engine_of ws.old).follower) Statuses.Idle).engine }
 {
     let n = std::num::wrapping_add_u32(ws[1149], 1);
     encode::put_word(ws, 1149, n);
@@ -134,8 +134,8 @@ fn rested(ws: &mut [u32; crate::WORDS]) -> Status
 // A step that opens no fetch.
 pub(crate) fn worked(ws: &mut [u32; crate::WORDS], arena: &[u8], plan: Plan) -> Status
     requires { Opens.planned ws.old (length arena.now) ≡ Planneds.Works plan }
-    ensures value { result ≡ (Steps.stepped (Words.engineOf ws.old) arena.now).answer }
-    ensures ws_after { ws.new ≡ Words.words (Steps.stepped (Words.engineOf ws.old) arena.now).engine }
+    ensures value { result ≡ (Steps.stepped (Words.engine_of ws.old) arena.now).answer }
+    ensures ws_after { ws.new ≡ Words.words (Steps.stepped (Words.engine_of ws.old) arena.now).engine }
 {
     match plan {
         Plan::Rest => rested(ws),

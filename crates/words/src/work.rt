@@ -21,7 +21,7 @@ use predict::{End, Outcome, Prediction};
 // What is due, and the step counted.
 fn asks(ws: &mut [u32; crate::WORDS], due: Due)
     requires { Words.accepted ws.old ≡ true }
-    ensures { ws.new ≡ Words.words (Worked.asked (Words.engineOf ws.old) due) }
+    ensures { ws.new ≡ Words.words (Worked.asked (Words.engine_of ws.old) due) }
 {
     let n = std::num::wrapping_add_u32(ws[1149], 1);
     encode::put_due(due, ws);
@@ -31,7 +31,7 @@ fn asks(ws: &mut [u32; crate::WORDS], due: Due)
 // And the matcher.
 fn match_found(ws: &mut [u32; crate::WORDS], m: Matcher, due: Due)
     requires { Words.accepted ws.old ≡ true }
-    ensures { ws.new ≡ Words.words (Worked.found (Words.engineOf ws.old) m due) }
+    ensures { ws.new ≡ Words.words (Worked.found (Words.engine_of ws.old) m due) }
 {
     let n = std::num::wrapping_add_u32(ws[1149], 1);
     encode::put_matcher(m, ws);
@@ -42,7 +42,7 @@ fn match_found(ws: &mut [u32; crate::WORDS], m: Matcher, due: Due)
 // And the published road, which goes.
 fn match_lost(ws: &mut [u32; crate::WORDS], m: Matcher, due: Due, at_ms: u64)
     requires { Words.accepted ws.old ≡ true }
-    ensures { ws.new ≡ Words.words (Worked.lost (Words.engineOf ws.old) m due at_ms) }
+    ensures { ws.new ≡ Words.words (Worked.lost (Words.engine_of ws.old) m due at_ms) }
 {
     let n = std::num::wrapping_add_u32(ws[1149], 1);
     let a = decode::ahead(&*ws);
@@ -56,7 +56,7 @@ fn match_lost(ws: &mut [u32; crate::WORDS], m: Matcher, due: Due, at_ms: u64)
 // The match is made; without one a road that is published goes.
 fn match_made(ws: &mut [u32; crate::WORDS], fix: Fix, m: Matcher)
     requires { Words.accepted ws.old ≡ true }
-    ensures { ws.new ≡ Words.words (Worked.made (Words.engineOf ws.old) fix m) }
+    ensures { ws.new ≡ Words.words (Worked.made (Words.engine_of ws.old) fix m) }
 {
     let due = decode::due(&*ws);
     let published = decode::current(&*ws, 614);
@@ -73,8 +73,8 @@ fn match_made(ws: &mut [u32; crate::WORDS], fix: Fix, m: Matcher)
 fn match_ended(ws: &mut [u32; crate::WORDS], fix: Fix, at: Landings, u: Searched) -> Status
     requires ws_value { Words.accepted ws.old ≡ true }
     requires tiles_bound { u.tiles ≤ 4 }
-    ensures value { result ≡ (Plans.matchMade (Words.engineOf ws.old) fix (Gather.madeBy at (Uses.usesOf (Words.engineOf ws.old).shared.cache) u)).answer }
-    ensures ws_after { ws.new ≡ Words.words (Plans.matchMade (Words.engineOf ws.old) fix (Gather.madeBy at (Uses.usesOf (Words.engineOf ws.old).shared.cache) u)).engine }
+    ensures value { result ≡ (Plans.match_made (Words.engine_of ws.old) fix (Gather.made_by at (Uses.uses_of (Words.engine_of ws.old).shared.cache) u)).answer }
+    ensures ws_after { ws.new ≡ Words.words (Plans.match_made (Words.engine_of ws.old) fix (Gather.made_by at (Uses.uses_of (Words.engine_of ws.old).shared.cache) u)).engine }
 {
     let answer = u.answer;
     let m = u.matcher;
@@ -99,8 +99,8 @@ fn match_ended(ws: &mut [u32; crate::WORDS], fix: Fix, at: Landings, u: Searched
 // The newest fix matched.
 pub(crate) fn match_step(ws: &mut [u32; crate::WORDS], arena: &[u8], fix: Fix) -> Status
     requires { Words.accepted ws.old ≡ true }
-    ensures value { result ≡ (Work.matchStep (Words.engineOf ws.old) arena.now (Work.counted (Words.engineOf ws.old).follower) fix).answer }
-    ensures ws_after { ws.new ≡ Words.words (Work.matchStep (Words.engineOf ws.old) arena.now (Work.counted (Words.engineOf ws.old).follower) fix).engine }
+    ensures value { result ≡ (Work.match_step (Words.engine_of ws.old) arena.now (Work.counted (Words.engine_of ws.old).follower) fix).answer }
+    ensures ws_after { ws.new ≡ Words.words (Work.match_step (Words.engine_of ws.old) arena.now (Work.counted (Words.engine_of ws.old).follower) fix).engine }
 {
     let m = decode::matcher(&*ws);
     let header = decode::header(&*ws);
@@ -120,7 +120,7 @@ pub(crate) fn match_step(ws: &mut [u32; crate::WORDS], arena: &[u8], fix: Fix) -
 // Clock and ages, the step counted, and no matcher, so that the fix is matched again.
 fn road_rematch(ws: &mut [u32; crate::WORDS], uses: Aging)
     requires { Words.accepted ws.old ≡ true }
-    ensures { ws.new ≡ Words.words (Worked.rematched (Words.engineOf ws.old) uses) }
+    ensures { ws.new ≡ Words.words (Worked.rematched (Words.engine_of ws.old) uses) }
 {
     let n = std::num::wrapping_add_u32(ws[1149], 1);
     let mut due = decode::due(&*ws);
@@ -141,7 +141,7 @@ fn road_of(
     samples: [i16; predict::MAX_SAMPLES],
     behind: [i16; predict::BEHIND_SAMPLES],
 ) -> Ahead
-    ensures { result ≡ Worked.roadOf generation at_ms found p samples behind }
+    ensures { result ≡ Worked.road_of generation at_ms found p samples behind }
 {
     let end = p.end;
     Ahead {
@@ -163,7 +163,7 @@ fn road_of(
 // Clock and ages, the step counted, and the road, which is published at the fix's time.
 fn road_publish(ws: &mut [u32; crate::WORDS], uses: Aging, at_ms: u64, road: Ahead)
     requires { Words.accepted ws.old ≡ true }
-    ensures { ws.new ≡ Words.words (Worked.published (Words.engineOf ws.old) uses at_ms road) }
+    ensures { ws.new ≡ Words.words (Worked.published (Words.engine_of ws.old) uses at_ms road) }
 {
     let n = std::num::wrapping_add_u32(ws[1149], 1);
     let due = decode::due(&*ws);
@@ -183,7 +183,7 @@ fn road_needs(
     key: pack::TileKey,
 )
     requires { Words.accepted ws.old ≡ true }
-    ensures { ws.new ≡ Words.words (Worked.roadNeeds (Words.engineOf ws.old) uses fix found key) }
+    ensures { ws.new ≡ Words.words (Worked.road_needs (Words.engine_of ws.old) uses fix found key) }
 {
     let due = decode::due(&*ws);
     if engine::work::may_ask(due, decode::size(ws[399])) {
@@ -211,8 +211,8 @@ fn road_ended(
     behind: [i16; predict::BEHIND_SAMPLES],
 ) -> Status
     requires { Words.accepted ws.old ≡ true }
-    ensures value { result ≡ (Worked.roadEnded (Words.engineOf ws.old) fix found answer uses samples behind).answer }
-    ensures ws_after { ws.new ≡ Words.words (Worked.roadEnded (Words.engineOf ws.old) fix found answer uses samples behind).engine }
+    ensures value { result ≡ (Worked.road_ended (Words.engine_of ws.old) fix found answer uses samples behind).answer }
+    ensures ws_after { ws.new ≡ Words.words (Worked.road_ended (Words.engine_of ws.old) fix found answer uses samples behind).engine }
 {
     if engine::work::road_fails(answer) {
         return Status::Refused(engine::work::road_number(answer));
@@ -242,8 +242,8 @@ pub(crate) fn road_step(
     found: Matched,
 ) -> Status
     requires { Words.accepted ws.old ≡ true }
-    ensures value { result ≡ (Work.roadStep (Words.engineOf ws.old) arena.now (Work.counted (Words.engineOf ws.old).follower) fix found).answer }
-    ensures ws_after { ws.new ≡ Words.words (Work.roadStep (Words.engineOf ws.old) arena.now (Work.counted (Words.engineOf ws.old).follower) fix found).engine }
+    ensures value { result ≡ (Work.road_step (Words.engine_of ws.old) arena.now (Work.counted (Words.engine_of ws.old).follower) fix found).answer }
+    ensures ws_after { ws.new ≡ Words.words (Work.road_step (Words.engine_of ws.old) arena.now (Work.counted (Words.engine_of ws.old).follower) fix found).engine }
 {
     let mut looks = crate::look::lookups(&*ws);
     let header = decode::header(&*ws);
@@ -268,7 +268,7 @@ pub(crate) fn road_step(
 pub(crate) fn road_dropped(ws: &mut [u32; crate::WORDS]) -> Status
     requires { Words.accepted ws.old ≡ true }
     ensures value { result ≡ Statuses.Idle }
-    ensures ws_after { ws.new ≡ Words.words (Plans.roadDropped (Words.engineOf ws.old)).engine }
+    ensures ws_after { ws.new ≡ Words.words (Plans.road_dropped (Words.engine_of ws.old)).engine }
 {
     let n = std::num::wrapping_add_u32(ws[1149], 1);
     encode::put_word(ws, 604, 0);
@@ -281,7 +281,7 @@ pub(crate) fn road_dropped(ws: &mut [u32; crate::WORDS]) -> Status
 // A road that is published goes, and its match.
 fn road_gone(ws: &mut [u32; crate::WORDS], at_ms: u64)
     requires { Words.accepted ws.old ≡ true }
-    ensures { ws.new ≡ Words.words (Worked.roadGone (Words.engineOf ws.old) at_ms) }
+    ensures { ws.new ≡ Words.words (Worked.road_gone (Words.engine_of ws.old) at_ms) }
 {
     let a = decode::ahead(&*ws);
     let empty = engine::work::emptied(a, at_ms, End::MapEdge);
@@ -294,7 +294,7 @@ fn road_gone(ws: &mut [u32; crate::WORDS], at_ms: u64)
 pub(crate) fn left_map(ws: &mut [u32; crate::WORDS], fix: Fix) -> Status
     requires { Words.accepted ws.old ≡ true }
     ensures value { result ≡ Statuses.OffMap }
-    ensures ws_after { ws.new ≡ Words.words (Plans.leftMap (Words.engineOf ws.old) fix).engine }
+    ensures ws_after { ws.new ≡ Words.words (Plans.left_map (Words.engine_of ws.old) fix).engine }
 {
     let n = std::num::wrapping_add_u32(ws[1149], 1);
     if ws[614] == 1 {

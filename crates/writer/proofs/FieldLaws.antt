@@ -10,9 +10,9 @@ use mathlib.Core.Bool.{Bool, true, false}
 use borrow.Author.Tests.{eqb-true, eqb-false}
 use lib.ListN.{length, get_or, take, drop, get_or-append}
 use lib.Seq.{get_or-take, get_or-drop, get_or-append-add, length-take-le, length-paste, length_paste_head}
-use Rattle.pack.specs.Bytes.{byteAt, u16At, u32_at}
-use Rattle.writer.specs.Fields.{Field, littleEndian, put, puts}
-use Rattle.writer.specs.TileWritten.{field, fieldsBelow}
+use Rattle.pack.specs.Bytes.{byte_at, u16_at, u32_at}
+use Rattle.writer.specs.Fields.{Field, little_endian, put, puts}
+use Rattle.writer.specs.TileWritten.{field, fields_below}
 
 -- ---- one field
 
@@ -20,16 +20,16 @@ abbrev pub end : Field → ℕ
 end f = f.at + f.width
 
 abbrev bytes_of : Field → List ℕ
-bytes_of f = littleEndian f.width f.value
+bytes_of f = little_endian f.width f.value
 
-pub length-little : (width n : ℕ) → length (littleEndian width n) ≡ width
-unfolding littleEndian
-length-little zero n = refl
-length-little (suc width) n = ap suc (length-little width (n / 256))
+pub length_little : (width n : ℕ) → length (little_endian width n) ≡ width
+unfolding little_endian
+length_little zero n = refl
+length_little (suc width) n = ap suc (length_little width (n / 256))
 
 module _ (f : Field) (bs : List ℕ) (fits : end f ≤ length bs) where
   whole : f.width ≤ length (bytes_of f)
-  whole = omega (arith, length-little f.width f.value)
+  whole = omega (arith, length_little f.width f.value)
 
   starts : f.at ≤ length bs
   starts = omega arith
@@ -41,9 +41,9 @@ module _ (f : Field) (bs : List ℕ) (fits : end f ≤ length bs) where
   front : length (take f.at bs ++ take f.width (bytes_of f)) ≡ f.at + f.width
   front = length_paste_head bs f.at (bytes_of f) f.width starts whole
 
-  pub put-before : (k : ℕ) → k < f.at → get_or (put f bs) k 0 ≡ get_or bs k 0
+  pub put_before : (k : ℕ) → k < f.at → get_or (put f bs) k 0 ≡ get_or bs k 0
   unfolding put
-  put-before k h =
+  put_before k h =
       get_or-append (take f.at bs ++ take f.width (bytes_of f)) (drop (end f) bs) 0 k (omega (arith, front))
       ∙ get_or-append (take f.at bs) (take f.width (bytes_of f)) 0 k (omega (arith, length-take-le f.at bs starts))
       ∙ get_or-take f.at bs k 0 h
@@ -63,8 +63,8 @@ module _ (f : Field) (bs : List ℕ) (fits : end f ≤ length bs) where
       ∙ get_or-append-add (take f.at bs ++ take f.width (bytes_of f)) (drop (end f) bs) j 0
       ∙ get_or-drop (end f) bs j 0
 
-  pub put-behind : (k : ℕ) → end f ≤ k → get_or (put f bs) k 0 ≡ get_or bs k 0
-  put-behind k h =
+  pub put_behind : (k : ℕ) → end f ≤ k → get_or (put f bs) k 0 ≡ get_or bs k 0
+  put_behind k h =
       let e : end f + (k - end f) ≡ k = omega arith in
       rw e at (behind (k - end f))
 
@@ -74,39 +74,39 @@ abbrev pub Holds : Field → List ℕ → Type 0
 Holds f bs = (i : ℕ) → i < f.width → get_or bs (f.at + i) 0 ≡ get_or (bytes_of f) i 0
 
 -- another field put in behind it, or before it
-pub holds-behind : (f g : Field) (bs : List ℕ) → end g ≤ length bs → end f ≤ g.at → Holds f bs → Holds f (put g bs)
-holds-behind f g bs fits apart h i k = put-before g bs fits (f.at + i) (omega arith) ∙ h i k
+pub holds_behind : (f g : Field) (bs : List ℕ) → end g ≤ length bs → end f ≤ g.at → Holds f bs → Holds f (put g bs)
+holds_behind f g bs fits apart h i k = put_before g bs fits (f.at + i) (omega arith) ∙ h i k
 
-pub holds-before : (f g : Field) (bs : List ℕ) → end g ≤ length bs → end g ≤ f.at → Holds f bs → Holds f (put g bs)
-holds-before f g bs fits apart h i k = put-behind g bs fits (f.at + i) (omega arith) ∙ h i k
+pub holds_before : (f g : Field) (bs : List ℕ) → end g ≤ length bs → end g ≤ f.at → Holds f bs → Holds f (put g bs)
+holds_before f g bs fits apart h i k = put_behind g bs fits (f.at + i) (omega arith) ∙ h i k
 
-pub byte-read : (bs : List ℕ) (at value : ℕ) → Holds (field at 1 value) bs → value < 256 → byteAt bs at ≡ value
-unfolding littleEndian
-byte-read bs at value h small =
+pub byte_read : (bs : List ℕ) (at value : ℕ) → Holds (field at 1 value) bs → value < 256 → byte_at bs at ≡ value
+unfolding little_endian
+byte_read bs at value h small =
     let e : at + 0 ≡ at = omega arith in
     let low : get_or bs at 0 ≡ value % 256 = rw e at (h 0 (omega arith)) in
     omega (arith, low)
 
 -- two bytes of a wider number
-low-high : (bs : List ℕ) (at value : ℕ) → get_or bs at 0 ≡ value % 256 → get_or bs (at + 1) 0 ≡ value / 256 % 256 → u16At bs at ≡ value % 65536
-unfolding u16At
-low-high bs at value low high = omega (arith, low, high)
+low_high : (bs : List ℕ) (at value : ℕ) → get_or bs at 0 ≡ value % 256 → get_or bs (at + 1) 0 ≡ value / 256 % 256 → u16_at bs at ≡ value % 65536
+unfolding u16_at
+low_high bs at value low high = omega (arith, low, high)
 
-pub u16-read : (bs : List ℕ) (at value : ℕ) → Holds (field at 2 value) bs → value < 65536 → u16At bs at ≡ value
-unfolding littleEndian
-u16-read bs at value h small =
+pub u16_read : (bs : List ℕ) (at value : ℕ) → Holds (field at 2 value) bs → value < 65536 → u16_at bs at ≡ value
+unfolding little_endian
+u16_read bs at value h small =
     let e : at + 0 ≡ at = omega arith in
-    omega (arith, low-high bs at value (rw e at (h 0 (omega arith))) (h 1 (omega arith)))
+    omega (arith, low_high bs at value (rw e at (h 0 (omega arith))) (h 1 (omega arith)))
 
-pub u32-read : (bs : List ℕ) (at value : ℕ) → Holds (field at 4 value) bs → value < 0x1_0000_0000 → u32_at bs at ≡ value
-unfolding littleEndian u32_at
-u32-read bs at value h small =
+pub u32_read : (bs : List ℕ) (at value : ℕ) → Holds (field at 4 value) bs → value < 0x1_0000_0000 → u32_at bs at ≡ value
+unfolding little_endian u32_at
+u32_read bs at value h small =
     let e : at + 0 ≡ at = omega arith in
     let e3 : at + 3 ≡ at + 2 + 1 = omega arith in
-    let low : u16At bs at ≡ value % 65536 = low-high bs at value (rw e at (h 0 (omega arith))) (h 1 (omega arith)) in
+    let low : u16_at bs at ≡ value % 65536 = low_high bs at value (rw e at (h 0 (omega arith))) (h 1 (omega arith)) in
     let third : get_or bs (at + 2) 0 ≡ value / 65536 % 256 = h 2 (omega arith) ∙ omega arith in
     let fourth : get_or bs (at + 2 + 1) 0 ≡ value / 65536 / 256 % 256 = (rw e3 at (h 3 (omega arith))) ∙ omega arith in
-    omega (arith, low, low-high bs (at + 2) (value / 65536) third fourth)
+    omega (arith, low, low_high bs (at + 2) (value / 65536) third fourth)
 
 -- ---- lists of fields that rise from one place to another
 
@@ -118,24 +118,24 @@ pub rising_le : (low high : ℕ) (fs : List Field) → Rising low fs high → lo
 rising_le low high [] r = r
 rising_le low high (f ∷ fs) r = omega (arith, rising_le (end f) high fs r.1)
 
-pub rising-from : (low less high : ℕ) (fs : List Field) → less ≤ low → Rising low fs high → Rising less fs high
-rising-from low less high [] h r = omega arith
-rising-from low less high (f ∷ fs) h r = (omega arith, r.1)
+pub rising_from : (low less high : ℕ) (fs : List Field) → less ≤ low → Rising low fs high → Rising less fs high
+rising_from low less high [] h r = omega arith
+rising_from low less high (f ∷ fs) h r = (omega arith, r.1)
 
-pub rising-to : (low high more : ℕ) (fs : List Field) → high ≤ more → Rising low fs high → Rising low fs more
-rising-to low high more [] h r = omega arith
-rising-to low high more (f ∷ fs) h r = (r.0, rising-to (end f) high more fs h r.1)
+pub rising_to : (low high more : ℕ) (fs : List Field) → high ≤ more → Rising low fs high → Rising low fs more
+rising_to low high more [] h r = omega arith
+rising_to low high more (f ∷ fs) h r = (r.0, rising_to (end f) high more fs h r.1)
 
-pub rising-append : (low middle high : ℕ) (fs gs : List Field) → Rising low fs middle → Rising middle gs high → Rising low (fs ++ gs) high
-rising-append low middle high [] gs r s = rising-from middle low high gs r s
-rising-append low middle high (f ∷ fs) gs r s = (r.0, rising-append (end f) middle high fs gs r.1 s)
+pub rising_append : (low middle high : ℕ) (fs gs : List Field) → Rising low fs middle → Rising middle gs high → Rising low (fs ++ gs) high
+rising_append low middle high [] gs r s = rising_from middle low high gs r s
+rising_append low middle high (f ∷ fs) gs r s = (r.0, rising_append (end f) middle high fs gs r.1 s)
 
 -- records one behind the other
-pub rising-below : (start : ℕ → ℕ) (fs : ℕ → List Field) → ((i : ℕ) → Rising (start i) (fs i) (start (i + 1))) → (n : ℕ) → Rising (start 0) (fieldsBelow fs n) (start n)
-unfolding fieldsBelow
-rising-below start fs r zero = omega arith
-rising-below start fs r (suc n) =
-    rising-append (start 0) (start n) (start (suc n)) (fieldsBelow fs n) (fs n) (rising-below start fs r n) (rw add-one at (r n))
+pub rising_below : (start : ℕ → ℕ) (fs : ℕ → List Field) → ((i : ℕ) → Rising (start i) (fs i) (start (i + 1))) → (n : ℕ) → Rising (start 0) (fields_below fs n) (start n)
+unfolding fields_below
+rising_below start fs r zero = omega arith
+rising_below start fs r (suc n) =
+    rising_append (start 0) (start n) (start (suc n)) (fields_below fs n) (fs n) (rising_below start fs r n) (rw add-one at (r n))
 
 -- ---- what they leave as it was
 
@@ -152,15 +152,15 @@ pub puts_one : (f : Field) (bs : List ℕ) → puts (f ∷ []) bs ≡ put f bs
 unfolding puts
 puts_one f bs = refl
 
-pub below_more : (fs : ℕ → List Field) (n : ℕ) (bs : List ℕ) → puts (fieldsBelow fs (n + 1)) bs ≡ puts (fs n) (puts (fieldsBelow fs n) bs)
-unfolding fieldsBelow
-below_more fs n bs = rw add-one (puts-append (fieldsBelow fs n) (fs n) bs)
+pub below_more : (fs : ℕ → List Field) (n : ℕ) (bs : List ℕ) → puts (fields_below fs (n + 1)) bs ≡ puts (fs n) (puts (fields_below fs n) bs)
+unfolding fields_below
+below_more fs n bs = rw add-one (puts-append (fields_below fs n) (fs n) bs)
 
-pub below_none : (fs : ℕ → List Field) (bs : List ℕ) → puts (fieldsBelow fs 0) bs ≡ bs
-unfolding fieldsBelow puts
+pub below_none : (fs : ℕ → List Field) (bs : List ℕ) → puts (fields_below fs 0) bs ≡ bs
+unfolding fields_below puts
 below_none fs bs = refl
 
-pub below_end : (fs : ℕ → List Field) (i n : ℕ) → i ≤ n → n ≤ i → (bs : List ℕ) {out : List ℕ} → out ≡ puts (fieldsBelow fs i) bs → out ≡ puts (fieldsBelow fs n) bs
+pub below_end : (fs : ℕ → List Field) (i n : ℕ) → i ≤ n → n ≤ i → (bs : List ℕ) {out : List ℕ} → out ≡ puts (fields_below fs i) bs → out ≡ puts (fields_below fs n) bs
 below_end fs i n h k bs e =
     let same : i ≡ n = omega arith in
     rw same at e
@@ -172,22 +172,22 @@ length-puts low high (f ∷ fs) bs r h =
     let fits : end f ≤ length bs = omega (arith, rising_le (end f) high fs r.1) in
     length-puts (end f) high fs (put f bs) r.1 (omega (arith, length-put f bs fits)) ∙ length-put f bs fits
 
-pub puts-before : (low high : ℕ) (fs : List Field) (bs : List ℕ) → Rising low fs high → high ≤ length bs
+pub puts_before : (low high : ℕ) (fs : List Field) (bs : List ℕ) → Rising low fs high → high ≤ length bs
     → (k : ℕ) → k < low → get_or (puts fs bs) k 0 ≡ get_or bs k 0
 unfolding puts
-puts-before low high [] bs r h k past = refl
-puts-before low high (f ∷ fs) bs r h k past =
+puts_before low high [] bs r h k past = refl
+puts_before low high (f ∷ fs) bs r h k past =
     let fits : end f ≤ length bs = omega (arith, rising_le (end f) high fs r.1) in
-    puts-before (end f) high fs (put f bs) r.1 (omega (arith, length-put f bs fits)) k (omega arith) ∙ put-before f bs fits k (omega arith)
+    puts_before (end f) high fs (put f bs) r.1 (omega (arith, length-put f bs fits)) k (omega arith) ∙ put_before f bs fits k (omega arith)
 
-pub puts-behind : (low high : ℕ) (fs : List Field) (bs : List ℕ) → Rising low fs high → high ≤ length bs
+pub puts_behind : (low high : ℕ) (fs : List Field) (bs : List ℕ) → Rising low fs high → high ≤ length bs
     → (k : ℕ) → high ≤ k → get_or (puts fs bs) k 0 ≡ get_or bs k 0
 unfolding puts
-puts-behind low high [] bs r h k past = refl
-puts-behind low high (f ∷ fs) bs r h k past =
+puts_behind low high [] bs r h k past = refl
+puts_behind low high (f ∷ fs) bs r h k past =
     let fits : end f ≤ length bs = omega (arith, rising_le (end f) high fs r.1) in
-    puts-behind (end f) high fs (put f bs) r.1 (omega (arith, length-put f bs fits)) k past
-    ∙ put-behind f bs fits k (omega (arith, rising_le (end f) high fs r.1))
+    puts_behind (end f) high fs (put f bs) r.1 (omega (arith, length-put f bs fits)) k past
+    ∙ put_behind f bs fits k (omega (arith, rising_le (end f) high fs r.1))
 
 -- ---- each field reads back
 
@@ -203,20 +203,20 @@ pub in_right : {f : Field} {gs : List Field} (fs : List Field) → In f gs → I
 in_right [] i = i
 in_right (g ∷ fs) i = there (in_right fs i)
 
-pub in-below : {f : Field} (fs : ℕ → List Field) (i n : ℕ) → i < n → In f (fs i) → In f (fieldsBelow fs n)
-unfolding fieldsBelow
-in-below fs i zero h t = absurd (omega arith)
-in-below {f} fs i (suc n) h t = go (eqb i n) refl (λ k. in-below fs i n k t)
+pub in_below : {f : Field} (fs : ℕ → List Field) (i n : ℕ) → i < n → In f (fs i) → In f (fields_below fs n)
+unfolding fields_below
+in_below fs i zero h t = absurd (omega arith)
+in_below {f} fs i (suc n) h t = go (eqb i n) refl (λ k. in_below fs i n k t)
   where
-    go : (b : Bool) → eqb i n ≡ b → (i < n → In f (fieldsBelow fs n)) → In f (fieldsBelow fs n ++ fs n)
-    go true e r = in_right (fieldsBelow fs n) (rw (eqb-true i n e) at t)
+    go : (b : Bool) → eqb i n ≡ b → (i < n → In f (fields_below fs n)) → In f (fields_below fs n ++ fs n)
+    go true e r = in_right (fields_below fs n) (rw (eqb-true i n e) at t)
     go false e r = in_left (fs n) (r (omega (arith, eqb-false i n e)))
 
-pub holds-in : (low high : ℕ) {f : Field} (fs : List Field) (bs : List ℕ) → Rising low fs high → high ≤ length bs → In f fs → Holds f (puts fs bs)
+pub holds_in : (low high : ℕ) {f : Field} (fs : List Field) (bs : List ℕ) → Rising low fs high → high ≤ length bs → In f fs → Holds f (puts fs bs)
 unfolding puts
-holds-in low high fs bs r h (here {f = f} {fs = rest}) =
+holds_in low high fs bs r h (here {f = f} {fs = rest}) =
     let fits : end f ≤ length bs = omega (arith, rising_le (end f) high rest r.1) in
-    λ (i : ℕ) (k : i < f.width). puts-before (end f) high rest (put f bs) r.1 (omega (arith, length-put f bs fits)) (f.at + i) (omega arith) ∙ put_in f bs fits i k
-holds-in low high fs bs r h (there {g = g} {fs = rest} t) =
+    λ (i : ℕ) (k : i < f.width). puts_before (end f) high rest (put f bs) r.1 (omega (arith, length-put f bs fits)) (f.at + i) (omega arith) ∙ put_in f bs fits i k
+holds_in low high fs bs r h (there {g = g} {fs = rest} t) =
     let fits : end g ≤ length bs = omega (arith, rising_le (end g) high rest r.1) in
-    holds-in (end g) high rest (put g bs) r.1 (omega (arith, length-put g bs fits)) t
+    holds_in (end g) high rest (put g bs) r.1 (omega (arith, length-put g bs fits)) t

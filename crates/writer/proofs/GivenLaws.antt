@@ -11,16 +11,16 @@ use lib.ListN.{get_or}
 use borrow.Author.Tests.{le-leb, lt-leb, leb-true, ltb-true}
 use Rattle.pack.specs.Sector.{all_of}
 use Rattle.pack.specs.declared.TileKey.{TileKey}
-use Rattle.pack.proofs.Laws.{and-not}
+use Rattle.pack.proofs.Laws.{and_not}
 use Rattle.tile.specs.Layout.{length}
 use Rattle.tile.specs.Parse.{all_below}
 use Rattle.tile.specs.Readers.{before}
-use Rattle.tile.specs.Order.{follows, inOrder}
+use Rattle.tile.specs.Order.{follows, in_order}
 use Rattle.tile.specs.declared.Edge.{Edge}
-use Rattle.tile.proofs.Laws.{and_left, and_right, all-at, clause}
-use Rattle.writer.specs.TileWritten.{Given, given, tileGood, areWhole, countsFit, isShort, hasLonGiven, placeGiven, nodeWithin, edgeGiven, edgeGood, placesIn, edgesIn, nodeCount, edge_count, vertexCount, tileLength, firstEntry}
-use Rattle.writer.specs.Steps.{short_of, sizedOf, nodeGood, anywhere}
-use Rattle.writer.proofs.EntryLaws.{entries-two}
+use Rattle.tile.proofs.Laws.{and_left, and_right, all_at, clause}
+use Rattle.writer.specs.TileWritten.{Given, given, tile_good, are_whole, counts_fit, is_short, has_lon_given, place_given, node_within, edge_given, edge_good, places_in, edges_in, node_count, edge_count, vertex_count, tile_length, first_entry}
+use Rattle.writer.specs.Steps.{short_of, sized_of, node_good, anywhere}
+use Rattle.writer.proofs.EntryLaws.{entries_two}
 
 -- ---- conjunctions
 
@@ -44,7 +44,7 @@ all_both p q (suc n) =
 
 pub too_long : (n e v : ℕ) → 49152 < length (n / 3) (e / 7) (v / 3) → short_of n e v ≡ false
 too_long n e v h =
-    and-not (all_of (leb (n / 3) 0xffff ∷ leb (e / 7) 0xffff ∷ leb (v / 3) 0xffff_ffff ∷ [])) (leb (length (n / 3) (e / 7) (v / 3)) 49152)
+    and_not (all_of (leb (n / 3) 0xffff ∷ leb (e / 7) 0xffff ∷ leb (v / 3) 0xffff_ffff ∷ [])) (leb (length (n / 3) (e / 7) (v / 3)) 49152)
     (lt-leb (length (n / 3) (e / 7) (v / 3)) 49152 h)
 
 pub fits : (n e v : ℕ) → n ≤ 49152 → e ≤ 49152 → v ≤ 49152 → short_of n e v ≡ leb (length (n / 3) (e / 7) (v / 3)) 49152
@@ -53,18 +53,18 @@ fits n e v hn he hv =
 
 -- ---- nodes
 
-pub past-size : (x size : ℕ) → size < x → leb x (min size 65535) ≡ false
-past-size x size h = lt-leb x (min size 65535) (omega (arith, min-le_left size 65535))
+pub past_size : (x size : ℕ) → size < x → leb x (min size 65535) ≡ false
+past_size x size h = lt-leb x (min size 65535) (omega (arith, min-le_left size 65535))
 
 pub in_size : (x size : ℕ) → x ≤ size → x < 65536 → leb x (min size 65535) ≡ true
 in_size x size h small = le-leb x (min size 65535) (le-min h (omega arith))
 
-pub follows-first : (ns : List ℕ) (i : ℕ) → i ≡ 0 → follows (placeGiven ns) i ≡ true
+pub follows_first : (ns : List ℕ) (i : ℕ) → i ≡ 0 → follows (place_given ns) i ≡ true
 unfolding follows
-follows-first ns i e = rw e
+follows_first ns i e = rw e
 
 pub follows_next : (ns : List ℕ) (i : ℕ) → 0 < i
-    → follows (placeGiven ns) i ≡ not (before (get_or ns (i * 3 + 1) 0) (get_or ns (i * 3) 0) (get_or ns (i * 3 - 2) 0) (get_or ns (i * 3 - 3) 0))
+    → follows (place_given ns) i ≡ not (before (get_or ns (i * 3 + 1) 0) (get_or ns (i * 3) 0) (get_or ns (i * 3 - 2) 0) (get_or ns (i * 3 - 3) 0))
 unfolding follows
 follows_next ns zero h = absurd (omega arith)
 follows_next ns (suc i) h =
@@ -83,27 +83,27 @@ regroup true true true true false f g = refl
 regroup true true true true true false g = refl
 regroup true true true true true true g = and-true g
 
-pub good-by : (size lonUm : ℕ) (ns es vs : List ℕ) → tileGood (anywhere size lonUm ns es vs)
-    ≡ (sizedOf (ListN.length ns) (ListN.length es) (ListN.length vs)
-    && (ltb 0 lonUm
-    && (all_below (nodeGood size ns) (placesIn ns)
-    && all_below (edgeGood (placesIn ns) (placesIn vs) es) (edgesIn es))))
-unfolding tileGood
-good-by size lonUm ns es vs =
-    let g : Given = anywhere size lonUm ns es vs in
-    let edges : Bool = all_below (edgeGood (placesIn ns) (placesIn vs) es) (edgesIn es) in
-    regroup (areWhole g) (countsFit g) (isShort g) (ltb 0 lonUm) (all_below (nodeWithin size ns) (placesIn ns))
-    (all_below (follows (placeGiven ns)) (placesIn ns)) edges
-    ∙ ap (λ (b : Bool). sizedOf (ListN.length ns) (ListN.length es) (ListN.length vs) && (ltb 0 lonUm && (b && edges)))
-    (sym (all_both (nodeWithin size ns) (follows (placeGiven ns)) (placesIn ns)))
+pub good_by : (size lon_um : ℕ) (ns es vs : List ℕ) → tile_good (anywhere size lon_um ns es vs)
+    ≡ (sized_of (ListN.length ns) (ListN.length es) (ListN.length vs)
+    && (ltb 0 lon_um
+    && (all_below (node_good size ns) (places_in ns)
+    && all_below (edge_good (places_in ns) (places_in vs) es) (edges_in es))))
+unfolding tile_good
+good_by size lon_um ns es vs =
+    let g : Given = anywhere size lon_um ns es vs in
+    let edges : Bool = all_below (edge_good (places_in ns) (places_in vs) es) (edges_in es) in
+    regroup (are_whole g) (counts_fit g) (is_short g) (ltb 0 lon_um) (all_below (node_within size ns) (places_in ns))
+    (all_below (follows (place_given ns)) (places_in ns)) edges
+    ∙ ap (λ (b : Bool). sized_of (ListN.length ns) (ListN.length es) (ListN.length vs) && (ltb 0 lon_um && (b && edges)))
+    (sym (all_both (node_within size ns) (follows (place_given ns)) (places_in ns)))
 
-pub any-key : (key : TileKey) (size lonUm : ℕ) (ns es vs : List ℕ) → tileGood (given key size lonUm ns es vs) ≡ tileGood (anywhere size lonUm ns es vs)
-unfolding tileGood
-any-key key size lonUm ns es vs = refl
+pub any_key : (key : TileKey) (size lon_um : ℕ) (ns es vs : List ℕ) → tile_good (given key size lon_um ns es vs) ≡ tile_good (anywhere size lon_um ns es vs)
+unfolding tile_good
+any_key key size lon_um ns es vs = refl
 
 -- numbers enough for a tile of 49,152 bytes at most
-pub sized-small : (n e v : ℕ) → sizedOf n e v ≡ true → length (n / 3) (e / 7) (v / 3) ≤ 49152
-sized-small n e v ok =
+pub sized_small : (n e v : ℕ) → sized_of n e v ≡ true → length (n / 3) (e / 7) (v / 3) ≤ 49152
+sized_small n e v ok =
     let whole : Bool = all_of (eqb (n % 3) 0 ∷ eqb (e % 7) 0 ∷ eqb (v % 3) 0 ∷ []) in
     let counts : Bool = all_of (leb (n / 3) 0xffff ∷ leb (e / 7) 0xffff ∷ leb (v / 3) 0xffff_ffff ∷ []) in
     let short : Bool = leb (length (n / 3) (e / 7) (v / 3)) 49152 in
@@ -121,70 +121,70 @@ pub record EdgeGiven (nodes vertices : ℕ) (e : Edge) : Type 0 where
   pub group : e.group ≤ 0xffff
   pub within : e.first_vertex + e.vertices ≤ vertices
 
-module _ (g : Given) (ok : tileGood g ≡ true) where
+module _ (g : Given) (ok : tile_good g ≡ true) where
   clauses : List Bool
   clauses =
-      areWhole g
-      ∷ countsFit g
-      ∷ isShort g
-      ∷ hasLonGiven g
-      ∷ all_below (nodeWithin g.size g.nodes) (nodeCount g)
-      ∷ inOrder (placeGiven g.nodes) (nodeCount g)
-      ∷ all_below (edgeGood (nodeCount g) (vertexCount g) g.edges) (edge_count g)
+      are_whole g
+      ∷ counts_fit g
+      ∷ is_short g
+      ∷ has_lon_given g
+      ∷ all_below (node_within g.size g.nodes) (node_count g)
+      ∷ in_order (place_given g.nodes) (node_count g)
+      ∷ all_below (edge_good (node_count g) (vertex_count g) g.edges) (edge_count g)
       ∷ []
 
   holds : (k : ℕ) → ListN.get_or clauses k true ≡ true
-  unfolding tileGood clauses
+  unfolding tile_good clauses
   holds k = clause k clauses ok
 
-  pub good_length : tileLength g ≤ 49152
+  pub good_length : tile_length g ≤ 49152
   unfolding clauses
-  good_length = leb-true (tileLength g) 49152 (holds 2)
+  good_length = leb-true (tile_length g) 49152 (holds 2)
 
-  pub good-lon : 0 < g.lonUm
+  pub good_lon : 0 < g.lon_um
   unfolding clauses
-  good-lon = ltb-true 0 g.lonUm (holds 3)
+  good_lon = ltb-true 0 g.lon_um (holds 3)
 
-  pub good-node : (i : ℕ) → i < nodeCount g
-      → ((placeGiven g.nodes i).x ≤ min g.size 65535) × ((placeGiven g.nodes i).y ≤ min g.size 65535)
+  pub good_node : (i : ℕ) → i < node_count g
+      → ((place_given g.nodes i).x ≤ min g.size 65535) × ((place_given g.nodes i).y ≤ min g.size 65535)
   unfolding clauses
-  good-node i h =
-      let within : nodeWithin g.size g.nodes i ≡ true = all-at (nodeWithin g.size g.nodes) i (nodeCount g) h (holds 4) in
-      let x : Bool = leb (placeGiven g.nodes i).x (min g.size 65535) in
-      let y : Bool = leb (placeGiven g.nodes i).y (min g.size 65535) in (
-        leb-true (placeGiven g.nodes i).x (min g.size 65535) (and_left x y within),
-        leb-true (placeGiven g.nodes i).y (min g.size 65535) (and_right x y within),
+  good_node i h =
+      let within : node_within g.size g.nodes i ≡ true = all_at (node_within g.size g.nodes) i (node_count g) h (holds 4) in
+      let x : Bool = leb (place_given g.nodes i).x (min g.size 65535) in
+      let y : Bool = leb (place_given g.nodes i).y (min g.size 65535) in (
+        leb-true (place_given g.nodes i).x (min g.size 65535) (and_left x y within),
+        leb-true (place_given g.nodes i).y (min g.size 65535) (and_right x y within),
       )
 
-  pub good-order : inOrder (placeGiven g.nodes) (nodeCount g) ≡ true
+  pub good_order : in_order (place_given g.nodes) (node_count g) ≡ true
   unfolding clauses
-  good-order = holds 5
+  good_order = holds 5
 
-  pub good-edge : (i : ℕ) → i < edge_count g → EdgeGiven (nodeCount g) (vertexCount g) (edgeGiven g.edges i)
+  pub good_edge : (i : ℕ) → i < edge_count g → EdgeGiven (node_count g) (vertex_count g) (edge_given g.edges i)
   unfolding clauses
-  good-edge i h =
-      let e : Edge = edgeGiven g.edges i in
-      let ok : edgeGood (nodeCount g) (vertexCount g) g.edges i ≡ true
-      = all-at (edgeGood (nodeCount g) (vertexCount g) g.edges) i (edge_count g) h (holds 6) in
+  good_edge i h =
+      let e : Edge = edge_given g.edges i in
+      let ok : edge_good (node_count g) (vertex_count g) g.edges i ≡ true
+      = all_at (edge_good (node_count g) (vertex_count g) g.edges) i (edge_count g) h (holds 6) in
       let tests : List Bool
-      = ltb e.from (nodeCount g)
-      ∷ ltb e.to (nodeCount g)
+      = ltb e.from (node_count g)
+      ∷ ltb e.to (node_count g)
       ∷ leb e.vertices 0xffff
       ∷ leb e.class 0xff
       ∷ leb e.flags 0xff
       ∷ leb e.group 0xffff
-      ∷ leb (e.first_vertex + e.vertices) (vertexCount g)
+      ∷ leb (e.first_vertex + e.vertices) (vertex_count g)
       ∷ [] in
       record {
-        from = ltb-true e.from (nodeCount g) (clause 0 tests ok);
-        to = ltb-true e.to (nodeCount g) (clause 1 tests ok);
+        from = ltb-true e.from (node_count g) (clause 0 tests ok);
+        to = ltb-true e.to (node_count g) (clause 1 tests ok);
         count = leb-true e.vertices 0xffff (clause 2 tests ok);
         class = leb-true e.class 0xff (clause 3 tests ok);
         flags = leb-true e.flags 0xff (clause 4 tests ok);
         group = leb-true e.group 0xffff (clause 5 tests ok);
-        within = leb-true (e.first_vertex + e.vertices) (vertexCount g) (clause 6 tests ok);
+        within = leb-true (e.first_vertex + e.vertices) (vertex_count g) (clause 6 tests ok);
       }
 
   -- two adjacency entries for each edge
-  pub good-entries : firstEntry g.edges (nodeCount g) ≡ edge_count g * 2
-  good-entries = entries-two g.edges (nodeCount g) (λ (i : ℕ) (h : i < edge_count g). ((good-edge i h).from, (good-edge i h).to))
+  pub good_entries : first_entry g.edges (node_count g) ≡ edge_count g * 2
+  good_entries = entries_two g.edges (node_count g) (λ (i : ℕ) (h : i < edge_count g). ((good_edge i h).from, (good_edge i h).to))

@@ -10,31 +10,31 @@ use Rattle.tile.specs.Offsets as At
 use Rattle.pack.specs.declared.TileKey.{TileKey}
 use Rattle.writer.specs.declared.Answer.TheVariants as Answer
 use Rattle.writer.specs.Fields.{Field, put, puts, holding}
-use Rattle.writer.specs.TileWritten.{Given, given, Written, tile, tileGood, tileBytes, tileFields, tileLength, nodeCount, edge_count, vertexCount, edgesBase, verticesBase, field, fieldsBelow, headFields, nodeFields, entryField, edgeFields, vertexFields}
+use Rattle.writer.specs.TileWritten.{Given, given, Written, tile, tile_good, tile_bytes, tile_fields, tile_length, node_count, edge_count, vertex_count, edges_base, vertices_base, field, fields_below, head_fields, node_fields, entry_field, edge_fields, vertex_fields}
 use Rattle.writer.proofs.FieldLaws.{puts-append}
 
 module _ (g : Given) where
   abbrev head : List Field
-  head = headFields g.key g.lonUm (nodeCount g) (edge_count g) (vertexCount g)
+  head = head_fields g.key g.lon_um (node_count g) (edge_count g) (vertex_count g)
 
   abbrev nodes : List Field
-  nodes = fieldsBelow (nodeFields g.nodes g.edges) (nodeCount g)
+  nodes = fields_below (node_fields g.nodes g.edges) (node_count g)
 
   abbrev entries : List Field
-  entries = fieldsBelow (entryField (nodeCount g) g.edges) (edge_count g * 2)
+  entries = fields_below (entry_field (node_count g) g.edges) (edge_count g * 2)
 
   abbrev edges : List Field
-  edges = fieldsBelow (edgeFields (edgesBase g) g.edges) (edge_count g)
+  edges = fields_below (edge_fields (edges_base g) g.edges) (edge_count g)
 
   abbrev vertices : List Field
-  vertices = fieldsBelow (vertexFields (verticesBase g) g.vertices) (vertexCount g)
+  vertices = fields_below (vertex_fields (vertices_base g) g.vertices) (vertex_count g)
 
   -- part by part
   abbrev pub parts : List ℕ → List ℕ
   parts bs = puts vertices (puts edges (puts entries (puts nodes (puts head bs))))
 
-  pub parts_are : (bs : List ℕ) → parts bs ≡ puts (tileFields g) bs
-  unfolding tileFields
+  pub parts_are : (bs : List ℕ) → parts bs ≡ puts (tile_fields g) bs
+  unfolding tile_fields
   parts_are bs =
       sym
       (puts-append head (nodes ++ (entries ++ (edges ++ vertices))) bs
@@ -42,14 +42,14 @@ module _ (g : Given) where
       ∙ puts-append entries (edges ++ vertices) (puts nodes (puts head bs))
       ∙ puts-append edges vertices (puts entries (puts nodes (puts head bs))))
 
-  pub summed : put (field At.sum_at 4 (crc32 (parts (replicate (tileLength g) 0)))) (parts (replicate (tileLength g) 0)) ≡ tileBytes g
-  unfolding tileBytes holding
-  summed = ap (λ (u : List ℕ). put (field At.sum_at 4 (crc32 u)) u) (parts_are (replicate (tileLength g) 0))
+  pub summed : put (field At.sum_at 4 (crc32 (parts (replicate (tile_length g) 0)))) (parts (replicate (tile_length g) 0)) ≡ tile_bytes g
+  unfolding tile_bytes holding
+  summed = ap (λ (u : List ℕ). put (field At.sum_at 4 (crc32 u)) u) (parts_are (replicate (tile_length g) 0))
 
 -- the bytes don't hang on the size
-pub any-size : (key : TileKey) (size lonUm : ℕ) (ns es vs : List ℕ) → tileBytes (given key 0 lonUm ns es vs) ≡ tileBytes (given key size lonUm ns es vs)
-unfolding tileBytes tileFields
-any-size key size lonUm ns es vs = refl
+pub any_size : (key : TileKey) (size lon_um : ℕ) (ns es vs : List ℕ) → tile_bytes (given key 0 lon_um ns es vs) ≡ tile_bytes (given key size lon_um ns es vs)
+unfolding tile_bytes tile_fields
+any_size key size lon_um ns es vs = refl
 
 -- ---- the answers
 
@@ -57,15 +57,15 @@ module _ (g : Given) (out : List ℕ) where
   abbrev refused : ℕ → Written
   refused n = record { answer = Answer.Refused n; out = out }
 
-  pub is-13 : tileGood g ≡ false → tile g out ≡ refused 13
+  pub is_13 : tile_good g ≡ false → tile g out ≡ refused 13
   unfolding tile
-  is-13 bad = rw bad
+  is_13 bad = rw bad
 
-  pub is-14 : tileGood g ≡ true → length out < tileLength g → tile g out ≡ refused 14
+  pub is_14 : tile_good g ≡ true → length out < tile_length g → tile g out ≡ refused 14
   unfolding tile
-  is-14 ok short = rw (ok, lt-leb (tileLength g) (length out) short)
+  is_14 ok short = rw (ok, lt-leb (tile_length g) (length out) short)
 
-  pub is-written : tileGood g ≡ true → tileLength g ≤ length out
-      → tile g out ≡ record { answer = Answer.Length (tileLength g); out = tileBytes g ++ drop (tileLength g) out }
+  pub is_written : tile_good g ≡ true → tile_length g ≤ length out
+      → tile g out ≡ record { answer = Answer.Length (tile_length g); out = tile_bytes g ++ drop (tile_length g) out }
   unfolding tile
-  is-written ok fits = rw (ok, le-leb (tileLength g) (length out) fits)
+  is_written ok fits = rw (ok, le-leb (tile_length g) (length out) fits)

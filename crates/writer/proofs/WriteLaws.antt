@@ -13,26 +13,26 @@ use borrow.Rule.Slice.PartMut.{put_mid}
 use Rattle.tile.specs.Parse.{accepts, clauses}
 use Rattle.tile.proofs.Laws.{clause}
 use Rattle.writer.specs.declared.Answer.TheVariants as Answer
-use Rattle.writer.specs.PackWritten.{GivenPack, sum_of, total, keyIn, tileRules, packGood, packBytes, pack}
+use Rattle.writer.specs.PackWritten.{GivenPack, sum_of, total, key_in, tile_rules, pack_good, pack_bytes, pack}
 use Rattle.writer.specs.PackSteps.{numbered}
-use Rattle.pack.proofs.Laws.{and-not}
-use Rattle.writer.proofs.PlaceLaws.{rule, sum_is, good-at, full}
+use Rattle.pack.proofs.Laws.{and_not}
+use Rattle.writer.proofs.PlaceLaws.{rule, sum_is, good_at, full}
 
 module _ (g : GivenPack) (out : List ℕ) where
-  pub refused-13 : packGood g ≡ false → pack g out ≡ record { answer = Answer.Refused 13; out = out }
+  pub refused_13 : pack_good g ≡ false → pack g out ≡ record { answer = Answer.Refused 13; out = out }
   unfolding pack
-  refused-13 e = rw e
+  refused_13 e = rw e
 
-  module _ (good : packGood g ≡ true) where
-    pub over-14 : 0xffff_ffff < total g → pack g out ≡ record { answer = Answer.Refused 14; out = out }
+  module _ (good : pack_good g ≡ true) where
+    pub over_14 : 0xffff_ffff < total g → pack g out ≡ record { answer = Answer.Refused 14; out = out }
     unfolding pack
-    over-14 h = rw (good, lt-leb (total g) 0xffff_ffff h)
+    over_14 h = rw (good, lt-leb (total g) 0xffff_ffff h)
 
-    pub short-14 : length out < total g → pack g out ≡ record { answer = Answer.Refused 14; out = out }
+    pub short_14 : length out < total g → pack g out ≡ record { answer = Answer.Refused 14; out = out }
     unfolding pack
-    short-14 h = rw (good, and-not (leb (total g) 0xffff_ffff) (leb (total g) (length out)) (lt-leb (total g) (length out) h))
+    short_14 h = rw (good, and_not (leb (total g) 0xffff_ffff) (leb (total g) (length out)) (lt-leb (total g) (length out) h))
 
-    pub written : (n : ℕ) (new : List ℕ) → n ≡ total g → n ≤ 0xffff_ffff → n ≤ length out → new ≡ packBytes g
+    pub written : (n : ℕ) (new : List ℕ) → n ≡ total g → n ≤ 0xffff_ffff → n ≤ length out → new ≡ pack_bytes g
         → pack g out ≡ record { answer = Answer.Length n; out = new ++ drop n out }
     unfolding pack
     written n new e h k b =
@@ -47,15 +47,15 @@ unfolding sum_of
 counted [] e = omega arith
 counted (n ∷ ns) e = omega (arith, e 0 (omega arith), counted ns (λ i h. e (suc i) (omega arith)))
 
-module _ (g : GivenPack) (good : packGood g ≡ true) where
-  pub tile-long : (i : ℕ) → i < length g.lengths → 32 ≤ length (numbered g.lengths g.tiles i)
+module _ (g : GivenPack) (good : pack_good g ≡ true) where
+  pub tile_long : (i : ℕ) → i < length g.lengths → 32 ≤ length (numbered g.lengths g.tiles i)
   unfolding accepts
-  tile-long i h =
-      leb-true 32 _ (clause 0 (clauses (numbered g.lengths g.tiles i) (keyIn (numbered g.lengths g.tiles i)) g.size)
-      (clause 1 (tileRules g (numbered g.lengths g.tiles i)) (good-at g g.lengths g.tiles i h (rule g good 2))))
+  tile_long i h =
+      leb-true 32 _ (clause 0 (clauses (numbered g.lengths g.tiles i) (key_in (numbered g.lengths g.tiles i)) g.size)
+      (clause 1 (tile_rules g (numbered g.lengths g.tiles i)) (good_at g g.lengths g.tiles i h (rule g good 2))))
 
   pub count_fits : length g.lengths ≤ length g.tiles
-  count_fits = omega (arith, counted g.lengths (λ i h. omega (arith, tile-long i h, full g good i (i + 1) refl h)), sum_is g good)
+  count_fits = omega (arith, counted g.lengths (λ i h. omega (arith, tile_long i h, full g good i (i + 1) refl h)), sum_is g good)
 
 -- ---- the part from 512 on put back
 
@@ -66,8 +66,8 @@ part_length front out e h =
     (omega (arith, length-drop 512 (front ++ drop 512 out)))
     ∙ ap (λ (n : ℕ). n - 512) size
 
-pub part-back : (front rest new : List ℕ) → length front ≡ 512 → put_mid 512 (length (front ++ rest) - 512) (front ++ rest) new ≡ front ++ new
-part-back front rest new e =
+pub part_back : (front rest new : List ℕ) → length front ≡ 512 → put_mid 512 (length (front ++ rest) - 512) (front ++ rest) new ≡ front ++ new
+part_back front rest new e =
     let gone : drop (length (front ++ rest) - 512) (drop 512 (front ++ rest)) ≡ [] =
     ap (drop (length (front ++ rest) - 512)) (drop_at front rest 512 e) ∙ past
     in rw (take_at front rest 512 e, gone, append-nil new)

@@ -9,13 +9,13 @@ pub record Field : Type 0 where
   pub value : ℕ
 
 -- a number in so many bytes, the lowest first
-unfoldable pub littleEndian : ℕ → ℕ → List ℕ
-littleEndian zero n = []
-littleEndian (suc width) n = n % 256 ∷ littleEndian width (n / 256)
+unfoldable pub little_endian : ℕ → ℕ → List ℕ
+little_endian zero n = []
+little_endian (suc width) n = n % 256 ∷ little_endian width (n / 256)
 
 -- the bytes with one field put in, and with several, in their order
 unfoldable pub put : Field → List ℕ → List ℕ
-put f bs = paste bs f.at (littleEndian f.width f.value) f.width
+put f bs = paste bs f.at (little_endian f.width f.value) f.width
 
 unfoldable pub puts : List Field → List ℕ → List ℕ
 puts [] bs = bs

@@ -3,6 +3,6 @@ use Rattle.std.specs.Prelude.{ℕ}
 use Rattle.writer.specs.declared.Answer.{Answer}
 use Rattle.writer.specs.declared.Answer.TheVariants as Answer
 
-abbrev pub numberOfAnswer : Answer → ℕ
-numberOfAnswer (Answer.Length len) = 0
-numberOfAnswer (Answer.Refused number) = number
+abbrev pub number_of_answer : Answer → ℕ
+number_of_answer (Answer.Length len) = 0
+number_of_answer (Answer.Refused number) = number

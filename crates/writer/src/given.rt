@@ -3,7 +3,7 @@ ghost use Rattle.std.specs.Prelude.{◌≡◌, ◌+◌, ◌*◌, ◌/◌, ◌<�
 ghost use Rattle.tile.specs.Layout as Layout;
 ghost use Rattle.tile.specs.Parse.{all_below};
 ghost use Rattle.writer.specs.TileWritten as TileWritten;
-ghost use Rattle.writer.specs.TileWritten.{placesIn, edgesIn};
+ghost use Rattle.writer.specs.TileWritten.{places_in, edges_in};
 ghost use Rattle.writer.specs.Steps as Steps;
 
 // Bytes that a tile takes, by how many numbers its nodes, edges and vertices have.
@@ -34,7 +34,7 @@ fn is_short(nodes: usize, edges: usize, vertices: usize) -> bool
 
 // Whole records, and a length that a tile may have.
 fn sized(nodes: usize, edges: usize, vertices: usize) -> bool
-    ensures { result ≡ Steps.sizedOf nodes edges vertices }
+    ensures { result ≡ Steps.sized_of nodes edges vertices }
 {
     if nodes % 3 != 0 {
         return false;
@@ -51,7 +51,7 @@ fn sized(nodes: usize, edges: usize, vertices: usize) -> bool
 // A node lies within the tile, and not below the one before it.
 fn node_good(nodes: &[u16], size: u32, i: usize) -> bool
     requires { i * 3 + 3 ≤ length nodes.now }
-    ensures { result ≡ Steps.nodeGood size nodes.now i }
+    ensures { result ≡ Steps.node_good size nodes.now i }
 {
     let x = nodes[i * 3];
     let y = nodes[i * 3 + 1];
@@ -68,7 +68,7 @@ fn node_good(nodes: &[u16], size: u32, i: usize) -> bool
 }
 
 fn nodes_good(nodes: &[u16], size: u32) -> bool
-    ensures { result ≡ all_below (Steps.nodeGood size nodes.now) (placesIn nodes.now) }
+    ensures { result ≡ all_below (Steps.node_good size nodes.now) (places_in nodes.now) }
 {
     let last = nodes.len() / 3;
     let mut i = 0;
@@ -84,7 +84,7 @@ fn nodes_good(nodes: &[u16], size: u32) -> bool
 // An edge's numbers fit their fields, its nodes and vertices are there.
 fn edge_good(edges: &[u32], nodes: u32, vertices: u32, i: usize) -> bool
     requires { i * 7 + 7 ≤ length edges.now }
-    ensures { result ≡ TileWritten.edgeGood nodes vertices edges.now i }
+    ensures { result ≡ TileWritten.edge_good nodes vertices edges.now i }
 {
     let at = i * 7;
     if nodes <= edges[at] {
@@ -109,7 +109,7 @@ fn edge_good(edges: &[u32], nodes: u32, vertices: u32, i: usize) -> bool
 }
 
 fn edges_good(edges: &[u32], nodes: u32, vertices: u32) -> bool
-    ensures { result ≡ all_below (TileWritten.edgeGood nodes vertices edges.now) (edgesIn edges.now) }
+    ensures { result ≡ all_below (TileWritten.edge_good nodes vertices edges.now) (edges_in edges.now) }
 {
     let last = edges.len() / 7;
     let mut i = 0;
@@ -124,7 +124,7 @@ fn edges_good(edges: &[u32], nodes: u32, vertices: u32) -> bool
 
 // Whatever the key: every one fits its field.
 pub fn good(size: u32, lon_um: u32, nodes: &[u16], edges: &[u32], vertices: &[u16]) -> bool
-    ensures { result ≡ TileWritten.tileGood (Steps.anywhere size lon_um nodes.now edges.now vertices.now) }
+    ensures { result ≡ TileWritten.tile_good (Steps.anywhere size lon_um nodes.now edges.now vertices.now) }
 {
     if !sized(nodes.len(), edges.len(), vertices.len()) {
         return false;

@@ -24,7 +24,7 @@ fn spans(from: i32, tiles: u16, size: u32) -> bool
 
 // The rules of a header that a grid can break.
 fn grid_good(grid: Grid) -> bool
-    ensures { result ≡ PackWritten.gridGood (Steps.given grid [] []) }
+    ensures { result ≡ PackWritten.grid_good (Steps.given grid [] []) }
 {
     if grid.size == 0 {
         return false;
@@ -63,7 +63,7 @@ fn is_whole(tiles: &[u8], lengths: &[u32]) -> bool
 
 // The key that a tile's bytes name.
 pub fn key_in(bytes: &[u8]) -> TileKey
-    ensures { result ≡ PackWritten.keyIn bytes.now }
+    ensures { result ≡ PackWritten.key_in bytes.now }
 {
     TileKey {
         row: pack::bytes::u16_at(bytes, 4),
@@ -83,7 +83,7 @@ fn accepts(bytes: &[u8], key: TileKey, size: u32) -> bool
 
 // One tile: its length, what `tile::parse` asks, the order of its nodes among it, and its place in the grid.
 fn tile_is_good(grid: Grid, bytes: &[u8]) -> bool
-    ensures { result ≡ PackWritten.tileIsGood (Steps.given grid [] []) bytes.now }
+    ensures { result ≡ PackWritten.tile_is_good (Steps.given grid [] []) bytes.now }
 {
     if 49152 < bytes.len() {
         return false;
@@ -100,7 +100,7 @@ fn tile_is_good(grid: Grid, bytes: &[u8]) -> bool
 
 fn tiles_good(grid: Grid, tiles: &[u8], lengths: &[u32]) -> bool
     requires { PackWritten.sum_of lengths.now ≡ length tiles.now }
-    ensures { result ≡ PackWritten.tilesGood (Steps.given grid tiles.now lengths.now) (PackWritten.cut lengths.now tiles.now) }
+    ensures { result ≡ PackWritten.tiles_good (Steps.given grid tiles.now lengths.now) (PackWritten.cut lengths.now tiles.now) }
 {
     let mut at: usize = 0;
     let mut i: usize = 0;
@@ -118,7 +118,7 @@ fn tiles_good(grid: Grid, tiles: &[u8], lengths: &[u32]) -> bool
 // Whether one of the tiles from number `first` on, which starts at `start`, has this key.
 fn has_key(key: TileKey, tiles: &[u8], lengths: &[u32], first: usize, start: usize) -> bool
     requires { (PackWritten.sum_of lengths.now ≡ length tiles.now) × (start ≡ Steps.start_of lengths.now first) }
-    ensures { result ≡ PackWritten.has_key key (Steps.tilesFrom lengths.now tiles.now first) }
+    ensures { result ≡ PackWritten.has_key key (Steps.tiles_from lengths.now tiles.now first) }
 {
     let mut at = start;
     let mut i = first;
@@ -168,9 +168,9 @@ fn again(
     start: usize,
 ) -> bool
     requires lengths_value { (PackWritten.sum_of lengths.now ≡ length tiles.now) × (start ≡ Steps.start_of lengths.now first) }
-    requires first_value { Steps.rank key < least → PackWritten.has_key key (Steps.tilesFrom lengths.now tiles.now first) ≡ false }
-    requires first_value_2 { mark ≡ 0 → PackWritten.has_key key (Steps.tilesFrom lengths.now tiles.now first) ≡ false }
-    ensures { result ≡ PackWritten.has_key key (Steps.tilesFrom lengths.now tiles.now first) }
+    requires first_value { Steps.rank key < least → PackWritten.has_key key (Steps.tiles_from lengths.now tiles.now first) ≡ false }
+    requires first_value_2 { mark ≡ 0 → PackWritten.has_key key (Steps.tiles_from lengths.now tiles.now first) ≡ false }
+    ensures { result ≡ PackWritten.has_key key (Steps.tiles_from lengths.now tiles.now first) }
 {
     if rank(key) < least {
         return false;
@@ -185,7 +185,7 @@ fn again(
 fn each_once(cols: u16, tiles: &[u8], lengths: &[u32], marks: &mut [u8]) -> bool
     requires marks_len { length marks.old ≡ 0x4_0000 }
     requires lengths_value { PackWritten.sum_of lengths.now ≡ length tiles.now }
-    ensures { result ≡ PackWritten.noKeyTwice (PackWritten.cut lengths.now tiles.now) }
+    ensures { result ≡ PackWritten.no_key_twice (PackWritten.cut lengths.now tiles.now) }
 {
     let mut end = tiles.len();
     let mut after = lengths.len();
@@ -209,7 +209,7 @@ fn each_once(cols: u16, tiles: &[u8], lengths: &[u32], marks: &mut [u8]) -> bool
 // No key is given twice.
 fn no_key_twice(cols: u16, tiles: &[u8], lengths: &[u32]) -> bool
     requires { PackWritten.sum_of lengths.now ≡ length tiles.now }
-    ensures { result ≡ PackWritten.noKeyTwice (PackWritten.cut lengths.now tiles.now) }
+    ensures { result ≡ PackWritten.no_key_twice (PackWritten.cut lengths.now tiles.now) }
 {
     let mut marks = [0u8; MARKS];
     each_once(cols, tiles, lengths, &mut marks)
@@ -217,7 +217,7 @@ fn no_key_twice(cols: u16, tiles: &[u8], lengths: &[u32]) -> bool
 
 // Everything that number 13 asks of a pack.
 pub fn pack_good(grid: Grid, tiles: &[u8], lengths: &[u32]) -> bool
-    ensures { result ≡ PackWritten.packGood (Steps.given grid tiles.now lengths.now) }
+    ensures { result ≡ PackWritten.pack_good (Steps.given grid tiles.now lengths.now) }
 {
     if !grid_good(grid) {
         return false;

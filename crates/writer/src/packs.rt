@@ -22,7 +22,7 @@ fn wide(x: u16) -> u32
 // Magic and version.
 fn mark(out: &mut [u8])
     requires { length out.old ≡ 512 }
-    ensures { out.new ≡ puts PackWritten.markFields out.old }
+    ensures { out.new ≡ puts PackWritten.mark_fields out.old }
 {
     put32(out, 0, 0x414e4156);
     put32(out, 4, 0x5245542d);
@@ -32,7 +32,7 @@ fn mark(out: &mut [u8])
 
 fn grid_fields(out: &mut [u8], header: Header)
     requires { length out.old ≡ 512 }
-    ensures { out.new ≡ puts (PackWritten.gridFields header) out.old }
+    ensures { out.new ≡ puts (PackWritten.grid_fields header) out.old }
 {
     put32(out, 20, header.tile);
     put32(out, 24, num::cast::u32_of_i32(header.south));
@@ -44,7 +44,7 @@ fn grid_fields(out: &mut [u8], header: Header)
 // Where the parts stand, and how many tiles there are.
 fn part_fields(out: &mut [u8], header: Header)
     requires { length out.old ≡ 512 }
-    ensures { out.new ≡ puts (PackWritten.partFields header) out.old }
+    ensures { out.new ≡ puts (PackWritten.part_fields header) out.old }
 {
     put32(out, 36, header.directory);
     put32(out, 40, header.data);
@@ -55,7 +55,7 @@ fn part_fields(out: &mut [u8], header: Header)
 // The sector, and in its last four bytes the CRC of those before.
 fn sector(out: &mut [u8], header: Header)
     requires { length out.old ≡ 512 }
-    ensures { out.new ≡ PackWritten.sectorBytes header }
+    ensures { out.new ≡ PackWritten.sector_bytes header }
 {
     clear(out);
     mark(out);
@@ -74,7 +74,7 @@ fn entry_of(key: TileKey, cols: u16) -> usize
 
 // A tile's start and length into its entry, for every tile. From the last to the first, as the invariant follows the list.
 fn place_tiles(grid: Grid, tiles: &[u8], lengths: &[u32], out: &mut [u8])
-    requires lengths_value { PackWritten.packGood (Steps.given grid tiles.now lengths.now) ≡ true }
+    requires lengths_value { PackWritten.pack_good (Steps.given grid tiles.now lengths.now) ≡ true }
     requires tiles_len_bound { length tiles.now < 0x1_0000_0000 }
     requires out_len { length out.old ≡ grid.rows * grid.cols * 8 }
     ensures { out.new ≡ Steps.entries (Steps.source (Steps.given grid tiles.now lengths.now) 0) (Steps.long (Steps.given grid tiles.now lengths.now) 0) (grid.rows * grid.cols) }
@@ -136,10 +136,10 @@ fn lay(tiles: &[u8], out: &mut [u8], entry: usize, at: usize) -> usize
 
 // The directory and the tiles behind it.
 fn body(grid: Grid, tiles: &[u8], lengths: &[u32], out: &mut [u8])
-    requires lengths_value { PackWritten.packGood (Steps.given grid tiles.now lengths.now) ≡ true }
+    requires lengths_value { PackWritten.pack_good (Steps.given grid tiles.now lengths.now) ≡ true }
     requires out_len { length out.old ≡ grid.rows * grid.cols * 8 + length tiles.now }
     requires out_bound { 512 + length out.old < 0x1_0000_0000 }
-    ensures { out.new ≡ PackWritten.directoryBytes (Steps.given grid tiles.now lengths.now) ++ PackWritten.tilesBelow (Steps.given grid tiles.now lengths.now) (grid.rows * grid.cols) }
+    ensures { out.new ≡ PackWritten.directory_bytes (Steps.given grid tiles.now lengths.now) ++ PackWritten.tiles_below (Steps.given grid tiles.now lengths.now) (grid.rows * grid.cols) }
 {
     let places = (grid.rows as usize) * (grid.cols as usize);
     let last = places * 8;
@@ -154,10 +154,10 @@ fn body(grid: Grid, tiles: &[u8], lengths: &[u32], out: &mut [u8])
 
 // A pack whose tiles passed number 13, into bytes that it fills.
 fn fill(grid: Grid, tiles: &[u8], lengths: &[u32], out: &mut [u8])
-    requires lengths_value { PackWritten.packGood (Steps.given grid tiles.now lengths.now) ≡ true }
+    requires lengths_value { PackWritten.pack_good (Steps.given grid tiles.now lengths.now) ≡ true }
     requires out_len { length out.old ≡ 512 + (grid.rows * grid.cols * 8 + length tiles.now) }
     requires out_len_bound { length out.old < 0x1_0000_0000 }
-    ensures { out.new ≡ PackWritten.packBytes (Steps.given grid tiles.now lengths.now) }
+    ensures { out.new ≡ PackWritten.pack_bytes (Steps.given grid tiles.now lengths.now) }
 {
     let header = Header {
         tile: grid.size,

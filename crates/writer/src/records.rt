@@ -1,10 +1,10 @@
 // A tile's records put into its bytes: head, nodes with their adjacency entries, edges, vertices, and the CRC of it all.
 ghost use Rattle.std.specs.Prelude.{◌≡◌, ◌+◌, ◌*◌, ◌<◌, ◌≤◌, length};
-ghost use Rattle.tile.specs.Layout.{nodeStart};
+ghost use Rattle.tile.specs.Layout.{node_start};
 ghost use Rattle.writer.specs.Fields.{puts};
 ghost use Rattle.writer.specs.TileWritten as TileWritten;
-ghost use Rattle.writer.specs.TileWritten.{fieldsBelow, firstEntry, placesIn, edgesIn};
-ghost use Rattle.writer.specs.Steps.{entryIf, entriesOf, entryFields};
+ghost use Rattle.writer.specs.TileWritten.{fields_below, first_entry, places_in, edges_in};
+ghost use Rattle.writer.specs.Steps.{entry_if, entries_of, entry_fields};
 
 use crate::fields::{clear, put8, put16, put32};
 use pack::TileKey;
@@ -17,7 +17,7 @@ fn wide(x: u16) -> u32
 
 fn head(out: &mut [u8], key: TileKey, lon_um: u32, nodes: u32, edges: u32, vertices: u32)
     requires { 32 ≤ length out.old }
-    ensures { out.new ≡ puts (TileWritten.headFields key lon_um nodes edges vertices) out.old }
+    ensures { out.new ≡ puts (TileWritten.head_fields key lon_um nodes edges vertices) out.old }
 {
     put16(out, 0, 0x5456);
     put8(out, 2, 1);
@@ -33,7 +33,7 @@ fn head(out: &mut [u8], key: TileKey, lon_um: u32, nodes: u32, edges: u32, verti
 fn place(out: &mut [u8], at: usize, places: &[u16], i: usize)
     requires at_in_bounds { at + 6 ≤ length out.old }
     requires i_in_bounds { i * 3 + 3 ≤ length places.now }
-    ensures { out.new ≡ puts (TileWritten.placeFields at (TileWritten.placeGiven places.now i)) out.old }
+    ensures { out.new ≡ puts (TileWritten.place_fields at (TileWritten.place_given places.now i)) out.old }
 {
     put16(out, at, wide(places[i * 3]));
     put16(out, at + 2, wide(places[i * 3 + 1]));
@@ -42,9 +42,9 @@ fn place(out: &mut [u8], at: usize, places: &[u16], i: usize)
 
 // The entry of one end of an edge, where that end is the node; and how many entries there are then.
 fn entry_if(out: &mut [u8], end: u32, node: u32, value: u32, base: usize, count: usize) -> usize
-    requires { base + (count + length (entryIf end node value)) * 2 ≤ length out.old }
-    ensures value { result ≡ count + length (entryIf end node value) }
-    ensures out_after { out.new ≡ puts (entryFields base count (entryIf end node value)) out.old }
+    requires { base + (count + length (entry_if end node value)) * 2 ≤ length out.old }
+    ensures value { result ≡ count + length (entry_if end node value) }
+    ensures out_after { out.new ≡ puts (entry_fields base count (entry_if end node value)) out.old }
 {
     if end == node {
         put16(out, base + count * 2, value);
@@ -64,9 +64,9 @@ fn entries_of(
 ) -> usize
     requires i_bound { i < 65536 }
     requires i_in_bounds { i * 7 + 2 ≤ length edges.now }
-    requires i_in_bounds_2 { base + (count + length (entriesOf edges.now node i)) * 2 ≤ length out.old }
-    ensures value { result ≡ count + length (entriesOf edges.now node i) }
-    ensures out_after { out.new ≡ puts (entryFields base count (entriesOf edges.now node i)) out.old }
+    requires i_in_bounds_2 { base + (count + length (entries_of edges.now node i)) * 2 ≤ length out.old }
+    ensures value { result ≡ count + length (entries_of edges.now node i) }
+    ensures out_after { out.new ≡ puts (entry_fields base count (entries_of edges.now node i)) out.old }
 {
     let from = edges[i * 7];
     let to = edges[i * 7 + 1];
@@ -78,10 +78,10 @@ fn entries_of(
 
 // The entries of a node, by edge.
 fn entries_at(out: &mut [u8], edges: &[u32], node: u32, base: usize, count: usize) -> usize
-    requires edges_bound { edgesIn edges.now < 65536 }
+    requires edges_bound { edges_in edges.now < 65536 }
     requires node_in_bounds { base + (count + length (TileWritten.entries_at edges.now node)) * 2 ≤ length out.old }
     ensures value { result ≡ count + length (TileWritten.entries_at edges.now node) }
-    ensures out_after { out.new ≡ puts (entryFields base count (TileWritten.entries_at edges.now node)) out.old }
+    ensures out_after { out.new ≡ puts (entry_fields base count (TileWritten.entries_at edges.now node)) out.old }
 {
     let last = edges.len() / 7;
     let mut filled = count;
@@ -95,9 +95,9 @@ fn entries_at(out: &mut [u8], edges: &[u32], node: u32, base: usize, count: usiz
 
 // A node with its adjacency start.
 fn node(out: &mut [u8], nodes: &[u16], i: usize, start: u32)
-    requires i_in_bounds { nodeStart i + 8 ≤ length out.old }
+    requires i_in_bounds { node_start i + 8 ≤ length out.old }
     requires i_in_bounds_2 { i * 3 + 3 ≤ length nodes.now }
-    ensures { out.new ≡ puts (TileWritten.startedFields nodes.now i start) out.old }
+    ensures { out.new ≡ puts (TileWritten.started_fields nodes.now i start) out.old }
 {
     let at = 32 + i * 8;
     place(out, at, nodes, i);
@@ -107,9 +107,9 @@ fn node(out: &mut [u8], nodes: &[u16], i: usize, start: u32)
 // Nodes and their adjacency entries. An entry's number is at most 2 × edges.
 fn all_nodes(out: &mut [u8], nodes: &[u16], edges: &[u32])
     requires out_len_bound { length out.old ≤ 49152 }
-    requires edges_in_bounds { nodeStart (placesIn nodes.now) + edgesIn edges.now * 4 ≤ length out.old }
-    requires nodes_value { firstEntry edges.now (placesIn nodes.now) ≡ edgesIn edges.now * 2 }
-    ensures { out.new ≡ puts (fieldsBelow (TileWritten.entryField (placesIn nodes.now) edges.now) (edgesIn edges.now * 2)) (puts (fieldsBelow (TileWritten.nodeFields nodes.now edges.now) (placesIn nodes.now)) out.old) }
+    requires edges_in_bounds { node_start (places_in nodes.now) + edges_in edges.now * 4 ≤ length out.old }
+    requires nodes_value { first_entry edges.now (places_in nodes.now) ≡ edges_in edges.now * 2 }
+    ensures { out.new ≡ puts (fields_below (TileWritten.entry_field (places_in nodes.now) edges.now) (edges_in edges.now * 2)) (puts (fields_below (TileWritten.node_fields nodes.now edges.now) (places_in nodes.now)) out.old) }
 {
     let last = nodes.len() / 3;
     let base = 32 + last * 8;
@@ -125,7 +125,7 @@ fn all_nodes(out: &mut [u8], nodes: &[u16], edges: &[u32])
 fn edge(out: &mut [u8], at: usize, edges: &[u32], i: usize)
     requires at_in_bounds { at + 16 ≤ length out.old }
     requires i_in_bounds { i * 7 + 7 ≤ length edges.now }
-    ensures { out.new ≡ puts (TileWritten.edgeFieldsAt at (TileWritten.edgeGiven edges.now i)) out.old }
+    ensures { out.new ≡ puts (TileWritten.edge_fields_at at (TileWritten.edge_given edges.now i)) out.old }
 {
     let first = i * 7;
     put16(out, at, edges[first]);
@@ -138,8 +138,8 @@ fn edge(out: &mut [u8], at: usize, edges: &[u32], i: usize)
 }
 
 fn all_edges(out: &mut [u8], base: usize, edges: &[u32])
-    requires { base + edgesIn edges.now * 16 ≤ length out.old }
-    ensures { out.new ≡ puts (fieldsBelow (TileWritten.edgeFields base edges.now) (edgesIn edges.now)) out.old }
+    requires { base + edges_in edges.now * 16 ≤ length out.old }
+    ensures { out.new ≡ puts (fields_below (TileWritten.edge_fields base edges.now) (edges_in edges.now)) out.old }
 {
     let last = edges.len() / 7;
     let mut i = 0;
@@ -150,8 +150,8 @@ fn all_edges(out: &mut [u8], base: usize, edges: &[u32])
 }
 
 fn all_vertices(out: &mut [u8], base: usize, vertices: &[u16])
-    requires { base + placesIn vertices.now * 6 ≤ length out.old }
-    ensures { out.new ≡ puts (fieldsBelow (TileWritten.vertexFields base vertices.now) (placesIn vertices.now)) out.old }
+    requires { base + places_in vertices.now * 6 ≤ length out.old }
+    ensures { out.new ≡ puts (fields_below (TileWritten.vertex_fields base vertices.now) (places_in vertices.now)) out.old }
 {
     let last = vertices.len() / 3;
     let mut i = 0;
@@ -171,9 +171,9 @@ pub fn fill(
     vertices: &[u16],
 )
     requires out_len_bound { length out.old ≤ 49152 }
-    requires out_len { length out.old ≡ TileWritten.tileLength (TileWritten.given key 0 lon_um nodes.now edges.now vertices.now) }
-    requires nodes_value { firstEntry edges.now (placesIn nodes.now) ≡ edgesIn edges.now * 2 }
-    ensures { out.new ≡ TileWritten.tileBytes (TileWritten.given key 0 lon_um nodes.now edges.now vertices.now) }
+    requires out_len { length out.old ≡ TileWritten.tile_length (TileWritten.given key 0 lon_um nodes.now edges.now vertices.now) }
+    requires nodes_value { first_entry edges.now (places_in nodes.now) ≡ edges_in edges.now * 2 }
+    ensures { out.new ≡ TileWritten.tile_bytes (TileWritten.given key 0 lon_um nodes.now edges.now vertices.now) }
 {
     clear(out);
     head(

@@ -8,9 +8,9 @@ use native.Mathlib.Omega.{arith}
 use lib.ListN.{length, take, drop, length-take, length-drop, replicate}
 use lib.Seq.{length-take-le, take_all}
 use Rattle.crc.specs.Fcs as Fcs
-use Rattle.crc.specs.Fcs.{crc32Skipping}
+use Rattle.crc.specs.Fcs.{crc32_skipping}
 use Rattle.crc.specs.Register.{Takes}
-use Rattle.crc.proofs.Laws.{takes-crc, takes-append, zeroed-at, zeroed-past}
+use Rattle.crc.proofs.Laws.{takes_crc, takes_append, zeroed_at, zeroed_past}
 use Rattle.crc.proofs.Rule.{table, rule}
 use borrow.Author.Rules.{rules}
 use borrow.Author.Tests.{leb-true}
@@ -26,10 +26,10 @@ crc32-requires : tie.Need-crc32-requires
 crc32-requires c κs = search rules
 
 returns : tie.Need-returns
-unfolding crc32Skipping
+unfolding crc32_skipping
 returns c =
     let start = c.before.before.before in
-    c.crc32.ensures ∙ ap Fcs.crc32 (sym (zeroed-past start.args.bytes.now start.args.at c.before.if1.true))
+    c.crc32.ensures ∙ ap Fcs.crc32 (sym (zeroed_past start.args.bytes.now start.args.at c.before.if1.true))
 
 sub-if3 : tie.Need-overflow-sub-if3
 sub-if3 c = search rules
@@ -44,10 +44,10 @@ crc-zeroed-requires c κs =
     (rule, (c.before.before.if2.true, enough))
 
 returns-2 : tie.Need-returns-2
-unfolding crc32Skipping
+unfolding crc32_skipping
 returns-2 c =
     let start = c.before.before.before.before.before.before in
-    sym (takes-crc (Fcs.zeroed start.args.bytes.now start.args.at) c.crc-zeroed.result (omega (arith, c.crc-zeroed.type-inv)) c.crc-zeroed.ensures)
+    sym (takes_crc (Fcs.zeroed start.args.bytes.now start.args.at) c.crc-zeroed.result (omega (arith, c.crc-zeroed.type-inv)) c.crc-zeroed.ensures)
 
 skipped-requires : tie.Need-skipped-requires
 skipped-requires c κs = search rules
@@ -86,7 +86,7 @@ unfolding table
 crc-update-requires-3 c κs = rule
 
 returns-3 : tie.Need-returns-3
-unfolding crc32Skipping
+unfolding crc32_skipping
 returns-3 c =
     let start = c.before.before.before.before.before.before.before.before.before.before.before.before.before in
     let bytes : List ℕ = start.args.bytes.now in
@@ -100,16 +100,16 @@ returns-3 c =
     let behind : take (length bytes - (at + n)) (drop (at + n) bytes) ≡ drop (at + n) bytes =
     take_all (length bytes - (at + n)) (drop (at + n) bytes) (simp length-drop (omega arith)) in
     let whole : Takes 4294967295 (take at bytes ++ (replicate n o ++ drop (at + n) bytes)) c.crc-update3.result =
-    takes-append 4294967295 first.result c.crc-update3.result (take at bytes) (replicate n o ++ drop (at + n) bytes) first.ensures
-    (takes-append first.result second.result c.crc-update3.result (replicate n o) (drop (at + n) bytes)
+    takes_append 4294967295 first.result c.crc-update3.result (take at bytes) (replicate n o ++ drop (at + n) bytes) first.ensures
+    (takes_append first.result second.result c.crc-update3.result (replicate n o) (drop (at + n) bytes)
     (rw z at second.ensures) (rw behind at c.crc-update3.ensures)) in
     sym
-    (ap Fcs.crc32 (zeroed-at bytes at found.before.before.if1.false
+    (ap Fcs.crc32 (zeroed_at bytes at found.before.before.if1.false
     ∙ ap (λ (k : ℕ). take at bytes ++ (replicate k o ++ drop (at + k) bytes)) (sym found.skipped.ensures))
-    ∙ takes-crc (take at bytes ++ (replicate n o ++ drop (at + n) bytes)) c.crc-update3.result (omega (arith, c.crc-update3.type-inv)) whole)
+    ∙ takes_crc (take at bytes ++ (replicate n o ++ drop (at + n) bytes)) c.crc-update3.result (omega (arith, c.crc-update3.type-inv)) whole)
 
-pub crc32-skipping-spec : {M : Type 1} → statement M
-crc32-skipping-spec =
+pub crc32_skipping_spec : {M : Type 1} → statement M
+crc32_skipping_spec =
     tie.close
     (tie.spec
     crc32-requires

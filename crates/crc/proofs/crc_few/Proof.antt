@@ -8,7 +8,7 @@ use lib.Seq.{take_all, take-add}
 use borrow.Author.Rules.{rules}
 use Rattle.crc.specs.Fcs.{message}
 use Rattle.crc.specs.Register.{Takes}
-use Rattle.crc.proofs.Laws.{takes-append, takes-four}
+use Rattle.crc.proofs.Laws.{takes_append, takes_four}
 use Rattle.crc.proofs.crc_few.Statement.{statement}
 use Rattle.crc.proofs.crc_few.Tie as tie
 
@@ -39,17 +39,17 @@ loop-less c = search rules
 
 loop-again : tie.Need-loop-preserved invariant-loop decreases-loop
 loop-again c =
-    let at-loop = c.before.before.before in
-    let i : ℕ = at-loop.loop.i in
-    let start = at-loop.before.before in
+    let at_loop = c.before.before.before in
+    let i : ℕ = at_loop.loop.i in
+    let start = at_loop.before.before in
     let bytes : List ℕ = start.args.bytes.now in
     let four : List ℕ = take 4 (drop i bytes) in (
       omega arith,
       (
         omega (arith, c.crc-four.type-inv),
         rw (take-add i 4 bytes)
-            (takes-append start.args.value at-loop.loop.c c.crc-four.result (take i bytes) four at-loop.loop.invariant.1.1
-            (takes-four at-loop.loop.c c.before.four-at.result c.crc-four.result four at-loop.loop.invariant.1.0 c.before.four-at.ensures c.crc-four.ensures)),
+            (takes_append start.args.value at_loop.loop.c c.crc-four.result (take i bytes) four at_loop.loop.invariant.1.1
+            (takes_four at_loop.loop.c c.before.four-at.result c.crc-four.result four at_loop.loop.invariant.1.0 c.before.four-at.ensures c.crc-four.ensures)),
       ),
     )
 
@@ -67,17 +67,17 @@ crc-octets-requires c κs = search rules
 
 returns : tie.Need-returns invariant-loop decreases-loop
 returns c =
-    let at-loop = c.before.before.before in
-    let i : ℕ = at-loop.loop.i in
-    let start = at-loop.before.before in
+    let at_loop = c.before.before.before in
+    let i : ℕ = at_loop.loop.i in
+    let start = at_loop.before.before in
     let bytes : List ℕ = start.args.bytes.now in
     let behind : take (length bytes - i) (drop i bytes) ≡ drop i bytes = take_all (length bytes - i) (drop i bytes) (simp length-drop (omega arith)) in
     rw (take-append-drop i bytes) at
-    (takes-append start.args.value at-loop.loop.c c.crc-octets.result (take i bytes) (drop i bytes) at-loop.loop.invariant.1.1
+    (takes_append start.args.value at_loop.loop.c c.crc-octets.result (take i bytes) (drop i bytes) at_loop.loop.invariant.1.1
     (rw behind at c.crc-octets.ensures))
 
-pub crc-few-spec : {M : Type 1} → statement M
-crc-few-spec =
+pub crc_few_spec : {M : Type 1} → statement M
+crc_few_spec =
     tie.close
     (tie.spec
     invariant-loop

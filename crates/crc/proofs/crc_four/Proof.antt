@@ -4,7 +4,7 @@ use mathlib.Core.Path.{◌≡◌, sym, ◌∙◌}
 use mathlib.Core.List.{◌++◌}
 use lib.Pow.{shr-shr}
 use Rattle.crc.specs.Fcs.{bits, remainder, zeros}
-use Rattle.crc.proofs.Laws.{bits-xor, halves, halves_are}
+use Rattle.crc.proofs.Laws.{bits_xor, halves, halves_are}
 use borrow.Author.Rules.{rules}
 use Rattle.crc.proofs.crc_four.Statement.{statement}
 use Rattle.crc.proofs.crc_four.Tie as tie
@@ -33,8 +33,8 @@ entry-requires-7 c κs = search rules
 entry-requires-8 : tie.Need-entry-requires-8
 entry-requires-8 c κs = search rules
 
-by-halves : (r v : ℕ) → bits 32 r ≡ halves 7 v → bits 32 r ≡ remainder (bits 32 v ++ zeros 32)
-by-halves r v e = e ∙ sym (halves_are 7 v)
+by_halves : (r v : ℕ) → bits 32 r ≡ halves 7 v → bits 32 r ≡ remainder (bits 32 v ++ zeros 32)
+by_halves r v e = e ∙ sym (halves_are 7 v)
 
 returns : tie.Need-returns
 unfolding halves
@@ -47,8 +47,8 @@ returns c =
     let at1 = at2.before in
     let at0 = at1.before in
     let v : ℕ = at0.before.args.v in
-    by-halves _ v (simp (
-      bits-xor,
+    by_halves _ v (simp (
+      bits_xor,
       shr-shr v 4 4,
       shr-shr v 8 4,
       shr-shr v 12 4,
@@ -65,8 +65,8 @@ returns c =
       at0.entry.ensures,
     ))
 
-pub crc-four-spec : {M : Type 1} → statement M
-crc-four-spec =
+pub crc_four_spec : {M : Type 1} → statement M
+crc_four_spec =
     tie.close
     (tie.spec
     entry-requires

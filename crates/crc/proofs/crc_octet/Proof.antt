@@ -4,7 +4,7 @@ use mathlib.Core.Path.{ap₂, ◌∙◌}
 use native.Mathlib.Omega.{arith}
 use lib.Bits.{bit_xor}
 use Rattle.crc.specs.Fcs.{add}
-use Rattle.crc.proofs.Laws.{bits-xor, halves, takes-octet}
+use Rattle.crc.proofs.Laws.{bits_xor, halves, takes_octet}
 use borrow.Author.Rules.{rules}
 use Rattle.crc.proofs.crc_octet.Statement.{statement}
 use Rattle.crc.proofs.crc_octet.Tie as tie
@@ -20,8 +20,8 @@ unfolding halves
 returns c =
     let start = c.before.before in
     let x : ℕ = bit_xor start.args.c start.args.o in
-    takes-octet start.args.c start.args.o (bit_xor c.before.entry.result c.entry2.result) (omega (arith, start.ranges.c))
-    (bits-xor 32 c.before.entry.result c.entry2.result ∙ ap₂ add c.before.entry.ensures c.entry2.ensures)
+    takes_octet start.args.c start.args.o (bit_xor c.before.entry.result c.entry2.result) (omega (arith, start.ranges.c))
+    (bits_xor 32 c.before.entry.result c.entry2.result ∙ ap₂ add c.before.entry.ensures c.entry2.ensures)
 
-pub crc-octet-spec : {M : Type 1} → statement M
-crc-octet-spec = tie.close (tie.spec entry-requires entry-requires-2 returns)
+pub crc_octet_spec : {M : Type 1} → statement M
+crc_octet_spec = tie.close (tie.spec entry-requires entry-requires-2 returns)

@@ -8,7 +8,7 @@ use lib.Seq.{drop-cons, take-add, take_all}
 use borrow.Author.Rules.{rules}
 use Rattle.crc.specs.Fcs.{message}
 use Rattle.crc.specs.Register.{Takes}
-use Rattle.crc.proofs.Laws.{takes-append}
+use Rattle.crc.proofs.Laws.{takes_append}
 use Rattle.crc.proofs.crc_octets.Statement.{statement}
 use Rattle.crc.proofs.crc_octets.Tie as tie
 
@@ -36,14 +36,14 @@ loop-less c = search rules
 
 loop-again : tie.Need-loop-preserved invariant-loop decreases-loop
 loop-again c =
-    let at-loop = c.before.before.before in
-    let i : ℕ = at-loop.loop.i in
-    let start = at-loop.before.before in
+    let at_loop = c.before.before.before in
+    let i : ℕ = at_loop.loop.i in
+    let start = at_loop.before.before in
     let bytes : List ℕ = start.args.bytes.now in
     let one : take 1 (drop i bytes) ≡ get_or bytes i 0 ∷ [] = ap (take 1) (drop-cons bytes i 0 c.before.before.loop-test.true) in (
       omega arith,
       rw (take-add i 1 bytes, one)
-          (takes-append start.args.value at-loop.loop.c c.crc-octet.result (take i bytes) (get_or bytes i 0 ∷ []) at-loop.loop.invariant.1
+          (takes_append start.args.value at_loop.loop.c c.crc-octet.result (take i bytes) (get_or bytes i 0 ∷ []) at_loop.loop.invariant.1
           c.crc-octet.ensures),
     )
 
@@ -52,6 +52,6 @@ returns c =
     let bytes : List ℕ = c.before.before.before.args.bytes.now in
     rw (take_all c.before.loop.i bytes (omega arith)) at c.before.loop.invariant.1
 
-pub crc-octets-spec : {M : Type 1} → statement M
-crc-octets-spec =
+pub crc_octets_spec : {M : Type 1} → statement M
+crc_octets_spec =
     tie.close (tie.spec invariant-loop decreases-loop loop-holds shared-slice-read-crc-octet crc-octet-requires add-i loop-less loop-again returns)

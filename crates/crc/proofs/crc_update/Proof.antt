@@ -5,7 +5,7 @@ use mathlib.Core.List.{List}
 use native.Mathlib.Omega.{arith}
 use lib.ListN.{length, take, drop, length-drop, take-append-drop}
 use lib.Seq.{length-take-le, take_all}
-use Rattle.crc.proofs.Words.{spreads-end}
+use Rattle.crc.proofs.Words.{spreads_end}
 use borrow.Author.Rules.{rules}
 use Rattle.crc.proofs.crc_update.Statement.{statement}
 use Rattle.crc.proofs.crc_update.Tie as tie
@@ -54,10 +54,10 @@ returns-2 c =
     let behind : take (length bytes - n) (drop n bytes) ≡ drop n bytes = take_all (length bytes - n) (drop n bytes) (simp length-drop (omega arith)) in
     let last : 40 ≤ length (drop n bytes) = simp length-drop (omega (arith, c.before.before.before.before.if1.false)) in
     rw (take-append-drop n bytes) at
-    (spreads-end start.args.value p.result c.ended.result (take n bytes) (drop n bytes) last p.ensures (rw behind at c.ended.ensures))
+    (spreads_end start.args.value p.result c.ended.result (take n bytes) (drop n bytes) last p.ensures (rw behind at c.ended.ensures))
 
-pub crc-update-spec : {M : Type 1} → statement M
-crc-update-spec =
+pub crc_update_spec : {M : Type 1} → statement M
+crc_update_spec =
     tie.close
     (tie.spec
     crc-few-requires

@@ -2,7 +2,7 @@
 use Prim.Native.Nat.{ℕ}
 use native.Mathlib.Omega.{arith}
 use lib.Bits.{and_mask, mask_lt}
-use Rattle.crc.proofs.Laws.{takes-word}
+use Rattle.crc.proofs.Laws.{takes_word}
 use borrow.Author.Rules.{rules}
 use Rattle.crc.proofs.crc_word.Statement.{statement}
 use Rattle.crc.proofs.crc_word.Tie as tie
@@ -23,9 +23,9 @@ returns : tie.Need-returns
 returns c =
     let start = c.before.before in
     let w : ℕ = start.args.w in
-    takes-word start.args.c w c.before.crc-four.result c.crc-four2.result (omega (arith, start.ranges.c)) (omega (arith, c.before.crc-four.type-inv))
+    takes_word start.args.c w c.before.crc-four.result c.crc-four2.result (omega (arith, start.ranges.c)) (omega (arith, c.before.crc-four.type-inv))
     (rw (← and_mask w 32) c.before.crc-four.ensures) c.crc-four2.ensures
 
-pub crc-word-spec : {M : Type 1} → statement M
-crc-word-spec =
+pub crc_word_spec : {M : Type 1} → statement M
+crc_word_spec =
     tie.close (tie.spec cast-low crc-four-requires cast-crc-four crc-four-requires-2 returns)

@@ -7,7 +7,7 @@ use native.Mathlib.Omega.{arith}
 use lib.ListN.{length, take, drop, replicate, length-drop}
 use lib.Seq.{length-take-le, take_all}
 use borrow.Author.Rules.{rules}
-use Rattle.crc.proofs.Words.{spreads-word, spreads-append, spreads-end, word-zeroed, zeroed-word}
+use Rattle.crc.proofs.Words.{spreads_word, spreads_append, spreads_end, word_zeroed, zeroed_word}
 use Rattle.crc.proofs.crc_zeroed.Statement.{statement}
 use Rattle.crc.proofs.crc_zeroed.Tie as tie
 
@@ -83,16 +83,16 @@ returns c =
     let middle : List ℕ = take (n - (at + 8)) (drop (at + 8) bytes) in
     let behind : take (length bytes - n) (drop n bytes) ≡ drop n bytes = take_all (length bytes - n) (drop n bytes) (simp length-drop (omega arith)) in
     let last : 40 ≤ length (drop n bytes) = simp length-drop (omega (arith, start.requires)) in
-    rw (zeroed-word bytes at n (omega (arith, start.requires)) (omega (arith, start.requires)))
-    (spreads-end 4294967295 on.result c.ended.result ((take at bytes ++ word) ++ middle) (drop n bytes) last
-    (spreads-append 4294967295 over.result on.result (take at bytes ++ word) middle
-    (spreads-append 4294967295 before.result over.result (take at bytes) word before.ensures
-    (spreads-word before.result over.result (four.result * 4294967296) word (word-zeroed four.result (take 4 (drop (at + 4) bytes)) four.ensures) over.ensures))
+    rw (zeroed_word bytes at n (omega (arith, start.requires)) (omega (arith, start.requires)))
+    (spreads_end 4294967295 on.result c.ended.result ((take at bytes ++ word) ++ middle) (drop n bytes) last
+    (spreads_append 4294967295 over.result on.result (take at bytes ++ word) middle
+    (spreads_append 4294967295 before.result over.result (take at bytes) word before.ensures
+    (spreads_word before.result over.result (four.result * 4294967296) word (word_zeroed four.result (take 4 (drop (at + 4) bytes)) four.ensures) over.ensures))
     on.ensures)
     (rw behind at c.ended.ensures))
 
-pub crc-zeroed-spec : {M : Type 1} → statement M
-crc-zeroed-spec =
+pub crc_zeroed_spec : {M : Type 1} → statement M
+crc_zeroed_spec =
     tie.close
     (tie.spec
     slice-aggregate-spread

@@ -6,7 +6,7 @@ use native.Mathlib.Omega.{arith}
 use lib.ListN.{length, take, drop, length-drop}
 use lib.Seq.{take_all}
 use Rattle.crc.specs.Register.{left_of, Ends}
-use Rattle.crc.proofs.Words.{words-taken, five-words}
+use Rattle.crc.proofs.Words.{words_taken, five_words}
 use borrow.Author.Rules.{rules}
 use Rattle.crc.proofs.ended.Statement.{statement}
 use Rattle.crc.proofs.ended.Tie as tie
@@ -70,15 +70,15 @@ returns c =
     let y : ℕ = at3.before.before.word-at4.result in
     let z : ℕ = at4.before.before.word-at5.result in
     let behind : take (length o - 40) (drop 40 o) ≡ drop 40 o = take_all (length o - 40) (drop 40 o) (simp length-drop (omega arith)) in
-    words-taken p.first p.second p.third p.fourth p.fifth v w x y z
+    words_taken p.first p.second p.third p.fourth p.fifth v w x y z
     at0.crc-word.result at1.crc-word2.result at2.crc-word3.result at3.crc-word4.result at4.crc-word5.result c.crc-few.result o (drop 40 o)
-    (five-words v w x y z o at0.before.before.word_at.ensures at1.before.before.word-at2.ensures at2.before.before.word-at3.ensures
+    (five_words v w x y z o at0.before.before.word_at.ensures at1.before.before.word-at2.ensures at2.before.before.word-at3.ensures
     at3.before.before.word-at4.ensures at4.before.before.word-at5.ensures)
     at0.crc-word.ensures at1.crc-word2.ensures at2.crc-word3.ensures at3.crc-word4.ensures at4.crc-word5.ensures
     (rw behind at c.crc-few.ensures)
 
-pub ended-spec : {M : Type 1} → statement M
-ended-spec =
+pub ended_spec : {M : Type 1} → statement M
+ended_spec =
     tie.close
     (tie.spec
     word-at-requires

@@ -5,7 +5,7 @@ use native.Mathlib.Omega.{arith}
 use lib.Bits.{bit_and, and_mask, mask_lt}
 use borrow.Author.Rules.{rules}
 use Rattle.crc.specs.Register.{Rule, half}
-use Rattle.crc.proofs.Laws.{half-low}
+use Rattle.crc.proofs.Laws.{half_low}
 use Rattle.crc.proofs.entry.Statement.{statement}
 use Rattle.crc.proofs.entry.Tie as tie
 
@@ -29,7 +29,7 @@ unfolding Rule
 returns c =
     let v : ℕ = c.before.args.v in
     let k : ℕ = c.before.args.k in
-    c.before.requires.0 k (bit_and v 15) c.before.requires.1 (mask_lt v 4) ∙ ap (half k) (and_mask v 4) ∙ half-low k v
+    c.before.requires.0 k (bit_and v 15) c.before.requires.1 (mask_lt v 4) ∙ ap (half k) (and_mask v 4) ∙ half_low k v
 
 pub entry_spec : {M : Type 1} → statement M
 entry_spec = tie.close (tie.spec mul-result cast-result add-result mul-result-2 element-copy-out-result returns)

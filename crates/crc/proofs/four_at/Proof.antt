@@ -7,7 +7,7 @@ use native.Mathlib.Omega.{arith}
 use lib.ListN.{length, take, drop, get_or}
 use lib.Seq.{drop-cons}
 use Rattle.crc.specs.Fcs.{bits, message}
-use Rattle.crc.proofs.Laws.{bits-join}
+use Rattle.crc.proofs.Laws.{bits_join}
 use borrow.Author.Rules.{rules}
 use Rattle.crc.proofs.four_at.Statement.{statement}
 use Rattle.crc.proofs.four_at.Tie as tie
@@ -90,16 +90,16 @@ returns c =
     let e2 : i + 2 ≡ suc (suc i) = omega arith in
     let e3 : i + 3 ≡ suc (suc (suc i)) = omega arith in
     rw (taken_places 4 i os (omega arith))
-    (bits-join 24 8 w (x + (y + z * 256) * 256) (omega (arith, at1.wide.ensures))
+    (bits_join 24 8 w (x + (y + z * 256) * 256) (omega (arith, at1.wide.ensures))
     ∙ ap₂ (λ (k : ℕ) (l : List Bool). bits 8 k ++ l) at1.wide.ensures.0
-    (bits-join 16 8 x (y + z * 256) (omega (arith, at2.wide2.ensures))
+    (bits_join 16 8 x (y + z * 256) (omega (arith, at2.wide2.ensures))
     ∙ ap₂ (λ (k : ℕ) (l : List Bool). bits 8 k ++ l) (at2.wide2.ensures.0 ∙ ap (λ (k : ℕ). get_or os k 0) e1)
-    (bits-join 8 8 y z (omega (arith, at3.wide3.ensures))
+    (bits_join 8 8 y z (omega (arith, at3.wide3.ensures))
     ∙ ap₂ (λ (k : ℕ) (l : List Bool). bits 8 k ++ l) (at3.wide3.ensures.0 ∙ ap (λ (k : ℕ). get_or os k 0) e2)
     (ap (bits 8) (c.wide4.ensures.0 ∙ ap (λ (k : ℕ). get_or os k 0) e3) ∙ sym (append-nil _)))))
 
-pub four-at-spec : {M : Type 1} → statement M
-four-at-spec =
+pub four_at_spec : {M : Type 1} → statement M
+four_at_spec =
     tie.close
     (tie.spec
     shared-slice-read-wide

@@ -7,7 +7,7 @@ use lib.ListN.{length-append}
 use borrow.Author.Rules.{rules}
 use Rattle.crc.specs.Fcs.{message}
 use Rattle.crc.specs.Register.{left_of, Spreads, SpreadsOn}
-use Rattle.crc.proofs.Words.{words-start}
+use Rattle.crc.proofs.Words.{words_start}
 use Rattle.crc.proofs.spread.Statement.{statement}
 use Rattle.crc.proofs.spread.Tie as tie
 
@@ -20,7 +20,7 @@ returns c = λ m h.
     let start = c.before.before in
     let bytes : List ℕ = start.args.bytes.now in
     c.spread-on.ensures m h
-    ∙ words-start start.args.value (message bytes ++ m) (omega (arith, start.ranges.value)) (omega (arith, length-append (message bytes) m))
+    ∙ words_start start.args.value (message bytes ++ m) (omega (arith, start.ranges.value)) (omega (arith, length-append (message bytes) m))
 
-pub spread-spec : {M : Type 1} → statement M
-spread-spec = tie.close (tie.spec spread-on-requires returns)
+pub spread_spec : {M : Type 1} → statement M
+spread_spec = tie.close (tie.spec spread-on-requires returns)

@@ -8,7 +8,7 @@ use lib.Seq.{take_all, take-add}
 use borrow.Author.Rules.{rules}
 use Rattle.crc.specs.Fcs.{message}
 use Rattle.crc.specs.Register.{SpreadsOn}
-use Rattle.crc.proofs.Words.{spreads-word, spreads-more}
+use Rattle.crc.proofs.Words.{spreads_word, spreads_more}
 use Rattle.crc.proofs.spread_on.Statement.{statement}
 use Rattle.crc.proofs.spread_on.Tie as tie
 
@@ -36,17 +36,17 @@ loop-less c = search rules
 
 loop-again : tie.Need-loop-preserved invariant-loop decreases-loop
 loop-again c =
-    let at-loop = c.before.before.before in
-    let i : ℕ = at-loop.loop.i in
-    let start = at-loop.before.before in
+    let at_loop = c.before.before.before in
+    let i : ℕ = at_loop.loop.i in
+    let start = at_loop.before.before in
     let bytes : List ℕ = start.args.bytes.now in
     let eight : List ℕ = take 8 (drop i bytes) in (
       omega arith,
       (
         omega arith,
         rw (take-add i 8 bytes)
-            (spreads-more start.args.p at-loop.loop.q c.turned.result (take i bytes) eight at-loop.loop.invariant.1.1
-            (spreads-word at-loop.loop.q c.turned.result c.before.word_at.result eight c.before.word_at.ensures c.turned.ensures)),
+            (spreads_more start.args.p at_loop.loop.q c.turned.result (take i bytes) eight at_loop.loop.invariant.1.1
+            (spreads_word at_loop.loop.q c.turned.result c.before.word_at.result eight c.before.word_at.ensures c.turned.ensures)),
       ),
     )
 
@@ -55,8 +55,8 @@ returns c =
     let bytes : List ℕ = c.before.before.before.args.bytes.now in
     rw (take_all c.before.loop.i bytes (omega arith)) at c.before.loop.invariant.1.1
 
-pub spread-on-spec : {M : Type 1} → statement M
-spread-on-spec =
+pub spread_on_spec : {M : Type 1} → statement M
+spread_on_spec =
     tie.close
     (tie.spec
     invariant-loop

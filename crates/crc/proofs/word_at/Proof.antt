@@ -6,7 +6,7 @@ use native.Mathlib.Omega.{arith}
 use lib.ListN.{take, drop}
 use lib.Seq.{take-add, drop-drop}
 use Rattle.crc.specs.Fcs.{message}
-use Rattle.crc.proofs.Laws.{bits-join, message-append}
+use Rattle.crc.proofs.Laws.{bits_join, message-append}
 use borrow.Author.Rules.{rules}
 use Rattle.crc.proofs.word_at.Statement.{statement}
 use Rattle.crc.proofs.word_at.Tie as tie
@@ -38,13 +38,13 @@ returns c =
     let start = low.before.before in
     let os : List ℕ = start.args.bytes.now in
     let i : ℕ = start.args.i in
-    bits-join 32 32 low.four-at.result c.four-at2.result (omega (arith, low.four-at.type-inv))
+    bits_join 32 32 low.four-at.result c.four-at2.result (omega (arith, low.four-at.type-inv))
     ∙ ap₂ ◌++◌ low.four-at.ensures c.four-at2.ensures
     ∙ sym (message-append (take 4 (drop i os)) (take 4 (drop (i + 4) os)))
     ∙ ap message (ap (λ (l : List ℕ). take 4 (drop i os) ++ take 4 l) (sym (drop-drop 4 i os)) ∙ sym (take-add 4 4 (drop i os)))
 
-pub word-at-spec : {M : Type 1} → statement M
-word-at-spec =
+pub word_at_spec : {M : Type 1} → statement M
+word_at_spec =
     tie.close
     (tie.spec
     four-at-requires

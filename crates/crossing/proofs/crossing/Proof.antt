@@ -1,7 +1,7 @@
 -- `crossing::crossing` meets its contract: what is refused is what `refusal` says, and the search by sign tests answers the request.
 use mathlib.Core.Path.{sym, ◌∙◌}
 use native.Mathlib.Omega.{arith}
-use Rattle.crossing.proofs.Reach.{end-reach}
+use Rattle.crossing.proofs.Reach.{end_reach}
 use Rattle.crossing.proofs.Answer.{accepted, answered}
 use borrow.Author.Rules.{rules}
 use Rattle.crossing.proofs.crossing.Statement.{statement}
@@ -25,7 +25,7 @@ in-tile-requires c κs =
     let none = c.before.before in
     let args = none.before.before.before.args in
     let a = accepted args.first args.second args.header args.key args.bytes.now (sym none.before.refusal.ensures ∙ none.if1.false) in
-    (a.passed, (rw c.before.place.ensures (end-reach args.first a.first-in).small, rw c.place2.ensures (end-reach args.second a.second-in).small))
+    (a.passed, (rw c.before.place.ensures (end_reach args.first a.first_in).small, rw c.place2.ensures (end_reach args.second a.second_in).small))
 
 returns-2 : tie.Need-returns-2
 returns-2 c =
@@ -38,7 +38,7 @@ returns-2 c =
     answered args.first args.second args.header args.key args.bytes.now a (λ i. (known.shared-slice-known.given i).fits) passed c.in-tile.result
     (rw (places.before.place.ensures, places.place2.ensures) at c.in-tile.ensures)
 
-pub crossing-spec : {M : Type 1} → statement M
-crossing-spec =
+pub crossing_spec : {M : Type 1} → statement M
+crossing_spec =
     tie.close
     (tie.spec refusal-requires returns place-requires place-requires-2 in-tile-requires returns-2)

@@ -9,16 +9,16 @@ use borrow.Author.Rules.{rules}
 use Rattle.pack.specs.declared.Header.{Header}
 use Rattle.pack.specs.declared.TileKey.{TileKey}
 use Rattle.tile.specs.declared.Edge.{Edge}
-use Rattle.crossing.specs.Sides.{Small, placeAt, meets, meetsAt}
+use Rattle.crossing.specs.Sides.{Small, place_at, meets, meets_at}
 use Rattle.crossing.specs.declared.Place.{Place}
 use Rattle.crossing.proofs.in_edge.Statement.{statement}
 use Rattle.crossing.proofs.in_edge.Tie as tie
 
 record Reached (a b : Place) (h : Header) (k : TileKey) (bs : List ℕ) (e : Edge) (last segment : ℕ) (from : Place) : Type 0 where
   pub within : segment ≤ last + 1
-  pub is : from ≡ placeAt h k bs e segment
+  pub is : from ≡ place_at h k bs e segment
   pub small : Small from
-  pub missed : (s : ℕ) → s < segment → meetsAt a b h k bs e s ≡ false
+  pub missed : (s : ℕ) → s < segment → meets_at a b h k bs e s ≡ false
 
 abbrev invariant-loop : tie.invariant-loop
 invariant-loop a b header key bytes edge last from₀ segment₀ from segment = Reached a b header key bytes edge last segment from
@@ -29,8 +29,8 @@ decreases-loop a b header key bytes edge last from₀ segment₀ from segment = 
 -- one segment, as the code tries it
 tried :
     (a b : Place) (h : Header) (k : TileKey) (bs : List ℕ) (e : Edge) (s : ℕ) {from to : Place} {r t : Bool} →
-    from ≡ placeAt h k bs e s → to ≡ placeAt h k bs e (s + 1) → r ≡ meets a b from to → r ≡ t → meetsAt a b h k bs e s ≡ t
-unfolding meetsAt
+    from ≡ place_at h k bs e s → to ≡ place_at h k bs e (s + 1) → r ≡ meets a b from to → r ≡ t → meets_at a b h k bs e s ≡ t
+unfolding meets_at
 tried a b h k bs e s p q u v = rw (← p, ← q, ← u) v
 
 cast-last : tie.Need-overflow-cast-last invariant-loop decreases-loop
@@ -96,8 +96,8 @@ returns-2 c =
       miss = λ h s k. c.before.loop.invariant.missed s (omega arith);
     }
 
-pub in-edge-spec : {M : Type 1} → statement M
-in-edge-spec =
+pub in_edge_spec : {M : Type 1} → statement M
+in_edge_spec =
     tie.close
     (tie.spec
     invariant-loop

@@ -6,14 +6,14 @@ use native.Mathlib.Omega.{arith}
 use borrow.Author.Count.{below_more}
 use borrow.Author.Rules.{rules}
 use Rattle.tile.specs.Layout.{edge_of}
-use Rattle.crossing.specs.Sides.{meetsAt}
+use Rattle.crossing.specs.Sides.{meets_at}
 use Rattle.crossing.proofs.in_tile.Statement.{statement}
 use Rattle.crossing.proofs.in_tile.Tie as tie
 
 abbrev invariant-loop : tie.invariant-loop
 invariant-loop a b header key bytes edges number₀ number =
     (number ≤ edges)
-    × ((edge : ℕ) → edge < number → (s : ℕ) → s ≤ (edge_of bytes edge).vertices → meetsAt a b header key bytes (edge_of bytes edge) s ≡ false)
+    × ((edge : ℕ) → edge < number → (s : ℕ) → s ≤ (edge_of bytes edge).vertices → meets_at a b header key bytes (edge_of bytes edge) s ≡ false)
 
 abbrev decreases-loop : tie.decreases-loop
 decreases-loop a b header key bytes edges number₀ number = edges - number
@@ -39,7 +39,7 @@ returns c =
     let read = searched.before in
     let loop = read.before.before in
     let args = loop.before.before.before.args in (
-      record { edge-there = omega (arith, loop.before.u16-at.ensures); segment-there = rw (← read.edge.ensures) c.if1.true },
+      record { edge_there = omega (arith, loop.before.u16-at.ensures); segment_there = rw (← read.edge.ensures) c.if1.true },
       rw (← read.edge.ensures) (searched.in-edge.ensures.hit c.if1.true),
     )
 
@@ -59,10 +59,10 @@ loop-again c =
 returns-2 : tie.Need-returns-2 invariant-loop decreases-loop
 returns-2 c =
     λ edge s h.
-    c.before.loop.invariant.1 edge (omega (arith, h.edge-there, c.before.before.u16-at.ensures)) s h.segment-there
+    c.before.loop.invariant.1 edge (omega (arith, h.edge_there, c.before.before.u16-at.ensures)) s h.segment_there
 
-pub in-tile-spec : {M : Type 1} → statement M
-in-tile-spec =
+pub in_tile_spec : {M : Type 1} → statement M
+in_tile_spec =
     tie.close
     (tie.spec
     invariant-loop

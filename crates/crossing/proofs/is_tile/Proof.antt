@@ -1,6 +1,6 @@
 -- `crossing::is_tile` meets its contract: an answer of `parse` tells whether the bytes are accepted.
 use mathlib.Core.Path.{sym, ◌∙◌}
-use Rattle.tile.proofs.Within.{parse-accepts, parse-refuses}
+use Rattle.tile.proofs.Within.{parse-accepts, parse_refuses}
 use borrow.Author.Rules.{rules}
 use Rattle.crossing.proofs.is_tile.Statement.{statement}
 use Rattle.crossing.proofs.is_tile.Tie as tie
@@ -24,7 +24,7 @@ returns-2 : tie.Need-returns-2
 returns-2 c =
     let args = c.before.before.before.before.args in
     let answer = sym c.before.before.parse.ensures ∙ c.enum-told2.given.1 in
-    sym (parse-refuses args.bytes.now args.key args.size _ answer).0
+    sym (parse_refuses args.bytes.now args.key args.size _ answer).0
 
-pub is-tile-spec : {M : Type 1} → statement M
-is-tile-spec = tie.close (tie.spec parse-requires enum_told enum-told-2 returns returns-2)
+pub is_tile_spec : {M : Type 1} → statement M
+is_tile_spec = tie.close (tie.spec parse-requires enum_told enum-told-2 returns returns-2)

@@ -90,8 +90,8 @@ returns-6 c =
       sym c.before.is-tile.ensures ∙ not-false _ c.if5.false,
     )
 
-pub refusal-spec : {M : Type 1} → statement M
-refusal-spec =
+pub refusal_spec : {M : Type 1} → statement M
+refusal_spec =
     tie.close
     (tie.spec
     rules-requires

@@ -90,8 +90,8 @@ same-length-4 c = search rules
 returns-4 : tie.Need-returns-4 invariant-loop decreases-loop
 returns-4 c = search rules
 
-pub drive-spec : {M : Type 1} → statement M
-drive-spec =
+pub drive_spec : {M : Type 1} → statement M
+drive_spec =
     tie.close
     (tie.spec
     invariant-loop

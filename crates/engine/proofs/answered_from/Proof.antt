@@ -1,21 +1,21 @@
--- `engine::answered_from` meets its contract: each return by whether the pack has the bytes (`bytes-there`, `bytes_past`).
+-- `engine::answered_from` meets its contract: each return by whether the pack has the bytes (`bytes_there`, `bytes_past`).
 use Rattle.std.proofs.Common.{◌≡◌, ℕ, ◌+◌, ◌-◌, List, [], take, drop, sym, ◌∙◌, arith, rules}
 use Rattle.pack.specs.Grid.{read}
 use Rattle.pack.specs.declared.Range.TheVariants as Range
 use Rattle.pack.proofs.Laws.{read_at}
 use Rattle.engine.specs.declared.Engine.{Engine}
-use Rattle.engine.specs.Calls.{deliver, answeredFrom}
+use Rattle.engine.specs.Calls.{deliver, answered_from}
 use Rattle.engine.proofs.answered_from.Statement.{statement}
 use Rattle.engine.proofs.answered_from.Tie as tie
 
 module _ (e : Engine) (arena : List ℕ) (offset len : ℕ) (pack : List ℕ) where
-  bytes-there : {a : ℕ} → read pack offset len ≡ Range.At a
-      → answeredFrom e arena offset len pack ≡ deliver e arena 0 (take (a + len - a) (drop a pack))
-  unfolding answeredFrom
-  bytes-there {a} there = let long : a + len - a ≡ len = omega arith in rw (there, long)
+  bytes_there : {a : ℕ} → read pack offset len ≡ Range.At a
+      → answered_from e arena offset len pack ≡ deliver e arena 0 (take (a + len - a) (drop a pack))
+  unfolding answered_from
+  bytes_there {a} there = let long : a + len - a ≡ len = omega arith in rw (there, long)
 
-  bytes_past : {n : ℕ} → read pack offset len ≡ Range.Refused n → answeredFrom e arena offset len pack ≡ deliver e arena 2 []
-  unfolding answeredFrom
+  bytes_past : {n : ℕ} → read pack offset len ≡ Range.Refused n → answered_from e arena offset len pack ≡ deliver e arena 2 []
+  unfolding answered_from
   bytes_past past = rw past
 
 read-requires : tie.Need-read-requires
@@ -61,7 +61,7 @@ returns c =
     let read = found.before.before in
     let args = read.before.before.before.args in
     let told = sym read.read.ensures ∙ found.at.given.1 in
-    let there = bytes-there args.e args.arena.now args.offset args.len args.pack.now told in
+    let there = bytes_there args.e args.arena.now args.offset args.len args.pack.now told in
     let call = c.before.before.deliver in
     (rw there call.ensures.0, rw there call.ensures.1)
 
@@ -78,8 +78,8 @@ returns-2 c =
     let call = c.before.before.deliver2 in
     (rw past call.ensures.0, rw past call.ensures.1)
 
-pub answered-from-spec : {M : Type 1} → statement M
-answered-from-spec =
+pub answered_from_spec : {M : Type 1} → statement M
+answered_from_spec =
     tie.close
     (tie.spec
     read-requires

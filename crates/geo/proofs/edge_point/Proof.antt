@@ -4,7 +4,7 @@ use mir.Syntax.{w32}
 use borrow.Author.Rules.{rules}
 use borrow.Author.Tests.{not-true, not-false}
 use Rattle.pack.proofs.Signed.{got}
-use Rattle.geo.specs.Points.{edgePoint}
+use Rattle.geo.specs.Points.{edge_point}
 use Rattle.geo.proofs.edge_point.Statement.{statement}
 use Rattle.geo.proofs.edge_point.Tie as tie
 
@@ -12,7 +12,7 @@ rules-requires : tie.Need-rules-requires
 rules-requires c κs = search rules
 
 returns : tie.Need-returns
-unfolding edgePoint
+unfolding edge_point
 returns c = rw (sym c.before.rules.ensures ∙ not-true _ c.if1.true)
 
 head-requires : tie.Need-head-requires
@@ -22,7 +22,7 @@ in-grid-requires : tie.Need-in-grid-requires
 in-grid-requires c κs = search rules
 
 returns-2 : tie.Need-returns-2
-unfolding edgePoint
+unfolding edge_point
 returns-2 c =
     let call = c.before in
     let head = call.before.before in
@@ -36,7 +36,7 @@ has-point-requires : tie.Need-has-point-requires
 has-point-requires c κs = search rules
 
 returns-3 : tie.Need-returns-3
-unfolding edgePoint
+unfolding edge_point
 returns-3 c =
     let inside = c.before.before in
     let call = inside.before in
@@ -58,7 +58,7 @@ z-dm-requires : tie.Need-z-dm-requires
 z-dm-requires c κs = search rules
 
 returns-4 : tie.Need-returns-4
-unfolding edgePoint
+unfolding edge_point
 returns-4 c =
     let node = c.before.before in
     let there = node.before in
@@ -77,8 +77,8 @@ returns-4 c =
       head.head.ensures,
     )
 
-pub edge-point-spec : {M : Type 1} → statement M
-edge-point-spec =
+pub edge_point_spec : {M : Type 1} → statement M
+edge_point_spec =
     tie.close
     (tie.spec
     rules-requires

@@ -54,8 +54,8 @@ returns-4 c =
       sym b.before.are-finite3.ensures ∙ not-false _ b.if3.false,
     )
 
-pub project-spec : {M : Type 1} → statement M
-project-spec =
+pub project_spec : {M : Type 1} → statement M
+project_spec =
     tie.close
     (tie.spec
     are-finite-requires

@@ -50,8 +50,8 @@ returns-3 c =
       c.Near-of.ensures,
     )
 
-pub nearby-spec : {M : Type 1} → statement M
-nearby-spec =
+pub nearby_spec : {M : Type 1} → statement M
+nearby_spec =
     tie.close
     (tie.spec
     rules-requires

@@ -11,5 +11,5 @@ scan-requires c κs = tt
 returns : tie.Need-returns
 returns c = rw (c.scan.ensures, c.before.before.before.edge.ensures)
 
-pub reached-spec : {M : Type 1} → statement M
-reached-spec = tie.close (tie.spec edge-requires scan-requires returns)
+pub reached_spec : {M : Type 1} → statement M
+reached_spec = tie.close (tie.spec edge-requires scan-requires returns)

@@ -17,26 +17,26 @@ use Rattle.matcher.specs.Scan.{scan}
 use Rattle.matcher.specs.Keeping.{insert}
 use Rattle.matcher.specs.Tile as Tile
 use Rattle.num.proofs.FoldLaws.{up_start, up_turn}
-use Rattle.matcher.proofs.PlaceLaws.{insert-written, insert-dropped}
+use Rattle.matcher.proofs.PlaceLaws.{insert-written, insert_dropped}
 use Rattle.matcher.proofs.search.Statement.{statement}
 use Rattle.matcher.proofs.search.Tie as tie
 
-module _ (k : Kept) (q : Query) (id : TileId) (lonUm : ℕ) (bs : List ℕ) (number : ℕ) where
-  skips : scan q.header bs id.key (Layout.edge_of bs number) q.fix lonUm ≡ MaybeNearest.Nothing → Tile.edgeStep k q id lonUm bs number ≡ k
-  unfolding Tile.edgeStep
+module _ (k : Kept) (q : Query) (id : TileId) (lon_um : ℕ) (bs : List ℕ) (number : ℕ) where
+  skips : scan q.header bs id.key (Layout.edge_of bs number) q.fix lon_um ≡ MaybeNearest.Nothing → Tile.edge_step k q id lon_um bs number ≡ k
+  unfolding Tile.edge_step
   skips e = rw e
 
-  keeps : (n : Nearest) → scan q.header bs id.key (Layout.edge_of bs number) q.fix lonUm ≡ MaybeNearest.At n
-      → Tile.edgeStep k q id lonUm bs number ≡ Tile.keptWith (MaybeNearest.At n) k q id lonUm bs number
-  unfolding Tile.edgeStep
+  keeps : (n : Nearest) → scan q.header bs id.key (Layout.edge_of bs number) q.fix lon_um ≡ MaybeNearest.At n
+      → Tile.edge_step k q id lon_um bs number ≡ Tile.kept_with (MaybeNearest.At n) k q id lon_um bs number
+  unfolding Tile.edge_step
   keeps n e = rw e
 
 abbrev invariant-loop : tie.invariant-loop
-invariant-loop q bytes id lon-um edges d₀ number₀ d number =
-    (number ≤ edges) × ((length d.v ≡ 8) × (d ≡ up_to (λ (x : Kept) (j : ℕ). Tile.edgeStep x q id lon-um bytes j) d₀ number))
+invariant-loop q bytes id lon_um edges d₀ number₀ d number =
+    (number ≤ edges) × ((length d.v ≡ 8) × (d ≡ up_to (λ (x : Kept) (j : ℕ). Tile.edge_step x q id lon_um bytes j) d₀ number))
 
 abbrev decreases-loop : tie.decreases-loop
-decreases-loop q bytes id lon-um edges d₀ number₀ d number = edges - number
+decreases-loop q bytes id lon_um edges d₀ number₀ d number = edges - number
 
 head-requires : tie.Need-head-requires invariant-loop decreases-loop
 head-requires c κs = tt
@@ -68,15 +68,15 @@ loop-less c = search rules
 loop-again : tie.Need-loop-preserved invariant-loop decreases-loop
 loop-again c =
     let looked = c.before.before in
-    let at-loop = looked.before.before.loop in
+    let at_loop = looked.before.before.loop in
     let id = looked.before.before.before.id.result in
     let head = looked.before.before.before.before.head.result in
     let args = looked.before.before.before.before.before.before.args in
     let told = sym looked.reached.ensures ∙ c.enum_told.given.1 in (
       omega (arith, looked.before.loop-test.true),
       (
-        at-loop.invariant.1.0,
-        rw (up_turn, ← at-loop.invariant.1.1, skips at-loop.d args.q id head.lon_um args.bytes.now at-loop.number told),
+        at_loop.invariant.1.0,
+        rw (up_turn, ← at_loop.invariant.1.1, skips at_loop.d args.q id head.lon_um args.bytes.now at_loop.number told),
       ),
     )
 
@@ -93,17 +93,17 @@ loop-again-2 : tie.Need-loop-preserved-2 invariant-loop decreases-loop
 loop-again-2 c =
     let found = c.before.before in
     let looked = found.before.before.before.before in
-    let at-loop = looked.before.before.loop in
+    let at_loop = looked.before.before.loop in
     let id = looked.before.before.before.id.result in
     let head = looked.before.before.before.before.head.result in
     let args = looked.before.before.before.before.before.before.args in
     let told = sym looked.reached.ensures ∙ found.before.before.n.given.1 in (
       omega (arith, looked.before.loop-test.true),
       (
-        at-loop.invariant.1.0,
-        rw (up_turn, ← at-loop.invariant.1.1, keeps at-loop.d args.q id head.lon_um args.bytes.now at-loop.number _ told)
-            (insert-dropped at-loop.d found.candidate-at.result at-loop.invariant.1.0 (rw c.before.place_of.ensures at c.if1.true)
-            ∙ ap (insert at-loop.d) found.candidate-at.ensures),
+        at_loop.invariant.1.0,
+        rw (up_turn, ← at_loop.invariant.1.1, keeps at_loop.d args.q id head.lon_um args.bytes.now at_loop.number _ told)
+            (insert_dropped at_loop.d found.candidate-at.result at_loop.invariant.1.0 (rw c.before.place_of.ensures at c.if1.true)
+            ∙ ap (insert at_loop.d) found.candidate-at.ensures),
       ),
     )
 
@@ -124,35 +124,35 @@ loop-again-3 c =
     let place = c.before.before.place_of in
     let found = c.before.before.before in
     let looked = found.before.before.before.before in
-    let at-loop = looked.before.before.loop in
+    let at_loop = looked.before.before.loop in
     let id = looked.before.before.before.id.result in
     let head = looked.before.before.before.before.head.result in
     let args = looked.before.before.before.before.before.before.args in
     let told = sym looked.reached.ensures ∙ found.before.before.n.given.1 in (
       omega (arith, looked.before.loop-test.true),
       (
-        length-set at-loop.d.v place.result found.candidate-at.result ∙ at-loop.invariant.1.0,
+        length-set at_loop.d.v place.result found.candidate-at.result ∙ at_loop.invariant.1.0,
         rw (
           up_turn,
-          ← at-loop.invariant.1.1,
-          keeps at-loop.d args.q id head.lon_um args.bytes.now at-loop.number _ told,
+          ← at_loop.invariant.1.1,
+          keeps at_loop.d args.q id head.lon_um args.bytes.now at_loop.number _ told,
           c.len_after.ensures,
           place.ensures,
         )
-            (insert-written at-loop.d found.candidate-at.result at-loop.invariant.1.0 (rw place.ensures at c.before.if1.false)
-            ∙ ap (insert at-loop.d) found.candidate-at.ensures),
+            (insert-written at_loop.d found.candidate-at.result at_loop.invariant.1.0 (rw place.ensures at c.before.if1.false)
+            ∙ ap (insert at_loop.d) found.candidate-at.ensures),
       ),
     )
 
 returns : tie.Need-returns invariant-loop decreases-loop
 unfolding Tile.search
 returns c =
-    let at-loop = c.before.loop in
-    let end : at-loop.number ≡ c.before.before.before.head.result.edges = omega (arith, c.loop-test.false, at-loop.invariant.0) in
-    rw (at-loop.invariant.1.1, end, c.before.before.id.ensures, c.before.before.before.head.ensures)
+    let at_loop = c.before.loop in
+    let end : at_loop.number ≡ c.before.before.before.head.result.edges = omega (arith, c.loop-test.false, at_loop.invariant.0) in
+    rw (at_loop.invariant.1.1, end, c.before.before.id.ensures, c.before.before.before.head.ensures)
 
-pub search-spec : {M : Type 1} → statement M
-search-spec =
+pub search_spec : {M : Type 1} → statement M
+search_spec =
     tie.close
     (tie.spec
     invariant-loop

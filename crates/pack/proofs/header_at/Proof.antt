@@ -70,8 +70,8 @@ returns c =
       c.u32-at7.ensures,
     )
 
-pub header-at-spec : {M : Type 1} → statement M
-header-at-spec =
+pub header_at_spec : {M : Type 1} → statement M
+header_at_spec =
     tie.close
     (tie.spec
     u32-at-requires

@@ -60,8 +60,8 @@ returns-4 c =
       and-true,
     )
 
-pub is-magic-spec : {M : Type 1} → statement M
-is-magic-spec =
+pub is_magic_spec : {M : Type 1} → statement M
+is_magic_spec =
     tie.close
     (tie.spec
     u32-at-requires

@@ -17,5 +17,5 @@ u32-at-requires c κs = tt
 returns : tie.Need-returns
 returns c = rw (c.before.before.crc32.ensures, c.u32-at.ensures)
 
-pub is-sum-spec : {M : Type 1} → statement M
-is-sum-spec = tie.close (tie.spec slice-aggregate-crc32 crc32-requires u32-at-requires returns)
+pub is_sum_spec : {M : Type 1} → statement M
+is_sum_spec = tie.close (tie.spec slice-aggregate-crc32 crc32-requires u32-at-requires returns)

@@ -2,7 +2,7 @@
 use mathlib.Core.Path.{sym, ◌∙◌}
 use native.Mathlib.Omega.{arith}
 use lib.Seq.{length-take-le}
-use Rattle.profile_text.proofs.Pages.{printed-fits}
+use Rattle.profile_text.proofs.Pages.{printed_fits}
 use borrow.Author.Rules.{rules}
 use Rattle.page_cases.proofs.show.Statement.{statement}
 use Rattle.page_cases.proofs.show.Tie as tie
@@ -17,10 +17,10 @@ enum-known-printed : tie.Need-enum-known-printed
 enum-known-printed c = search rules
 
 array-share-prefix-out : tie.Need-array-share-prefix-out
-array-share-prefix-out c = omega (arith, printed-fits _ _ _ (sym c.before.printed.given.1 ∙ c.before.before.before.before.page.ensures.0), c.before.before.before.out2.given)
+array-share-prefix-out c = omega (arith, printed_fits _ _ _ (sym c.before.printed.given.1 ∙ c.before.before.before.before.page.ensures.0), c.before.before.before.out2.given)
 
 slice-aggregate-write-all : tie.Need-slice-aggregate-write-all
-slice-aggregate-write-all c = sym (length-take-le _ _ (omega (arith, printed-fits _ _ _ (sym c.before.before.printed.given.1 ∙ c.before.before.before.before.before.page.ensures.0), c.before.before.before.before.out2.given)))
+slice-aggregate-write-all c = sym (length-take-le _ _ (omega (arith, printed_fits _ _ _ (sym c.before.before.printed.given.1 ∙ c.before.before.before.before.before.page.ensures.0), c.before.before.before.before.out2.given)))
 
 write-all-requires : tie.Need-write-all-requires
 write-all-requires c κs = search rules
@@ -37,8 +37,8 @@ returns c = search rules
 returns-2 : tie.Need-returns-2
 returns-2 c = search rules
 
-pub show-spec : {M : Type 1} → statement M
-show-spec =
+pub show_spec : {M : Type 1} → statement M
+show_spec =
     tie.close
     (tie.spec
     slice-aggregate-page

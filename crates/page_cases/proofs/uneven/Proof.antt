@@ -46,8 +46,8 @@ loop-again c = (omega arith, simp length-set (omega arith))
 returns : tie.Need-returns invariant-loop decreases-loop
 returns c = search rules
 
-pub uneven-spec : {M : Type 1} → statement M
-uneven-spec =
+pub uneven_spec : {M : Type 1} → statement M
+uneven_spec =
     tie.close
     (tie.spec
     invariant-loop

@@ -27,5 +27,5 @@ returns-2 c =
     let good = sym state.before.cache-ok.ensures ∙ not-false _ state.if1.false in
     rw good c.predicted.ensures
 
-pub predict-spec : {M : Type 1} → statement M
-predict-spec = tie.close (tie.spec cache-ok-requires refused-requires returns predicted-requires returns-2)
+pub predict_spec : {M : Type 1} → statement M
+predict_spec = tie.close (tie.spec cache-ok-requires refused-requires returns predicted-requires returns-2)

@@ -30,11 +30,11 @@ minus : (n : ℕ) → n < 32768 → SFits w16 (neg_ℤ (pos n))
 minus zero h = record { sfits = omega arith }
 minus (suc n) h = record { sfits = omega arith }
 
-complement-fits : (n : ℕ) → n < 32768 → SFits w16 (negsuc 0 -ℤ to_z w16 n)
-complement-fits n h = rw (to_z_pos w16 {n = n} h) (below n h)
+complement_fits : (n : ℕ) → n < 32768 → SFits w16 (negsuc 0 -ℤ to_z w16 n)
+complement_fits n h = rw (to_z_pos w16 {n = n} h) (below n h)
 
-minus-fits : (n : ℕ) → n < 32768 → SFits w16 (pos 0 -ℤ to_z w16 n)
-minus-fits n h = rw (to_z_pos w16 {n = n} h, +ℤ_idl (neg_ℤ (pos n))) (minus n h)
+minus_fits : (n : ℕ) → n < 32768 → SFits w16 (pos 0 -ℤ to_z w16 n)
+minus_fits n h = rw (to_z_pos w16 {n = n} h, +ℤ_idl (neg_ℤ (pos n))) (minus n h)
 
 loop-holds : tie.Need-loop-init invariant-loop decreases-loop
 loop-holds c = record { all = omega arith; made = omega arith; less = omega arith; few = omega arith }
@@ -64,13 +64,13 @@ cast-unlike-3 : tie.Need-overflow-cast-unlike-3 invariant-loop decreases-loop
 cast-unlike-3 c = omega arith
 
 sub-unlike : tie.Need-overflow-sub-unlike invariant-loop decreases-loop
-sub-unlike c = complement-fits c.before.before.loop.dm (omega arith)
+sub-unlike c = complement_fits c.before.before.loop.dm (omega arith)
 
 cast-unlike-4 : tie.Need-overflow-cast-unlike-4 invariant-loop decreases-loop
 cast-unlike-4 c = omega arith
 
 sub-unlike-2 : tie.Need-overflow-sub-unlike-2 invariant-loop decreases-loop
-sub-unlike-2 c = let l = c.before.before.loop in minus-fits (l.metres + (l.since + 1) / 10) (omega arith)
+sub-unlike-2 c = let l = c.before.before.loop in minus_fits (l.metres + (l.since + 1) / 10) (omega arith)
 
 unlike-requires-2 : tie.Need-unlike-requires-2 invariant-loop decreases-loop
 unlike-requires-2 c κs = search rules
@@ -90,8 +90,8 @@ loop-again c = record { all = omega arith; made = omega arith; less = omega arit
 returns : tie.Need-returns invariant-loop decreases-loop
 returns c = search rules
 
-pub differing-spec : {M : Type 1} → statement M
-differing-spec =
+pub differing_spec : {M : Type 1} → statement M
+differing_spec =
     tie.close
     (tie.spec
     invariant-loop

@@ -40,8 +40,8 @@ loop-again c = (omega arith, simp length-set (omega arith))
 returns : tie.Need-returns invariant-loop decreases-loop
 returns c = search rules
 
-pub heights-spec : {M : Type 1} → statement M
-heights-spec =
+pub heights_spec : {M : Type 1} → statement M
+heights_spec =
     tie.close
     (tie.spec
     invariant-loop

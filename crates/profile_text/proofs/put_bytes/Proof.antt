@@ -5,7 +5,7 @@ use native.Mathlib.Omega.{arith}
 use lib.ListN.{length, take}
 use lib.Seq.{take_all}
 use Rattle.profile_text.specs.Appended.{Appended}
-use Rattle.profile_text.proofs.Laws.{append-none, append-next}
+use Rattle.profile_text.proofs.Laws.{append_none, append_next}
 use Rattle.profile_text.proofs.put_bytes.Statement.{statement}
 use Rattle.profile_text.proofs.put_bytes.Tie as tie
 
@@ -16,7 +16,7 @@ abbrev decreases-loop : tie.decreases-loop
 decreases-loop out₀ at text i₀ out i = length text - i
 
 loop-holds : tie.Need-loop-init invariant-loop decreases-loop
-loop-holds c = (omega arith, rw add-zero (append-none _ _))
+loop-holds c = (omega arith, rw add-zero (append_none _ _))
 
 add-put : tie.Need-overflow-add-put invariant-loop decreases-loop
 add-put c = omega arith
@@ -34,7 +34,7 @@ loop-less : tie.Need-loop-smaller invariant-loop decreases-loop
 loop-less c = omega arith
 
 loop-again : tie.Need-loop-preserved invariant-loop decreases-loop
-loop-again c = let l = c.before.before.before.before.loop in (omega arith, append-next _ _ _ _ _ l.i _ c.before.before.before.loop-test.true l.invariant.1 c.put.ensures)
+loop-again c = let l = c.before.before.before.before.loop in (omega arith, append_next _ _ _ _ _ l.i _ c.before.before.before.loop-test.true l.invariant.1 c.put.ensures)
 
 add-result : tie.Need-overflow-add-result invariant-loop decreases-loop
 add-result c = omega arith
@@ -42,8 +42,8 @@ add-result c = omega arith
 returns : tie.Need-returns invariant-loop decreases-loop
 returns c = rw (take_all _ _ c.loop-test.false) at c.before.loop.invariant.1
 
-pub put-bytes-spec : {M : Type 1} → statement M
-put-bytes-spec =
+pub put_bytes_spec : {M : Type 1} → statement M
+put_bytes_spec =
     tie.close
     (tie.spec
     invariant-loop

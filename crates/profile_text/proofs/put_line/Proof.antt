@@ -9,13 +9,13 @@ use mir.Facts.{to_z-of_z}
 use mir.Syntax.{w16}
 use mir.Val.{SFits, to_z, of_z}
 use borrow.Author.Rules.{rules}
-use Rattle.profile_text.specs.Text.{wholeMetres, line}
-use Rattle.profile_text.proofs.Laws.{append-more, number-ends, length-metres}
+use Rattle.profile_text.specs.Text.{whole_metres, line}
+use Rattle.profile_text.proofs.Laws.{append_more, number_ends, length_metres}
 use Rattle.profile_text.proofs.put_line.Statement.{statement}
 use Rattle.profile_text.proofs.put_line.Tie as tie
 
-rise : {dm r : ℤ} → SFits w16 dm → mag r < 32768 → r ≡ wholeMetres (to_z w16 (of_z w16 dm)) → to_z w16 (of_z w16 r) ≡ wholeMetres dm
-rise f ok is = to_z-of_z {w = w16} (record { sfits = ok }) ∙ is ∙ ap wholeMetres (to_z-of_z f)
+rise : {dm r : ℤ} → SFits w16 dm → mag r < 32768 → r ≡ whole_metres (to_z w16 (of_z w16 dm)) → to_z w16 (of_z w16 r) ≡ whole_metres dm
+rise f ok is = to_z-of_z {w = w16} (record { sfits = ok }) ∙ is ∙ ap whole_metres (to_z-of_z f)
 
 mul-put-number : tie.Need-overflow-mul-put-number
 mul-put-number c = search rules
@@ -27,7 +27,7 @@ put-number-requires : tie.Need-put-number-requires
 put-number-requires c κs = search rules
 
 put-requires : tie.Need-put-requires
-put-requires c κs = omega (arith, number-ends _ c.before.put-number.ensures (omega arith))
+put-requires c κs = omega (arith, number_ends _ c.before.put-number.ensures (omega arith))
 
 whole-metres-requires : tie.Need-whole-metres-requires
 whole-metres-requires c κs = search rules
@@ -36,7 +36,7 @@ put-signed-requires : tie.Need-put-signed-requires
 put-signed-requires c κs =
     omega (
       arith,
-      number-ends _ c.before.before.before.before.put-number.ensures (omega arith),
+      number_ends _ c.before.before.before.before.put-number.ensures (omega arith),
       c.before.before.put.ensures.ends,
     )
 
@@ -46,10 +46,10 @@ put-requires-2 c κs =
     let w = c.before.before.whole-metres in
     omega (
       arith,
-      number-ends _ c.before.before.before.before.before.before.put-number.ensures (omega arith),
+      number_ends _ c.before.before.before.before.before.before.put-number.ensures (omega arith),
       c.before.before.before.before.put.ensures.ends,
       rw (rise s.ranges.dm w.type-inv w.ensures) at c.before.put-signed.ensures.ends,
-      length-metres s.args.dm s.ranges.dm.sfits,
+      length_metres s.args.dm s.ranges.dm.sfits,
     )
 
 returns : tie.Need-returns
@@ -60,10 +60,10 @@ returns c =
     let distance = c.before.before.before.before.before.before.before.put-number.ensures in
     let blank = c.before.before.before.before.before.put.ensures in
     let metres = c.before.before.put-signed.ensures in
-    rw (← rise s.ranges.dm w.type-inv w.ensures, mul_comm 20 s.args.i) (append-more distance (append-more blank (append-more metres c.put2.ensures)))
+    rw (← rise s.ranges.dm w.type-inv w.ensures, mul_comm 20 s.args.i) (append_more distance (append_more blank (append_more metres c.put2.ensures)))
 
-pub put-line-spec : {M : Type 1} → statement M
-put-line-spec =
+pub put_line_spec : {M : Type 1} → statement M
+put_line_spec =
     tie.close
     (tie.spec
     mul-put-number

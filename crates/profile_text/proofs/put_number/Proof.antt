@@ -7,7 +7,7 @@ use native.Mathlib.Omega.{arith}
 use lib.ListN.{length, take, drop, set, length-take, length-append, length-drop, length-set}
 use lib.Seq.{take_all, drop-cons, get_or-set_same, drop-set-lt}
 use Rattle.profile_text.specs.Text.{decimal}
-use Rattle.profile_text.proofs.Laws.{decimal-one, decimal-more, decimal-some, length-decimal}
+use Rattle.profile_text.proofs.Laws.{decimal_one, decimal_more, decimal_some, length-decimal}
 use Rattle.profile_text.proofs.put_number.Statement.{statement}
 use Rattle.profile_text.proofs.put_number.Tie as tie
 
@@ -24,8 +24,8 @@ abbrev decreases-loop : tie.decreases-loop
 decreases-loop out at n digits₀ first₀ left₀ digits first left = first
 
 -- a digit before those from `first` on
-put-before : (ds : List ℕ) (at first v : ℕ) → first ≡ suc at → at < length ds → drop at (set ds at v) ≡ v ∷ drop first ds
-put-before ds at first v e h = rw (e, drop-cons (set ds at v) at 0 (simp length-set h), get_or-set_same ds at v 0 h, drop-set-lt (suc at) ds at v (omega arith))
+put_before : (ds : List ℕ) (at first v : ℕ) → first ≡ suc at → at < length ds → drop at (set ds at v) ≡ v ∷ drop first ds
+put_before ds at first v e h = rw (e, drop-cons (set ds at v) at 0 (simp length-set h), get_or-set_same ds at v 0 h, drop-set-lt (suc at) ds at v (omega arith))
 
 -- the digits after one more
 abbrev next : List ℕ → ℕ → ℕ → List ℕ
@@ -33,18 +33,18 @@ next ds first left = set ds (first - 1) (48 + left % 10)
 
 module _ (n : ℕ) (ds : List ℕ) (first left : ℕ) (inv : Written n ds first left) (small : n < 100000) where
   room : 1 ≤ first
-  room = omega (arith, length-decimal 4 n (omega arith), decimal-some left, simp (length-append, length-drop) at (ap length inv.all))
+  room = omega (arith, length-decimal 4 n (omega arith), decimal_some left, simp (length-append, length-drop) at (ap length inv.all))
 
   written : drop (first - 1) (next ds first left) ≡ (48 + left % 10) ∷ drop first ds
-  written = put-before ds (first - 1) first (48 + left % 10) (omega (arith, room)) (omega (arith, room))
+  written = put_before ds (first - 1) first (48 + left % 10) (omega (arith, room)) (omega (arith, room))
 
   last : left / 10 ≡ 0 → take (5 - (first - 1)) (drop (first - 1) (next ds first left)) ≡ decimal n
   last e =
       let one : left % 10 ≡ left = omega arith in
-      take_all (5 - (first - 1)) (drop (first - 1) (next ds first left)) (simp (length-drop, length-set) (omega arith)) ∙ rw (written, inv.all, decimal-one left (omega arith), one)
+      take_all (5 - (first - 1)) (drop (first - 1) (next ds first left)) (simp (length-drop, length-set) (omega arith)) ∙ rw (written, inv.all, decimal_one left (omega arith), one)
 
   more : (left / 10 ≡ 0 → ⊥) → decimal n ≡ decimal (left / 10) ++ drop (first - 1) (next ds first left)
-  more e = inv.all ∙ rw (written, decimal-more left (omega arith) (omega arith), append_assoc)
+  more e = inv.all ∙ rw (written, decimal_more left (omega arith) (omega arith), append_assoc)
 
 loop-holds : tie.Need-loop-init invariant-loop decreases-loop
 loop-holds c = record { within = omega arith; five = refl; less = omega arith; all = sym (append-nil (decimal c.args.n)) }
@@ -93,8 +93,8 @@ returns c =
     let ended = c.before.before.before.before.loop-test.true in
     rw (last _ _ _ _ l.invariant pre.0 ended) at c.put-bytes.ensures
 
-pub put-number-spec : {M : Type 1} → statement M
-put-number-spec =
+pub put_number_spec : {M : Type 1} → statement M
+put_number_spec =
     tie.close
     (tie.spec
     invariant-loop

@@ -8,13 +8,13 @@ use mir.Syntax.{w16}
 use mir.Val.{SFits, to_z}
 use borrow.Author.Rules.{rules}
 use borrow.Author.Tests.{lt-ltb, le-ltb}
-use Rattle.num.proofs.CastLaws.{flip-pos}
+use Rattle.num.proofs.CastLaws.{flip_pos}
 use Rattle.profile_text.proofs.sample.Statement.{statement}
 use Rattle.profile_text.proofs.sample.Tie as tie
 
 module _ (n : ℕ) (h : 32768 ≤ n) where
   high : negsuc 0 -ℤ to_z w16 (65535 - n) ≡ negsuc (65535 - n)
-  high = rw (to_z_pos w16 {n = 65535 - n} (omega arith)) (flip-pos (65535 - n))
+  high = rw (to_z_pos w16 {n = 65535 - n} (omega arith)) (flip_pos (65535 - n))
 
   high_fits : SFits w16 (negsuc (65535 - n))
   high_fits = record { sfits = omega arith }
@@ -64,8 +64,8 @@ sub-result-2 c = rw (high _ c.if1.false) (high_fits _ c.if1.false)
 returns-2 : tie.Need-returns-2
 returns-2 c = rw (high _ c.if1.false, le-ltb _ _ c.if1.false) (to_z-of_z (high_fits _ c.if1.false))
 
-pub sample-spec : {M : Type 1} → statement M
-sample-spec =
+pub sample_spec : {M : Type 1} → statement M
+sample_spec =
     tie.close
     (tie.spec
     mul_low

@@ -8,8 +8,8 @@ use lib.Signed.{mag, lt_z}
 use mir.Facts.{to_z-of_z}
 use mir.Syntax.{w16}
 use mir.Val.{SFits, to_z, of_z}
-use Rattle.num.proofs.CastLaws.{flip-neg}
-use Rattle.profile_text.proofs.Order.{below, not-below}
+use Rattle.num.proofs.CastLaws.{flip_neg}
+use Rattle.profile_text.proofs.Order.{below, not_below}
 use Rattle.profile_text.proofs.size.Statement.{statement}
 use Rattle.profile_text.proofs.size.Tie as tie
 
@@ -22,14 +22,14 @@ module _ (z : ℤ) (f : SFits w16 z) where
     is = below z (rw (to_z-of_z f) at e)
 
     flipped : negsuc 0 -ℤ to_z w16 (of_z w16 z) ≡ pos (mag z)
-    flipped = rw (to_z-of_z f) (ap (λ x. negsuc 0 -ℤ x) is ∙ flip-neg (mag z))
+    flipped = rw (to_z-of_z f) (ap (λ x. negsuc 0 -ℤ x) is ∙ flip_neg (mag z))
 
     less : to_z w16 (of_z w16 (negsuc 0 -ℤ to_z w16 (of_z w16 z))) ≡ pos (mag z)
     less = ap (λ x. to_z w16 (of_z w16 x)) flipped ∙ to_z-of_z fits
 
   module _ (e : lt_z (to_z w16 (of_z w16 z)) (pos 0) ≡ false) where
     plain : z ≡ pos (mag z)
-    plain = not-below z (rw (to_z-of_z f) at e)
+    plain = not_below z (rw (to_z-of_z f) at e)
 
     same : to_z w16 (of_z w16 z) ≡ pos (mag z)
     same = to_z-of_z f ∙ plain
@@ -58,7 +58,7 @@ returns-2 c =
     let size : nat_abs c.before.args.z ≡ mag c.before.args.z = ap nat_abs (plain _ f c.if1.false) in
     rw (same _ f c.if1.false, size) (omega arith, omega (arith, f.sfits))
 
-pub size-spec : {M : Type 1} → statement M
-size-spec =
+pub size_spec : {M : Type 1} → statement M
+size_spec =
     tie.close
     (tie.spec sub-result cast-result add-result returns cast-result-2 returns-2)

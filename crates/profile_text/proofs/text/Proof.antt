@@ -18,8 +18,8 @@ use borrow.Author.Tests.{le-leb, lt-leb, eq-eqb, ne_eqb}
 use Rattle.num.specs.Cast.{signed16}
 use Rattle.profile_text.specs.Codes.{codes}
 use Rattle.profile_text.specs.Appended.{Appended}
-use Rattle.profile_text.specs.Text.{profile, heading, badInput, line, lines, linesBy, samples}
-use Rattle.profile_text.proofs.Laws.{append-none, append-more, whole, length-line, lines_more, length-samples, sample-at}
+use Rattle.profile_text.specs.Text.{profile, heading, bad_input, line, lines, lines_by, samples}
+use Rattle.profile_text.proofs.Laws.{append_none, append_more, whole, length-line, lines_more, length-samples, sample_at}
 use Rattle.profile_text.proofs.text.Statement.{statement}
 use Rattle.profile_text.proofs.text.Tie as tie
 
@@ -30,11 +30,11 @@ abbrev decreases-loop : tie.decreases-loop
 decreases-loop input out₀ count at₀ i₀ out at i = count - i
 
 module _ (bs : List ℕ) where
-  too_long : 1002 < length bs → profile bs ≡ badInput
+  too_long : 1002 < length bs → profile bs ≡ bad_input
   unfolding profile
   too_long h = rw (lt-leb (length bs) 1002 h)
 
-  odd : length bs ≤ 1002 → (length bs % 2 ≡ 0 → ⊥) → profile bs ≡ badInput
+  odd : length bs ≤ 1002 → (length bs % 2 ≡ 0 → ⊥) → profile bs ≡ bad_input
   unfolding profile
   odd l h = rw (le-leb (length bs) 1002 l, ne_eqb (length bs % 2) 0 h)
 
@@ -51,10 +51,10 @@ module _ (bs : List ℕ) where
       read = to_z-of_z {w = w16} (record { sfits = ok })
 
       one_more : lines 0 (take (i + 1) (samples bs)) ≡ lines 0 (take i (samples bs)) ++ line i (to_z w16 (of_z w16 z))
-      one_more = rw (read, is, ← sample-at bs i i<, add-one, lines_more line 0 i (samples bs) (pos 0) (omega (arith, length-samples bs)), zero-add)
+      one_more = rw (read, is, ← sample_at bs i i<, add-one, lines_more line 0 i (samples bs) (pos 0) (omega (arith, length-samples bs)), zero-add)
 
-      line-fits : i < 501 → length (line i (to_z w16 (of_z w16 z))) ≤ 12
-      line-fits h = rw read (length-line i z h ok)
+      line_fits : i < 501 → length (line i (to_z w16 (of_z w16 z))) ≤ 12
+      line_fits h = rw read (length-line i z h ok)
 
 slice-aggregate-put-bytes : tie.Need-slice-aggregate-put-bytes invariant-loop decreases-loop
 slice-aggregate-put-bytes c = search rules
@@ -63,7 +63,7 @@ put-bytes-requires : tie.Need-put-bytes-requires invariant-loop decreases-loop
 put-bytes-requires c κs = search rules
 
 returns : tie.Need-returns invariant-loop decreases-loop
-unfolding badInput codes
+unfolding bad_input codes
 returns c = rw (too_long _ c.before.before.before.if1.true) (whole c.put-bytes.ensures)
 
 slice-aggregate-put-bytes-2 : tie.Need-slice-aggregate-put-bytes-2 invariant-loop decreases-loop
@@ -73,7 +73,7 @@ put-bytes-requires-2 : tie.Need-put-bytes-requires-2 invariant-loop decreases-lo
 put-bytes-requires-2 c κs = search rules
 
 returns-2 : tie.Need-returns-2 invariant-loop decreases-loop
-unfolding badInput codes
+unfolding bad_input codes
 returns-2 c = rw (odd _ c.before.before.before.before.if1.false c.before.before.before.if2.true) (whole c.put-bytes2.ensures)
 
 slice-aggregate-put-bytes-3 : tie.Need-slice-aggregate-put-bytes-3 invariant-loop decreases-loop
@@ -83,8 +83,8 @@ put-bytes-requires-3 : tie.Need-put-bytes-requires-3 invariant-loop decreases-lo
 put-bytes-requires-3 c κs = search rules
 
 loop-holds : tie.Need-loop-init invariant-loop decreases-loop
-unfolding linesBy
-loop-holds c = (omega arith, (omega arith, append-none _ _))
+unfolding lines_by
+loop-holds c = (omega arith, (omega arith, append_none _ _))
 
 sample-requires : tie.Need-sample-requires invariant-loop decreases-loop
 sample-requires c κs = search rules
@@ -106,8 +106,8 @@ loop-again c =
     let i< : l.i * 2 + 1 < length input = omega arith in (
       omega arith,
       (
-        omega (arith, c.put-line.ensures.ends, line-fits input l.i z.result i< z.ensures z.type-inv (omega arith)),
-        rw (one_more input l.i z.result i< z.ensures z.type-inv) (append-more l.invariant.1.1 c.put-line.ensures),
+        omega (arith, c.put-line.ensures.ends, line_fits input l.i z.result i< z.ensures z.type-inv (omega arith)),
+        rw (one_more input l.i z.result i< z.ensures z.type-inv) (append_more l.invariant.1.1 c.put-line.ensures),
       ),
     )
 
@@ -116,10 +116,10 @@ unfolding heading codes
 returns-3 c =
     let short = c.before.before.before.before.before.before.if1.false in
     let even = c.before.before.before.before.before.if2.false in
-    rw (good _ short even) (whole (append-more c.before.before.put-bytes3.ensures (rw (all _ _ c.loop-test.false) at c.before.loop.invariant.1.1)))
+    rw (good _ short even) (whole (append_more c.before.before.put-bytes3.ensures (rw (all _ _ c.loop-test.false) at c.before.loop.invariant.1.1)))
 
-pub text-spec : {M : Type 1} → statement M
-text-spec =
+pub text_spec : {M : Type 1} → statement M
+text_spec =
     tie.close
     (tie.spec
     invariant-loop

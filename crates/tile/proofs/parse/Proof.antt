@@ -6,7 +6,7 @@ use borrow.Author.Tests.{not-true, not-false, lt-ltb}
 use borrow.Author.Rules.{rules}
 use Rattle.tile.specs.Parse as Parse
 use Rattle.tile.proofs.Laws.{and_left, and_right}
-use Rattle.tile.proofs.Clauses.{refused-by, refused-by-nodes, head_first}
+use Rattle.tile.proofs.Clauses.{refused_by, refused_by_nodes, head_first}
 use Rattle.tile.proofs.parse.Statement.{statement}
 use Rattle.tile.proofs.parse.Tie as tie
 
@@ -21,43 +21,43 @@ is-sum-requires : tie.Need-is-sum-requires
 is-sum-requires c κs = search rules
 
 returns-2 : tie.Need-returns-2
-returns-2 c = refused-by _ _ _ 3 (sym c.before.is_sum.ensures ∙ not-true _ c.if2.true)
+returns-2 c = refused_by _ _ _ 3 (sym c.before.is_sum.ensures ∙ not-true _ c.if2.true)
 
 is-key-requires : tie.Need-is-key-requires
 is-key-requires c κs = search rules
 
 returns-3 : tie.Need-returns-3
-returns-3 c = refused-by _ _ _ 4 (sym c.before.is_key.ensures ∙ not-true _ c.if3.true)
+returns-3 c = refused_by _ _ _ 4 (sym c.before.is_key.ensures ∙ not-true _ c.if3.true)
 
 is-length-requires : tie.Need-is-length-requires
 is-length-requires c κs = search rules
 
 returns-4 : tie.Need-returns-4
-returns-4 c = refused-by _ _ _ 5 (sym c.before.is-length.ensures ∙ not-true _ c.if4.true)
+returns-4 c = refused_by _ _ _ 5 (sym c.before.is-length.ensures ∙ not-true _ c.if4.true)
 
 u32-at-requires : tie.Need-u32-at-requires
 u32-at-requires c κs = search rules
 
 returns-5 : tie.Need-returns-5
-returns-5 c = refused-by _ _ _ 6 (rw (← c.before.u32-at.ensures, c.if5.true))
+returns-5 c = refused_by _ _ _ 6 (rw (← c.before.u32-at.ensures, c.if5.true))
 
 nodes-good-requires : tie.Need-nodes-good-requires
 nodes-good-requires c κs = sym c.before.before.before.is-length.ensures ∙ not-false _ c.before.before.if4.false
 
 returns-6 : tie.Need-returns-6
-returns-6 c = refused-by-nodes _ _ _ (sym c.before.nodes-good.ensures ∙ not-true _ c.if6.true)
+returns-6 c = refused_by_nodes _ _ _ (sym c.before.nodes-good.ensures ∙ not-true _ c.if6.true)
 
 edges-good-requires : tie.Need-edges-good-requires
 edges-good-requires c κs = sym c.before.before.before.before.before.is-length.ensures ∙ not-false _ c.before.before.before.before.if4.false
 
 returns-7 : tie.Need-returns-7
-returns-7 c = refused-by _ _ _ 8 (sym c.before.edges-good.ensures ∙ not-true _ c.if7.true)
+returns-7 c = refused_by _ _ _ 8 (sym c.before.edges-good.ensures ∙ not-true _ c.if7.true)
 
 entries-good-requires : tie.Need-entries-good-requires
 entries-good-requires c κs = sym c.before.before.before.before.before.before.before.is-length.ensures ∙ not-false _ c.before.before.before.before.before.before.if4.false
 
 returns-8 : tie.Need-returns-8
-returns-8 c = refused-by _ _ _ 9 (sym c.before.entries-good.ensures ∙ not-true _ c.if8.true)
+returns-8 c = refused_by _ _ _ 9 (sym c.before.entries-good.ensures ∙ not-true _ c.if8.true)
 
 head-requires : tie.Need-head-requires
 head-requires c κs = search rules
@@ -78,14 +78,14 @@ returns-9 c =
       sym c.before.before.before.before.before.before.before.before.before.before.is-length.ensures ∙ not-false _ c.before.before.before.before.before.before.before.before.before.if4.false,
       ← c.before.before.before.before.before.before.before.before.u32-at.ensures,
       lt-ltb _ _ positive,
-      and_left (Parse.nodesGood bytes size) (Parse.nodesOrdered bytes) nodes,
-      and_right (Parse.nodesGood bytes size) (Parse.nodesOrdered bytes) nodes,
+      and_left (Parse.nodes_good bytes size) (Parse.nodes_ordered bytes) nodes,
+      and_right (Parse.nodes_good bytes size) (Parse.nodes_ordered bytes) nodes,
       sym c.before.before.before.before.edges-good.ensures ∙ not-false _ c.before.before.before.if7.false,
       sym c.before.before.entries-good.ensures ∙ not-false _ c.before.if8.false,
     )
 
-pub parse-spec : {M : Type 1} → statement M
-parse-spec =
+pub parse_spec : {M : Type 1} → statement M
+parse_spec =
     tie.close
     (tie.spec
     is-head-requires

@@ -11,5 +11,5 @@ edge-point-requires c κs = tt
 returns : tie.Need-returns
 returns c = rw (c.edge-point.ensures, c.before.run.ensures)
 
-pub edge-point-spec : {M : Type 1} → statement M
-edge-point-spec = tie.close (tie.spec run-requires edge-point-requires returns)
+pub edge_point_spec : {M : Type 1} → statement M
+edge_point_spec = tie.close (tie.spec run-requires edge-point-requires returns)

@@ -15,5 +15,5 @@ put-cache-requires c κs = sym c.before.before.count.ensures ∙ c.before.if1.fa
 returns-2 : tie.Need-returns-2
 returns-2 c = rw (eq-eqb _ 1150 (sym c.before.before.before.count.ensures ∙ c.before.before.if1.false)) c.put-cache.ensures.0
 
-pub put-cache-spec : {M : Type 1} → statement M
-put-cache-spec = tie.close (tie.spec count-requires returns put-cache-requires returns-2)
+pub put_cache_spec : {M : Type 1} → statement M
+put_cache_spec = tie.close (tie.spec count-requires returns put-cache-requires returns-2)

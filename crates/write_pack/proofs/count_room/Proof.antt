@@ -7,5 +7,5 @@ use Rattle.write_pack.proofs.count_room.Tie as tie
 returns : tie.Need-returns
 returns c = sym (length-replicate {0} {A = ℕ} 16384 0)
 
-pub count-room-spec : {M : Type 1} → statement M
-count-room-spec = tie.close (tie.spec returns)
+pub count_room_spec : {M : Type 1} → statement M
+count_room_spec = tie.close (tie.spec returns)

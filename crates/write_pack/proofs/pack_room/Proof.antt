@@ -7,5 +7,5 @@ use Rattle.write_pack.proofs.pack_room.Tie as tie
 returns : tie.Need-returns
 returns c = sym (length-replicate {0} {A = ℕ} 3932160 0)
 
-pub pack-room-spec : {M : Type 1} → statement M
-pack-room-spec = tie.close (tie.spec returns)
+pub pack_room_spec : {M : Type 1} → statement M
+pack_room_spec = tie.close (tie.spec returns)

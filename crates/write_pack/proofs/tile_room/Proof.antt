@@ -7,5 +7,5 @@ use Rattle.write_pack.proofs.tile_room.Tie as tie
 returns : tie.Need-returns
 returns c = sym (length-replicate {0} {A = ℕ} 3145728 0)
 
-pub tile-room-spec : {M : Type 1} → statement M
-tile-room-spec = tie.close (tie.spec returns)
+pub tile_room_spec : {M : Type 1} → statement M
+tile_room_spec = tie.close (tie.spec returns)

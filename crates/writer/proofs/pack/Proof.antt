@@ -18,5 +18,5 @@ returns c =
     let before = c.before.before.before.before.before.before.before in
     let start = before in let made = rw (to_z-of_z start.ranges.south, to_z-of_z start.ranges.west) at write.ensures in (sym (ap (λ (w : Written). w.answer) made), sym (ap (λ (w : Written). w.out) made))
 
-pub pack-spec : {M : Type 1} → statement M
-pack-spec = tie.close (tie.spec write-requires same_length returns)
+pub pack_spec : {M : Type 1} → statement M
+pack_spec = tie.close (tie.spec write-requires same_length returns)

@@ -36,7 +36,7 @@ returns-3 c =
       ← c.degrees.ensures,
     )
 
-pub bearing-spec : {M : Type 1} → statement M
-bearing-spec =
+pub bearing_spec : {M : Type 1} → statement M
+bearing_spec =
     tie.close
     (tie.spec is-finite-requires returns is-finite-requires-2 returns-2 degrees-requires returns-3)

@@ -4,10 +4,10 @@ use lib.Ieee.{Float, nan, inf, fin, binary32, is_nan, fits, round, of_int, of_bi
 use lib.Ieee.Scale.{round_same}
 use borrow.Author.Tests.{eqb-false}
 use Rattle.num.specs.Order.{is_finite}
-use Rattle.num.specs.Convert.{nearestTo}
+use Rattle.num.specs.Convert.{nearest_to}
 use Rattle.angle.specs.Bearing as Bearing
 use Rattle.angle.specs.Bearing.{degree, southern, western, quarter}
-use Rattle.angle.proofs.Magnitude.{bits-finite, magnitude-bits, zero_bits}
+use Rattle.angle.proofs.Magnitude.{bits_finite, magnitude_bits, zero_bits}
 use Rattle.angle.proofs.circle.degrees.Statement.{statement}
 use Rattle.angle.proofs.circle.degrees.Tie as tie
 
@@ -22,9 +22,9 @@ finite_number (inf s) h = tt
 finite_number (fin s m e) h = tt
 
 -- in 2 ^ -32 degree
-nearest-degrees : (n : ℕ) → nearestTo n 1042 ≡ round binary32 false n degree
-unfolding nearestTo
-nearest-degrees n = round_same binary32 false (n * 2 ^ 1042) (2 ^ 1074) n degree (pow_pos 1074) (pow_pos 32) (mul_assoc n (2 ^ 1042) (2 ^ 32))
+nearest_degrees : (n : ℕ) → nearest_to n 1042 ≡ round binary32 false n degree
+unfolding nearest_to
+nearest_degrees n = round_same binary32 false (n * 2 ^ 1042) (2 ^ 1074) n degree (pow_pos 1074) (pow_pos 32) (mul_assoc n (2 ^ 1042) (2 ^ 32))
 
 is-sign-negative-requires : tie.Need-is-sign-negative-requires
 is-sign-negative-requires c κs = search rules
@@ -50,7 +50,7 @@ quarter-requires c κs =
     let held : T (fits binary32 east) = search rules in
     let some : to_bits binary32 east % 2147483648 ≡ 0 → ⊥ =
     eqb-false (to_bits binary32 east % 2147483648) 0 (sym (zero_bits east held c.before.requires.0) ∙ c.if1.false) in
-    (omega arith, (bits-finite east held c.before.requires.0, bits-finite c.before.args.north (search rules) c.before.requires.1))
+    (omega arith, (bits_finite east held c.before.requires.0, bits_finite c.before.args.north (search rules) c.before.requires.1))
 
 southern-requires : tie.Need-southern-requires
 southern-requires c κs = search rules
@@ -66,13 +66,13 @@ unfolding Bearing.degrees of_bits
 returns-3 c =
     let start = c.before.before.before.before.before in
     let e : quarter (Bearing.magnitude start.args.east) (Bearing.magnitude start.args.north) ≡ c.before.before.before.quarter.result =
-    ap₂ quarter (magnitude-bits start.args.east (search rules) start.requires.0) (magnitude-bits start.args.north (search rules) start.requires.1)
+    ap₂ quarter (magnitude_bits start.args.east (search rules) start.requires.0) (magnitude_bits start.args.north (search rules) start.requires.1)
     ∙ sym c.before.before.before.quarter.ensures.0 in
     rw (c.before.before.before.before.if1.false, e, ← c.before.before.southern.ensures.0, ← c.before.western.ensures)
-    (c.nearest.ensures ∙ nearest-degrees c.before.western.result)
+    (c.nearest.ensures ∙ nearest_degrees c.before.western.result)
 
-pub degrees-spec : {M : Type 1} → statement M
-degrees-spec =
+pub degrees_spec : {M : Type 1} → statement M
+degrees_spec =
     tie.close
     (tie.spec
     is-sign-negative-requires

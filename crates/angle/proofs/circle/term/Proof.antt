@@ -12,5 +12,5 @@ sub-result c = omega (arith, mul-le-mul_right c.args.p c.requires.0)
 returns : tie.Need-returns
 returns c = search rules
 
-pub term-spec : {M : Type 1} → statement M
-term-spec = tie.close (tie.spec mul-result sub-result returns)
+pub term_spec : {M : Type 1} → statement M
+term_spec = tie.close (tie.spec mul-result sub-result returns)

@@ -15,5 +15,5 @@ returns-2 : tie.Need-returns-2
 unfolding of_bits
 returns-2 c = rw c.if1.false
 
-pub western-spec : {M : Type 1} → statement M
-western-spec = tie.close (tie.spec sub-result returns returns-2)
+pub western_spec : {M : Type 1} → statement M
+western_spec = tie.close (tie.spec sub-result returns returns-2)

@@ -6,8 +6,8 @@ use Rattle.angle.proofs.cosine.cosine.Statement.{statement}
 use Rattle.angle.proofs.cosine.cosine.Tie as tie
 
 -- the angle's magnitude, as a double
-angle-is : (met : tie.After-nearest-u64-to-f64) → met.before.before.f32-to-f64-with-nan.result ≡ fabsf met.before.before.before.before.args.x
-angle-is met = met.before.before.f32-to-f64-with-nan.ensures ∙ met.before.before.before.fabsf.ensures
+angle_is : (met : tie.After-nearest-u64-to-f64) → met.before.before.f32-to-f64-with-nan.result ≡ fabsf met.before.before.before.before.args.x
+angle_is met = met.before.before.f32-to-f64-with-nan.ensures ∙ met.before.before.before.fabsf.ensures
 
 fabsf-requires : tie.Need-fabsf-requires
 fabsf-requires c κs = search rules
@@ -31,7 +31,7 @@ returns : tie.Need-returns
 unfolding Cosine.cosine
 returns c =
     let met = c.before.before.before in
-    rw (← angle-is met, ← met.before.u64-of-f64.ensures, ← met.nearest-u64-to-f64.ensures, eq-eqb _ _ c.before.before.if1.true, ← c.before.cos-near.ensures, ← c.f32-of-f64.ensures)
+    rw (← angle_is met, ← met.before.u64-of-f64.ensures, ← met.nearest-u64-to-f64.ensures, eq-eqb _ _ c.before.before.if1.true, ← c.before.cos-near.ensures, ← c.f32-of-f64.ensures)
 
 sin-near-requires : tie.Need-sin-near-requires
 sin-near-requires c κs = search rules
@@ -43,7 +43,7 @@ returns-2 : tie.Need-returns-2
 unfolding Cosine.cosine
 returns-2 c =
     let met = c.before.before.before.before in
-    rw (← angle-is met, ← met.before.u64-of-f64.ensures, ← met.nearest-u64-to-f64.ensures, ne_eqb _ _ c.before.before.before.if1.false, eq-eqb _ _ c.before.before.if2.true, ← c.before.sin-near.ensures, ← c.f32-of-f642.ensures)
+    rw (← angle_is met, ← met.before.u64-of-f64.ensures, ← met.nearest-u64-to-f64.ensures, ne_eqb _ _ c.before.before.before.if1.false, eq-eqb _ _ c.before.before.if2.true, ← c.before.sin-near.ensures, ← c.f32-of-f642.ensures)
 
 cos-near-requires-2 : tie.Need-cos-near-requires-2
 cos-near-requires-2 c κs = search rules
@@ -55,7 +55,7 @@ returns-3 : tie.Need-returns-3
 unfolding Cosine.cosine
 returns-3 c =
     let met = c.before.before.before.before.before in
-    rw (← angle-is met, ← met.before.u64-of-f64.ensures, ← met.nearest-u64-to-f64.ensures, ne_eqb _ _ c.before.before.before.before.if1.false, ne_eqb _ _ c.before.before.before.if2.false, eq-eqb _ _ c.before.before.if3.true, ← c.before.cos-near2.ensures, ← c.f32-of-f643.ensures)
+    rw (← angle_is met, ← met.before.u64-of-f64.ensures, ← met.nearest-u64-to-f64.ensures, ne_eqb _ _ c.before.before.before.before.if1.false, ne_eqb _ _ c.before.before.before.if2.false, eq-eqb _ _ c.before.before.if3.true, ← c.before.cos-near2.ensures, ← c.f32-of-f643.ensures)
 
 sin-near-requires-2 : tie.Need-sin-near-requires-2
 sin-near-requires-2 c κs = search rules
@@ -67,10 +67,10 @@ returns-4 : tie.Need-returns-4
 unfolding Cosine.cosine
 returns-4 c =
     let met = c.before.before.before.before.before in
-    rw (← angle-is met, ← met.before.u64-of-f64.ensures, ← met.nearest-u64-to-f64.ensures, ne_eqb _ _ c.before.before.before.before.if1.false, ne_eqb _ _ c.before.before.before.if2.false, ne_eqb _ _ c.before.before.if3.false, ← c.before.sin-near2.ensures, ← c.f32-of-f644.ensures)
+    rw (← angle_is met, ← met.before.u64-of-f64.ensures, ← met.nearest-u64-to-f64.ensures, ne_eqb _ _ c.before.before.before.before.if1.false, ne_eqb _ _ c.before.before.before.if2.false, ne_eqb _ _ c.before.before.if3.false, ← c.before.sin-near2.ensures, ← c.f32-of-f644.ensures)
 
-pub cosine-spec : {M : Type 1} → statement M
-cosine-spec =
+pub cosine_spec : {M : Type 1} → statement M
+cosine_spec =
     tie.close
     (tie.spec
     fabsf-requires

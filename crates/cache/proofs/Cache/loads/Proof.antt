@@ -19,5 +19,5 @@ returns-2 : tie.Need-returns-2
 unfolding loads
 returns-2 c = rw (sym c.before.before.Lent-ok.ensures ∙ not-false _ c.before.if1.false)
 
-pub loads-spec : {M : Type 1} → statement M
-loads-spec = tie.close (tie.spec lent-ok-requires returns cast-t4 returns-2)
+pub loads_spec : {M : Type 1} → statement M
+loads_spec = tie.close (tie.spec lent-ok-requires returns cast-t4 returns-2)

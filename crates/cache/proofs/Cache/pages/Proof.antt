@@ -38,8 +38,8 @@ returns-3 c =
       c.pages-of.ensures,
     )
 
-pub pages-spec : {M : Type 1} → statement M
-pages-spec =
+pub pages_spec : {M : Type 1} → statement M
+pages_spec =
     tie.close
     (tie.spec
     cache-ok-requires

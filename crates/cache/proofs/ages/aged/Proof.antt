@@ -14,5 +14,5 @@ returns : tie.Need-returns
 unfolding aged
 returns c = rw c.before.ages-from.ensures
 
-pub aged-spec : {M : Type 1} → statement M
-aged-spec = tie.close (tie.spec ages-from-requires element-copy-out-g returns)
+pub aged_spec : {M : Type 1} → statement M
+aged_spec = tie.close (tie.spec ages-from-requires element-copy-out-g returns)

@@ -35,8 +35,8 @@ returns-2 c =
     let stale = sym checked.known.ensures ∙ c.if1.false in
     (rw (← sized.wide.ensures, stale), rw (← sized.wide.ensures, stale))
 
-pub hit-spec : {M : Type 1} → statement M
-hit-spec =
+pub hit_spec : {M : Type 1} → statement M
+hit_spec =
     tie.close
     (tie.spec
     add_wide

@@ -1,10 +1,10 @@
 -- `cache::ages::in_ring` meets its contract. The loop's invariant: no place passed holds the key.
 use Rattle.std.proofs.Common.{◌≡◌, ℕ, ◌+◌, ◌-◌, ◌≤◌, ◌&&◌, eqb, get_or, ⊎_elim, arith, rules, ne_eqb}
 use Rattle.cache.specs.declared.victim.Found.TheVariants as Found
-use Rattle.cache.specs.Ages.{inRing}
+use Rattle.cache.specs.Ages.{in_ring}
 use Rattle.cache.specs.Search.{lowest}
-use Rattle.cache.proofs.SearchLaws.{lowest_start, lowest-hit, lowest-miss}
-use Rattle.cache.proofs.LooksLaws.{both, not-col}
+use Rattle.cache.proofs.SearchLaws.{lowest_start, lowest_hit, lowest_miss}
+use Rattle.cache.proofs.LooksLaws.{both, not_col}
 use Rattle.cache.proofs.ages.in_ring.Statement.{statement}
 use Rattle.cache.proofs.ages.in_ring.Tie as tie
 
@@ -45,11 +45,11 @@ element-copy-out-if2 : tie.Need-element-copy-out-if2 invariant-loop decreases-lo
 element-copy-out-if2 c = search rules
 
 returns : tie.Need-returns invariant-loop decreases-loop
-unfolding inRing
+unfolding in_ring
 returns c =
     let turn = c.before.before.before.before in
-    let at-loop = turn.before.loop in
-    rw (lowest-hit _ at-loop.i 64 turn.loop-test.true at-loop.invariant.1
+    let at_loop = turn.before.loop in
+    rw (lowest_hit _ at_loop.i 64 turn.loop-test.true at_loop.invariant.1
     (both _ _ _ _ c.before.before.if1.true c.if2.true))
 
 add-i : tie.Need-overflow-add-i invariant-loop decreases-loop
@@ -60,21 +60,21 @@ loop-less c = search rules
 
 loop-again : tie.Need-loop-preserved invariant-loop decreases-loop
 loop-again c =
-    let at-loop = c.before.before.before.loop in (
+    let at_loop = c.before.before.before.loop in (
       omega arith,
-      lowest-miss _ at-loop.i at-loop.invariant.1
-          (⊎_elim (λ w. not-col _ _ _ _ w.0.taken w.2.left) (λ w. rw (ne_eqb _ _ w.left)) c.if1.branch),
+      lowest_miss _ at_loop.i at_loop.invariant.1
+          (⊎_elim (λ w. not_col _ _ _ _ w.0.taken w.2.left) (λ w. rw (ne_eqb _ _ w.left)) c.if1.branch),
     )
 
 returns-2 : tie.Need-returns-2 invariant-loop decreases-loop
-unfolding inRing
+unfolding in_ring
 returns-2 c =
-    let at-loop = c.before.loop in
-    let end : at-loop.i ≡ 64 = omega arith in
-    rw (rw end at at-loop.invariant.1)
+    let at_loop = c.before.loop in
+    let end : at_loop.i ≡ 64 = omega arith in
+    rw (rw end at at_loop.invariant.1)
 
-pub in-ring-spec : {M : Type 1} → statement M
-in-ring-spec =
+pub in_ring_spec : {M : Type 1} → statement M
+in_ring_spec =
     tie.close
     (tie.spec
     invariant-loop

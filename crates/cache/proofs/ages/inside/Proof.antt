@@ -16,14 +16,14 @@ sub-result : tie.Need-overflow-sub-result
 sub-result c = search rules
 
 -- what is left after a holds n: a and n fit in l
-left-holds : (a n l : ℕ) → a ≤ l → (t : Bool) → leb n (l - a) ≡ t → leb n (l - a) ≡ leb (a + n) l
-left-holds a n l h true e = e ∙ sym (le-leb (a + n) l (omega (arith, leb-true n (l - a) e)))
-left-holds a n l h false e = e ∙ sym (lt-leb (a + n) l (omega (arith, leb-false n (l - a) e)))
+left_holds : (a n l : ℕ) → a ≤ l → (t : Bool) → leb n (l - a) ≡ t → leb n (l - a) ≡ leb (a + n) l
+left_holds a n l h true e = e ∙ sym (le-leb (a + n) l (omega (arith, leb-true n (l - a) e)))
+left_holds a n l h false e = e ∙ sym (lt-leb (a + n) l (omega (arith, leb-false n (l - a) e)))
 
 returns-2 : tie.Need-returns-2
 returns-2 c =
     let args = c.before.args in
-    left-holds (args.first * 8192) args.len (length args.arena.now) (omega arith) _ refl
+    left_holds (args.first * 8192) args.len (length args.arena.now) (omega arith) _ refl
 
-pub inside-spec : {M : Type 1} → statement M
-inside-spec = tie.close (tie.spec returns mul-result sub-result returns-2)
+pub inside_spec : {M : Type 1} → statement M
+inside_spec = tie.close (tie.spec returns mul-result sub-result returns-2)

@@ -24,8 +24,8 @@ passes-requires c κs = tt
 returns-2 : tie.Need-returns-2
 returns-2 c = rw (ne_eqb _ _ c.before.if1.false, c.passes.ensures)
 
-pub known-spec : {M : Type 1} → statement M
-known-spec =
+pub known_spec : {M : Type 1} → statement M
+known_spec =
     tie.close
     (tie.spec
     add-if1

@@ -1,8 +1,8 @@
 -- `cache::ages::look_up` meets its contract: each return by the run found last, by the ring, and by the search for a ready run.
 use Rattle.std.proofs.Common.{sym, ◌∙◌, arith, rules, le-leb}
 use borrow.Author.Tests.{lt-leb}
-use Rattle.cache.specs.Ages.{lookUp}
-use Rattle.cache.proofs.LooksLaws.{last-below}
+use Rattle.cache.specs.Ages.{look_up}
+use Rattle.cache.proofs.LooksLaws.{last_below}
 use Rattle.cache.proofs.ages.look_up.Statement.{statement}
 use Rattle.cache.proofs.ages.look_up.Tie as tie
 
@@ -16,10 +16,10 @@ was-found-requires : tie.Need-was-found-requires
 was-found-requires c κs = tt
 
 hit-requires : tie.Need-hit-requires
-hit-requires c κs = last-below _ _ _ (sym c.before.before.was-found.ensures ∙ c.before.if1.true)
+hit-requires c κs = last_below _ _ _ (sym c.before.before.was-found.ensures ∙ c.before.if1.true)
 
 returns : tie.Need-returns
-unfolding lookUp
+unfolding look_up
 returns c =
     let tried = c.before.before.before in
     let found = tried.before.before.wide.ensures in
@@ -30,7 +30,7 @@ in-ring-requires : tie.Need-in-ring-requires
 in-ring-requires c κs = tt
 
 returns-2 : tie.Need-returns-2
-unfolding lookUp
+unfolding look_up
 returns-2 c =
     let other = c.before.before.before in
     let found = other.before.before.before.wide.ensures in
@@ -42,7 +42,7 @@ page-of-requires : tie.Need-page-of-requires
 page-of-requires c κs = tt
 
 returns-3 : tie.Need-returns-3
-unfolding lookUp
+unfolding look_up
 returns-3 c =
     let paged = c.before in
     let asked = paged.before.before in
@@ -57,7 +57,7 @@ hit-requires-2 : tie.Need-hit-requires-2
 hit-requires-2 c κs = search rules
 
 returns-4 : tie.Need-returns-4
-unfolding lookUp
+unfolding look_up
 returns-4 c =
     let paged = c.before.before.before in
     let asked = paged.before.before in
@@ -70,8 +70,8 @@ returns-4 c =
       rw (← found, last, ring, ← paged.page-of.ensures, below, c.hit2.ensures.1),
     )
 
-pub look-up-spec : {M : Type 1} → statement M
-look-up-spec =
+pub look_up_spec : {M : Type 1} → statement M
+look_up_spec =
     tie.close
     (tie.spec
     element-copy-out-wide

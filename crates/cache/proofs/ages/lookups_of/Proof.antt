@@ -1,5 +1,5 @@
 -- `cache::ages::lookups_of` meets its contract, call by call.
-use Rattle.cache.specs.Ages.{lookupsOf}
+use Rattle.cache.specs.Ages.{lookups_of}
 use Rattle.std.proofs.Common.{rules}
 use Rattle.cache.proofs.ages.lookups_of.Statement.{statement}
 use Rattle.cache.proofs.ages.lookups_of.Tie as tie
@@ -20,11 +20,11 @@ array-write-looks-2 : tie.Need-array-write-looks-2
 array-write-looks-2 c = search rules
 
 returns : tie.Need-returns
-unfolding lookupsOf
+unfolding lookups_of
 returns c = rw (c.most.ensures, c.before.ring_in.ensures, c.before.before.before.pages-in.ensures)
 
-pub lookups-of-spec : {M : Type 1} → statement M
-lookups-of-spec =
+pub lookups_of_spec : {M : Type 1} → statement M
+lookups_of_spec =
     tie.close
     (tie.spec
     pages-in-requires

@@ -51,8 +51,8 @@ element-write-looks-4 c = search rules
 returns : tie.Need-returns
 returns c = rw (c.before.col-of.ensures, c.before.before.row_of.ensures, c.before.before.before.ready-key.ensures)
 
-pub page-in-spec : {M : Type 1} → statement M
-page-in-spec =
+pub page_in_spec : {M : Type 1} → statement M
+page_in_spec =
     tie.close
     (tie.spec
     ready-key-requires

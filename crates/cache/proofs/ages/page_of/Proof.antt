@@ -3,8 +3,8 @@ use Rattle.std.proofs.Common.{◌≡◌, ℕ, ◌+◌, ◌-◌, ◌≤◌, ◌&&
 use Rattle.cache.specs.declared.victim.Found.TheVariants as Found
 use Rattle.cache.specs.Ages.{page_of}
 use Rattle.cache.specs.Search.{lowest}
-use Rattle.cache.proofs.SearchLaws.{lowest_start, lowest-hit, lowest-miss, lowest-past}
-use Rattle.cache.proofs.LooksLaws.{both, not-col}
+use Rattle.cache.proofs.SearchLaws.{lowest_start, lowest_hit, lowest_miss, lowest_past}
+use Rattle.cache.proofs.LooksLaws.{both, not_col}
 use Rattle.cache.proofs.ages.page_of.Statement.{statement}
 use Rattle.cache.proofs.ages.page_of.Tie as tie
 
@@ -37,13 +37,13 @@ loop-holds c = (search rules, lowest_start _)
 returns : tie.Need-returns invariant-loop decreases-loop
 unfolding page_of
 returns c =
-    let at-loop = c.before.before.loop in
+    let at_loop = c.before.before.loop in
     let count = c.before.before.before.wide in
     rw (
       ← count.ensures,
-      lowest-past _ at-loop.i count.result at-loop.invariant.0
-          (λ (k : ℕ) (h : at-loop.i ≤ k). rw (le-ltb k 96 (omega (arith, h, c.if1.true))))
-          at-loop.invariant.1,
+      lowest_past _ at_loop.i count.result at_loop.invariant.0
+          (λ (k : ℕ) (h : at_loop.i ≤ k). rw (le-ltb k 96 (omega (arith, h, c.if1.true))))
+          at_loop.invariant.1,
     )
 
 add-if2 : tie.Need-overflow-add-if2 invariant-loop decreases-loop
@@ -68,12 +68,12 @@ returns-2 : tie.Need-returns-2 invariant-loop decreases-loop
 unfolding page_of
 returns-2 c =
     let turn = c.before.before.before.before.before in
-    let at-loop = turn.before.loop in
+    let at_loop = turn.before.loop in
     let count = turn.before.before.wide in
-    let low = lt-ltb at-loop.i 96 (omega (arith, c.before.before.before.before.if1.false)) in
+    let low = lt-ltb at_loop.i 96 (omega (arith, c.before.before.before.before.if1.false)) in
     rw (
       ← count.ensures,
-      lowest-hit _ at-loop.i count.result turn.loop-test.true at-loop.invariant.1
+      lowest_hit _ at_loop.i count.result turn.loop-test.true at_loop.invariant.1
           (rw low (both _ _ _ _ c.before.before.if2.true c.if3.true)),
     )
 
@@ -85,24 +85,24 @@ loop-less c = search rules
 
 loop-again : tie.Need-loop-preserved invariant-loop decreases-loop
 loop-again c =
-    let at-loop = c.before.before.before.before.loop in
-    let low = lt-ltb at-loop.i 96 (omega (arith, c.before.before.if1.false)) in (
+    let at_loop = c.before.before.before.before.loop in
+    let low = lt-ltb at_loop.i 96 (omega (arith, c.before.before.if1.false)) in (
       omega arith,
-      lowest-miss _ at-loop.i at-loop.invariant.1
+      lowest_miss _ at_loop.i at_loop.invariant.1
           (rw low
-          (⊎_elim (λ w. not-col _ _ _ _ w.0.taken w.2.left) (λ w. rw (ne_eqb _ _ w.left)) c.if2.branch)),
+          (⊎_elim (λ w. not_col _ _ _ _ w.0.taken w.2.left) (λ w. rw (ne_eqb _ _ w.left)) c.if2.branch)),
     )
 
 returns-3 : tie.Need-returns-3 invariant-loop decreases-loop
 unfolding page_of
 returns-3 c =
-    let at-loop = c.before.loop in
+    let at_loop = c.before.loop in
     let count = c.before.before.wide in
-    let end : at-loop.i ≡ count.result = omega (arith, c.loop-test.false, at-loop.invariant.0) in
-    rw (← count.ensures, rw end at at-loop.invariant.1)
+    let end : at_loop.i ≡ count.result = omega (arith, c.loop-test.false, at_loop.invariant.0) in
+    rw (← count.ensures, rw end at at_loop.invariant.1)
 
-pub page-of-spec : {M : Type 1} → statement M
-page-of-spec =
+pub page_of_spec : {M : Type 1} → statement M
+page_of_spec =
     tie.close
     (tie.spec
     invariant-loop

@@ -1,18 +1,18 @@
 -- `cache::ages::pages_in` meets its contract. The loop's invariant: the pages passed are taken.
 use Rattle.std.proofs.Common.{◌≡◌, ◌-◌, ◌≤◌, sym, arith, rules}
-use Rattle.cache.specs.Ages.{pagesIn}
-use Rattle.cache.proofs.LooksLaws.{pages-none, pages-more}
+use Rattle.cache.specs.Ages.{pages_in}
+use Rattle.cache.proofs.LooksLaws.{pages_none, pages_more}
 use Rattle.cache.proofs.ages.pages_in.Statement.{statement}
 use Rattle.cache.proofs.ages.pages_in.Tie as tie
 
 abbrev invariant-loop : tie.invariant-loop
-invariant-loop looks₀ g i₀ looks i = (i ≤ 96) × (looks ≡ pagesIn looks₀ g i)
+invariant-loop looks₀ g i₀ looks i = (i ≤ 96) × (looks ≡ pages_in looks₀ g i)
 
 abbrev decreases-loop : tie.decreases-loop
 decreases-loop looks₀ g i₀ looks i = 96 - i
 
 loop-holds : tie.Need-loop-init invariant-loop decreases-loop
-loop-holds c = (search rules, sym (pages-none _ _))
+loop-holds c = (search rules, sym (pages_none _ _))
 
 mul-age : tie.Need-overflow-mul-age invariant-loop decreases-loop
 mul-age c = search rules
@@ -36,13 +36,13 @@ loop-less : tie.Need-loop-smaller invariant-loop decreases-loop
 loop-less c = search rules
 
 loop-again : tie.Need-loop-preserved invariant-loop decreases-loop
-loop-again c = (omega arith, rw (c.page-in.ensures, c.before.before.before.before.before.loop.invariant.1, pages-more))
+loop-again c = (omega arith, rw (c.page-in.ensures, c.before.before.before.before.before.loop.invariant.1, pages_more))
 
 returns : tie.Need-returns invariant-loop decreases-loop
 returns c = let end : c.before.loop.i ≡ 96 = omega arith in rw (c.before.loop.invariant.1, end)
 
-pub pages-in-spec : {M : Type 1} → statement M
-pages-in-spec =
+pub pages_in_spec : {M : Type 1} → statement M
+pages_in_spec =
     tie.close
     (tie.spec
     invariant-loop

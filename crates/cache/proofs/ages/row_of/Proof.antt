@@ -21,5 +21,5 @@ returns c = search rules
 returns-2 : tie.Need-returns-2
 returns-2 c = rw c.before.before.k.given.1
 
-pub row-of-spec : {M : Type 1} → statement M
-row-of-spec = tie.close (tie.spec enum_told enum-known-k cast-result add-result returns returns-2)
+pub row_of_spec : {M : Type 1} → statement M
+row_of_spec = tie.close (tie.spec enum_told enum-known-k cast-result add-result returns returns-2)

@@ -48,8 +48,8 @@ returns-3 c =
     let args = c.before.before.before.args in
     rw (le-leb (args.first * 8192 + args.len) (length args.arena.now) (omega arith), add-sub_cancel_left)
 
-pub run-bytes-spec : {M : Type 1} → statement M
-run-bytes-spec =
+pub run_bytes_spec : {M : Type 1} → statement M
+run_bytes_spec =
     tie.close
     (tie.spec
     slice-aggregate-result

@@ -12,5 +12,5 @@ element-copy-out-t5 c = search rules
 returns : tie.Need-returns
 returns c = rw c.before.ages-from.ensures
 
-pub uses-from-spec : {M : Type 1} → statement M
-uses-from-spec = tie.close (tie.spec ages-from-requires element-copy-out-t5 returns)
+pub uses_from_spec : {M : Type 1} → statement M
+uses_from_spec = tie.close (tie.spec ages-from-requires element-copy-out-t5 returns)

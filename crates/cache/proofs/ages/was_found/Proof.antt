@@ -1,11 +1,11 @@
 -- `cache::ages::was_found` meets its contract: each return by the tests before it.
 use Rattle.std.proofs.Common.{arith, rules, le-ltb, lt-ltb, eq-eqb, ne_eqb}
-use Rattle.cache.specs.Ages.{wasFound}
+use Rattle.cache.specs.Ages.{was_found}
 use Rattle.cache.proofs.ages.was_found.Statement.{statement}
 use Rattle.cache.proofs.ages.was_found.Tie as tie
 
 returns : tie.Need-returns
-unfolding wasFound
+unfolding was_found
 returns c = rw (le-ltb _ 96 c.if1.true)
 
 add-if2 : tie.Need-overflow-add-if2
@@ -18,7 +18,7 @@ element-copy-out-if2 : tie.Need-element-copy-out-if2
 element-copy-out-if2 c = search rules
 
 returns-2 : tie.Need-returns-2
-unfolding wasFound
+unfolding was_found
 returns-2 c = rw (lt-ltb c.before.before.before.args.i 96 (omega (arith, c.before.before.if1.false)), ne_eqb _ _ c.if2.true)
 
 add-if3 : tie.Need-overflow-add-if3
@@ -37,7 +37,7 @@ add-if3-2 : tie.Need-overflow-add-if3-2
 add-if3-2 c = search rules
 
 returns-3 : tie.Need-returns-3
-unfolding wasFound
+unfolding was_found
 returns-3 c =
     let marked = c.before.before.before in
     let low = lt-ltb marked.before.before.before.args.i 96 (omega (arith, marked.before.before.if1.false)) in
@@ -56,15 +56,15 @@ cast-result : tie.Need-overflow-cast-result
 cast-result c = search rules
 
 returns-4 : tie.Need-returns-4
-unfolding wasFound
+unfolding was_found
 returns-4 c =
     let rowed = c.before.before in
     let marked = rowed.before.before.before in
     let low = lt-ltb marked.before.before.before.args.i 96 (omega (arith, marked.before.before.if1.false)) in
     rw (low, eq-eqb _ _ marked.if2.false, eq-eqb _ _ rowed.if3.false)
 
-pub was-found-spec : {M : Type 1} → statement M
-was-found-spec =
+pub was_found_spec : {M : Type 1} → statement M
+was_found_spec =
     tie.close
     (tie.spec
     returns

@@ -35,8 +35,8 @@ returns-2 c =
     rw (← spanned.span.ensures, sym chosen.victim.ensures ∙ found.f.given.1)
     (rw (c.place.ensures, evicted.evict.ensures, spanned.span.ensures))
 
-pub begin-spec : {M : Type 1} → statement M
-begin-spec =
+pub begin_spec : {M : Type 1} → statement M
+begin_spec =
     tie.close
     (tie.spec
     span-requires

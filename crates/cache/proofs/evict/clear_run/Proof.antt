@@ -2,13 +2,13 @@
 -- clearing all of them from the start. Past the last page nothing is left to clear.
 use Rattle.std.proofs.Common.{◌≡◌, sym, refl, ◌∙◌, rules}
 use lib.ListN.{length-map}
-use Rattle.cache.specs.Evict.{clearRun}
-use Rattle.cache.proofs.Turns.{Full, full-one, clear-turn, clear_none, clear-past}
+use Rattle.cache.specs.Evict.{clear_run}
+use Rattle.cache.proofs.Turns.{Full, full_one, clear_turn, clear_none, clear_past}
 use Rattle.cache.proofs.evict.clear_run.Statement.{statement}
 use Rattle.cache.proofs.evict.clear_run.Tie as tie
 
 abbrev invariant-loop : tie.invariant-loop
-invariant-loop from n d₀ empty at₀ left₀ d at left = Full d × (clearRun left at d ≡ clearRun n from d₀)
+invariant-loop from n d₀ empty at₀ left₀ d at left = Full d × (clear_run left at d ≡ clear_run n from d₀)
 
 abbrev decreases-loop : tie.decreases-loop
 decreases-loop from n d₀ empty at₀ left₀ d at left = left
@@ -24,8 +24,8 @@ loop-holds c = (
 
 returns : tie.Need-returns invariant-loop decreases-loop
 returns c =
-    let at-loop = c.before.before.loop in
-    sym (clear-past at-loop.left at-loop.at at-loop.d at-loop.invariant.0 c.if1.true) ∙ at-loop.invariant.1
+    let at_loop = c.before.before.loop in
+    sym (clear_past at_loop.left at_loop.at at_loop.d at_loop.invariant.0 c.if1.true) ∙ at_loop.invariant.1
 
 mul-empty : tie.Need-overflow-mul-empty invariant-loop decreases-loop
 mul-empty c = search rules
@@ -50,18 +50,18 @@ loop-less c = search rules
 
 loop-again : tie.Need-loop-preserved invariant-loop decreases-loop
 loop-again c =
-    let at-loop = c.before.before.loop in (
-      full-one at-loop.at at-loop.d at-loop.invariant.0,
-      sym (clear-turn at-loop.left at-loop.at at-loop.d c.before.loop-test.true) ∙ at-loop.invariant.1,
+    let at_loop = c.before.before.loop in (
+      full_one at_loop.at at_loop.d at_loop.invariant.0,
+      sym (clear_turn at_loop.left at_loop.at at_loop.d c.before.loop-test.true) ∙ at_loop.invariant.1,
     )
 
 returns-2 : tie.Need-returns-2 invariant-loop decreases-loop
 returns-2 c =
-    let at-loop = c.before.loop in
-    sym (clear_none at-loop.left at-loop.at at-loop.d c.loop-test.false) ∙ at-loop.invariant.1
+    let at_loop = c.before.loop in
+    sym (clear_none at_loop.left at_loop.at at_loop.d c.loop-test.false) ∙ at_loop.invariant.1
 
-pub clear-run-spec : {M : Type 1} → statement M
-clear-run-spec =
+pub clear_run_spec : {M : Type 1} → statement M
+clear_run_spec =
     tie.close
     (tie.spec
     invariant-loop

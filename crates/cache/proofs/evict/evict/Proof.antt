@@ -3,7 +3,7 @@
 use Rattle.std.proofs.Common.{◌≡◌, sym, refl, ◌∙◌, rules}
 use lib.ListN.{length-map}
 use Rattle.cache.specs.Evict.{evicted}
-use Rattle.cache.proofs.Turns.{Full, full-page, evict-turn, evict-none, evict-past}
+use Rattle.cache.proofs.Turns.{Full, full_page, evict_turn, evict_none, evict_past}
 use Rattle.cache.proofs.evict.evict.Statement.{statement}
 use Rattle.cache.proofs.evict.evict.Tie as tie
 
@@ -24,8 +24,8 @@ loop-holds c = (
 
 returns : tie.Need-returns invariant-loop decreases-loop
 returns c =
-    let at-loop = c.before.before.loop in
-    sym (evict-past at-loop.left at-loop.at at-loop.d at-loop.invariant.0 c.if1.true) ∙ at-loop.invariant.1
+    let at_loop = c.before.before.loop in
+    sym (evict_past at_loop.left at_loop.at at_loop.d at_loop.invariant.0 c.if1.true) ∙ at_loop.invariant.1
 
 evict-page-requires : tie.Need-evict-page-requires invariant-loop decreases-loop
 evict-page-requires c κs = tt
@@ -41,18 +41,18 @@ loop-less c = search rules
 
 loop-again : tie.Need-loop-preserved invariant-loop decreases-loop
 loop-again c =
-    let at-loop = c.before.before.before.loop in (
-      rw c.evict-page.ensures (full-page at-loop.d at-loop.at at-loop.invariant.0),
-      rw c.evict-page.ensures (sym (evict-turn at-loop.left at-loop.at at-loop.d c.before.before.loop-test.true) ∙ at-loop.invariant.1),
+    let at_loop = c.before.before.before.loop in (
+      rw c.evict-page.ensures (full_page at_loop.d at_loop.at at_loop.invariant.0),
+      rw c.evict-page.ensures (sym (evict_turn at_loop.left at_loop.at at_loop.d c.before.before.loop-test.true) ∙ at_loop.invariant.1),
     )
 
 returns-2 : tie.Need-returns-2 invariant-loop decreases-loop
 returns-2 c =
-    let at-loop = c.before.loop in
-    sym (evict-none at-loop.left at-loop.at at-loop.d c.loop-test.false) ∙ at-loop.invariant.1
+    let at_loop = c.before.loop in
+    sym (evict_none at_loop.left at_loop.at at_loop.d c.loop-test.false) ∙ at_loop.invariant.1
 
-pub evict-spec : {M : Type 1} → statement M
-evict-spec =
+pub evict_spec : {M : Type 1} → statement M
+evict_spec =
     tie.close
     (tie.spec
     invariant-loop

@@ -1,5 +1,5 @@
 -- `cache::evict::evict_page` meets its contract, call by call.
-use Rattle.cache.specs.Evict.{evictedPage}
+use Rattle.cache.specs.Evict.{evicted_page}
 use Rattle.cache.proofs.evict.evict_page.Statement.{statement}
 use Rattle.cache.proofs.evict.evict_page.Tie as tie
 
@@ -22,7 +22,7 @@ clear-run-requires : tie.Need-clear-run-requires
 clear-run-requires c κs = tt
 
 returns : tie.Need-returns
-unfolding evictedPage
+unfolding evicted_page
 returns c =
     let room = c.before in
     let whole = room.before in
@@ -37,8 +37,8 @@ returns c =
       c.clear-run.ensures,
     )
 
-pub evict-page-spec : {M : Type 1} → statement M
-evict-page-spec =
+pub evict_page_spec : {M : Type 1} → statement M
+evict_page_spec =
     tie.close
     (tie.spec
     slot-at-requires

@@ -1,6 +1,6 @@
 -- `cache::evict::head_of` meets its contract: each return by the part that was matched.
 use Rattle.std.proofs.Common.{rules}
-use Rattle.cache.proofs.Turns.{head-self}
+use Rattle.cache.proofs.Turns.{head_self}
 use Rattle.cache.proofs.evict.head_of.Statement.{statement}
 use Rattle.cache.proofs.evict.head_of.Tie as tie
 
@@ -17,7 +17,7 @@ returns : tie.Need-returns
 returns c = search rules
 
 returns-2 : tie.Need-returns-2
-returns-2 c = rw c.enum_told.given.1 (head-self c.before.before.args.p c.before.before.args.s.key)
+returns-2 c = rw c.enum_told.given.1 (head_self c.before.before.args.p c.before.before.args.s.key)
 
-pub head-of-spec : {M : Type 1} → statement M
-head-of-spec = tie.close (tie.spec enum-known-part cast-result enum_told returns returns-2)
+pub head_of_spec : {M : Type 1} → statement M
+head_of_spec = tie.close (tie.spec enum-known-part cast-result enum_told returns returns-2)

@@ -2,13 +2,13 @@
 -- writing all of them from the start. Past the last page nothing is left to write.
 use Rattle.std.proofs.Common.{◌≡◌, length, sym, refl, ◌∙◌, arith, length-set, rules}
 use lib.ListN.{length-map}
-use Rattle.cache.specs.Evict.{pieceRun}
-use Rattle.cache.proofs.Turns.{piece-turn, piece-none, piece-past}
+use Rattle.cache.specs.Evict.{piece_run}
+use Rattle.cache.proofs.Turns.{piece_turn, piece_none, piece_past}
 use Rattle.cache.proofs.evict.piece_run.Statement.{statement}
 use Rattle.cache.proofs.evict.piece_run.Tie as tie
 
 abbrev invariant-loop : tie.invariant-loop
-invariant-loop head from n d₀ piece at₀ left₀ d at left = (length d.slots ≡ 96) × (pieceRun left at head d ≡ pieceRun n from head d₀)
+invariant-loop head from n d₀ piece at₀ left₀ d at left = (length d.slots ≡ 96) × (piece_run left at head d ≡ piece_run n from head d₀)
 
 abbrev decreases-loop : tie.decreases-loop
 decreases-loop head from n d₀ piece at₀ left₀ d at left = left
@@ -18,8 +18,8 @@ loop-holds c = (sym (length-map c.args.g.slots _) ∙ c.well-formed.0.1.1.0.1.0.
 
 returns : tie.Need-returns invariant-loop decreases-loop
 returns c =
-    let at-loop = c.before.before.loop in
-    sym (piece-past at-loop.left at-loop.at at-loop.d c.before.before.before.args.head (omega (arith, at-loop.invariant.0, c.if1.true))) ∙ at-loop.invariant.1
+    let at_loop = c.before.before.loop in
+    sym (piece_past at_loop.left at_loop.at at_loop.d c.before.before.before.args.head (omega (arith, at_loop.invariant.0, c.if1.true))) ∙ at_loop.invariant.1
 
 mul-piece : tie.Need-overflow-mul-piece invariant-loop decreases-loop
 mul-piece c = search rules
@@ -38,19 +38,19 @@ loop-less c = search rules
 
 loop-again : tie.Need-loop-preserved invariant-loop decreases-loop
 loop-again c =
-    let at-loop = c.before.before.loop in
+    let at_loop = c.before.before.loop in
     let head = c.before.before.before.args.head in (
-      rw length-set at-loop.invariant.0,
-      sym (piece-turn at-loop.left at-loop.at at-loop.d head c.before.loop-test.true) ∙ at-loop.invariant.1,
+      rw length-set at_loop.invariant.0,
+      sym (piece_turn at_loop.left at_loop.at at_loop.d head c.before.loop-test.true) ∙ at_loop.invariant.1,
     )
 
 returns-2 : tie.Need-returns-2 invariant-loop decreases-loop
 returns-2 c =
-    let at-loop = c.before.loop in
-    sym (piece-none at-loop.left at-loop.at at-loop.d c.before.before.args.head c.loop-test.false) ∙ at-loop.invariant.1
+    let at_loop = c.before.loop in
+    sym (piece_none at_loop.left at_loop.at at_loop.d c.before.before.args.head c.loop-test.false) ∙ at_loop.invariant.1
 
-pub piece-run-spec : {M : Type 1} → statement M
-piece-run-spec =
+pub piece_run_spec : {M : Type 1} → statement M
+piece_run_spec =
     tie.close
     (tie.spec
     invariant-loop

@@ -2,7 +2,7 @@
 use Rattle.std.proofs.Common.{◌≡◌, length, sym, ◌∙◌, arith, rules}
 use lib.ListN.{length-map}
 use Rattle.cache.proofs.RunLaws.{span_pos}
-use Rattle.cache.proofs.Turns.{place-past}
+use Rattle.cache.proofs.Turns.{place_past}
 use Rattle.cache.proofs.evict.place.Statement.{statement}
 use Rattle.cache.proofs.evict.place.Tie as tie
 
@@ -10,7 +10,7 @@ returns : tie.Need-returns
 returns c =
     let start = c.before in
     let size : length start.args.g.slots ≡ 96 = sym (length-map start.args.g.slots _) ∙ start.well-formed.0.1.1.0.1.0.1 in
-    sym (place-past start.args.g start.args.slot start.args.key start.args.len (omega (arith, c.if1.true)))
+    sym (place_past start.args.g start.args.slot start.args.key start.args.len (omega (arith, c.if1.true)))
 
 mul-t11 : tie.Need-overflow-mul-t11
 mul-t11 c = search rules
@@ -36,8 +36,8 @@ piece-run-requires c κs = tt
 returns-2 : tie.Need-returns-2
 returns-2 c = rw (c.piece-run.ensures, c.before.span.ensures)
 
-pub place-spec : {M : Type 1} → statement M
-place-spec =
+pub place_spec : {M : Type 1} → statement M
+place_spec =
     tie.close
     (tie.spec
     returns

@@ -18,5 +18,5 @@ sub-result c = search rules
 returns-3 : tie.Need-returns-3
 returns-3 c = rw (le-ltb _ _ c.if2.false)
 
-pub room-of-spec : {M : Type 1} → statement M
-room-of-spec = tie.close (tie.spec returns sub-if2 returns-2 sub-result returns-3)
+pub room_of_spec : {M : Type 1} → statement M
+room_of_spec = tie.close (tie.spec returns sub-if2 returns-2 sub-result returns-3)

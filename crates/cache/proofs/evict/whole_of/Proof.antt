@@ -18,5 +18,5 @@ returns c = rw (sym c.before.before.before.is-run.ensures ∙ c.before.before.if
 returns-2 : tie.Need-returns-2
 returns-2 c = rw (sym c.before.is-run.ensures ∙ c.if1.false)
 
-pub whole-of-spec : {M : Type 1} → statement M
-whole-of-spec = tie.close (tie.spec is-run-requires cast-span span-requires returns returns-2)
+pub whole_of_spec : {M : Type 1} → statement M
+whole_of_spec = tie.close (tie.spec is-run-requires cast-span span-requires returns returns-2)

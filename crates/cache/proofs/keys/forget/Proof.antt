@@ -29,5 +29,5 @@ returns c =
     (λ w. rw (w.1, cut, set_out ring.keys ring.next _ (omega (arith, w.0.left))))
     c.if1.branch
 
-pub forget-spec : {M : Type 1} → statement M
-forget-spec = tie.close (tie.spec mul-t8 element-set-from-d add-d returns)
+pub forget_spec : {M : Type 1} → statement M
+forget_spec = tie.close (tie.spec mul-t8 element-set-from-d add-d returns)

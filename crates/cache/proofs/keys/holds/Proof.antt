@@ -18,5 +18,5 @@ returns c = rw (c.same_key.ensures, c.before.before.m.given.1)
 returns-2 : tie.Need-returns-2
 returns-2 c = search rules
 
-pub holds-spec : {M : Type 1} → statement M
-holds-spec = tie.close (tie.spec enum-known-m same-key-requires enum_told returns returns-2)
+pub holds_spec : {M : Type 1} → statement M
+holds_spec = tie.close (tie.spec enum-known-m same-key-requires enum_told returns returns-2)

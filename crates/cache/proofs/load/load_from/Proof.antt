@@ -1,8 +1,8 @@
--- `cache::load::load_from` meets its contract: each return by the refusals tested before it, and the step over the lent pack by `from-steps`.
+-- `cache::load::load_from` meets its contract: each return by the refusals tested before it, and the step over the lent pack by `from_steps`.
 use Rattle.std.proofs.Common.{sym, ◌∙◌, rules}
 use borrow.Author.Tests.{not-true, not-false}
-use Rattle.cache.specs.Calls.{fetch, loadFrom}
-use Rattle.cache.proofs.FromLaws.{from-steps}
+use Rattle.cache.specs.Calls.{fetch, load_from}
+use Rattle.cache.proofs.FromLaws.{from_steps}
 use Rattle.cache.proofs.load.load_from.Statement.{statement}
 use Rattle.cache.proofs.load.load_from.Tie as tie
 
@@ -13,7 +13,7 @@ refused-requires : tie.Need-refused-requires
 refused-requires c κs = tt
 
 returns : tie.Need-returns
-unfolding loadFrom fetch
+unfolding load_from fetch
 returns c =
     let state = c.before in
     let bad = sym state.before.cache-ok.ensures ∙ not-true _ state.if1.true in
@@ -26,7 +26,7 @@ refused-requires-2 : tie.Need-refused-requires-2
 refused-requires-2 c κs = tt
 
 returns-2 : tie.Need-returns-2
-unfolding loadFrom fetch
+unfolding load_from fetch
 returns-2 c =
     let grid = c.before in
     let state = grid.before.before in
@@ -52,13 +52,13 @@ returns-3 c =
     let start = state.before.before.before.before in
     let ok = sym state.before.cache-ok.ensures ∙ not-false _ state.if1.false in
     let inside = sym grid.before.in-grid.ensures ∙ not-false _ grid.if2.false in
-    let steps = from-steps start.args.c start.args.arena.now start.args.header start.args.key start.args.pack.now ok inside in (
+    let steps = from_steps start.args.c start.args.arena.now start.args.header start.args.key start.args.pack.now ok inside in (
       rw (steps, ← step.next-step.ensures) last.stepped-from.ensures.0,
       rw (steps, ← step.next-step.ensures) last.stepped-from.ensures.1,
     )
 
-pub load-from-spec : {M : Type 1} → statement M
-load-from-spec =
+pub load_from_spec : {M : Type 1} → statement M
+load_from_spec =
     tie.close
     (tie.spec
     cache-ok-requires

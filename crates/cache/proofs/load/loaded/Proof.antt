@@ -53,8 +53,8 @@ returns-3 c =
       rw (← step.next-step.ensures, fit, inside) last.stepped.ensures.1,
     )
 
-pub loaded-spec : {M : Type 1} → statement M
-loaded-spec =
+pub loaded_spec : {M : Type 1} → statement M
+loaded_spec =
     tie.close
     (tie.spec
     next-step-requires

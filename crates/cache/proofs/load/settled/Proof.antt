@@ -1,7 +1,7 @@
--- `cache::load::settled` meets its contract: each return by whether the key lies in the grid, and the step by `unread-steps`.
+-- `cache::load::settled` meets its contract: each return by whether the key lies in the grid, and the step by `unread_steps`.
 use Rattle.std.proofs.Common.{sym, ◌∙◌}
 use borrow.Author.Tests.{not-true, not-false}
-use Rattle.cache.proofs.UnreadLaws.{unread-steps}
+use Rattle.cache.proofs.UnreadLaws.{unread_steps}
 use Rattle.cache.proofs.load.settled.Statement.{statement}
 use Rattle.cache.proofs.load.settled.Tie as tie
 
@@ -29,7 +29,7 @@ returns-2 c =
     let start = grid.before.before.before in
     let inside = sym grid.before.in-grid.ensures ∙ not-false _ grid.if1.false in
     rw (c.unread-step.ensures, step.next-step.ensures)
-    (sym (unread-steps start.args.c start.args.arena.now start.args.header start.args.key inside))
+    (sym (unread_steps start.args.c start.args.arena.now start.args.header start.args.key inside))
 
-pub settled-spec : {M : Type 1} → statement M
-settled-spec = tie.close (tie.spec in-grid-requires refused-requires returns next-step-requires unread-step-requires returns-2)
+pub settled_spec : {M : Type 1} → statement M
+settled_spec = tie.close (tie.spec in-grid-requires refused-requires returns next-step-requires unread-step-requires returns-2)

@@ -33,8 +33,8 @@ returns-4 c = rw c.before.landed.given.1
 returns-5 : tie.Need-returns-5
 returns-5 c = rw (c.before.before.before.landed2.given.1, sym c.before.passes.ensures ∙ c.if1.false)
 
-pub checked-spec : {M : Type 1} → statement M
-checked-spec =
+pub checked_spec : {M : Type 1} → statement M
+checked_spec =
     tie.close
     (tie.spec
     enum_told

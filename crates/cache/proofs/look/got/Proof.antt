@@ -60,8 +60,8 @@ returns-4 c =
       sym c.before.passes.ensures ∙ c.if1.false,
     )
 
-pub got-spec : {M : Type 1} → statement M
-got-spec =
+pub got_spec : {M : Type 1} → statement M
+got_spec =
     tie.close
     (tie.spec
     lands-on-requires

@@ -37,8 +37,8 @@ returns-3 c =
     let found = run.before.before.before in
     rw (sym found.before.before.lands-on.ensures ∙ found.i.given.1, ← run.slot-at.ensures)
 
-pub landed-spec : {M : Type 1} → statement M
-landed-spec =
+pub landed_spec : {M : Type 1} → statement M
+landed_spec =
     tie.close
     (tie.spec
     lands-on-requires

@@ -47,8 +47,8 @@ returns-3 c =
     let args = c.before.before.before.before.before.args in
     rw (le-leb (args.first * 8192 + args.len) (length args.arena.now) (omega arith), c.accepts.ensures, part)
 
-pub passes-spec : {M : Type 1} → statement M
-passes-spec =
+pub passes_spec : {M : Type 1} → statement M
+passes_spec =
     tie.close
     (tie.spec
     returns

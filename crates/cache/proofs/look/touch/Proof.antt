@@ -24,5 +24,5 @@ returns-2 c =
     let size : length used ≡ 96 = sym (length-map used _) ∙ start.well-formed.0.1.1.0.1.1.1.0.1.0.1 in
     rw (c.before.before.wrapping-add-u32.ensures, set_out used start.args.i _ (omega (arith, c.if1.false)))
 
-pub touch-spec : {M : Type 1} → statement M
-touch-spec = tie.close (tie.spec wrapping-add-u32-requires set-age-requires returns returns-2)
+pub touch_spec : {M : Type 1} → statement M
+touch_spec = tie.close (tie.spec wrapping-add-u32-requires set-age-requires returns returns-2)

@@ -21,6 +21,6 @@ returns-2 c = search rules
 returns-3 : tie.Need-returns-3
 returns-3 c = rw (c.before.before.before.loading.given.1, sym c.before.same_key.ensures ∙ c.if1.false)
 
-pub next-read-spec : {M : Type 1} → statement M
-next-read-spec =
+pub next_read_spec : {M : Type 1} → statement M
+next_read_spec =
     tie.close (tie.spec enum_told enum-known-loading same-key-requires returns returns-2 returns-3)

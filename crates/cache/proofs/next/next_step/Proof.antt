@@ -1,6 +1,6 @@
 -- `cache::next::next_step` meets its contract: each return by what the lookup landed on.
 use Rattle.std.proofs.Common.{sym, ◌∙◌, rules, eq-eqb, ne_eqb}
-use Rattle.cache.specs.Lookups.{nextStep}
+use Rattle.cache.specs.Lookups.{next_step}
 use Rattle.cache.proofs.next.next_step.Statement.{statement}
 use Rattle.cache.proofs.next.next_step.Tie as tie
 
@@ -17,7 +17,7 @@ enum-told-2 : tie.Need-enum-told-2
 enum-told-2 c = search rules
 
 returns : tie.Need-returns
-unfolding nextStep
+unfolding next_step
 returns c =
     let absent = c.before.before.before in
     rw (sym absent.before.before.lands-on.ensures ∙ absent.enum-told2.given.1, eq-eqb _ _ c.if1.true)
@@ -26,15 +26,15 @@ next-read-requires : tie.Need-next-read-requires
 next-read-requires c κs = tt
 
 returns-2 : tie.Need-returns-2
-unfolding nextStep
+unfolding next_step
 returns-2 c = rw (sym c.before.before.before.lands-on.ensures ∙ c.before.i.given.1)
 
 returns-3 : tie.Need-returns-3
-unfolding nextStep
+unfolding next_step
 returns-3 c = rw (sym c.before.before.lands-on.ensures ∙ c.enum_told.given.1)
 
 returns-4 : tie.Need-returns-4
-unfolding nextStep
+unfolding next_step
 returns-4 c =
     let absent = c.before.before.before.before in
     rw (
@@ -43,8 +43,8 @@ returns-4 c =
       c.next-read.ensures,
     )
 
-pub next-step-spec : {M : Type 1} → statement M
-next-step-spec =
+pub next_step_spec : {M : Type 1} → statement M
+next_step_spec =
     tie.close
     (tie.spec
     lands-on-requires

@@ -29,5 +29,5 @@ returns-2 : tie.Need-returns-2
 unfolding after
 returns-2 c = rw (sym c.before.is-run.ensures ∙ c.if1.false)
 
-pub after-spec : {M : Type 1} → statement M
-after-spec = tie.close (tie.spec is-run-requires cast-span span-requires add-t7 returns returns-2)
+pub after_spec : {M : Type 1} → statement M
+after_spec = tie.close (tie.spec is-run-requires cast-span span-requires add-t7 returns returns-2)

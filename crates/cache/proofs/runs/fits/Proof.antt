@@ -74,8 +74,8 @@ returns-6 c =
     let key = c.before in
     rw (key.before.before.enum-told3.given.1, key.enum-told5.given.1)
 
-pub fits-spec : {M : Type 1} → statement M
-fits-spec =
+pub fits_spec : {M : Type 1} → statement M
+fits_spec =
     tie.close
     (tie.spec
     enum-known-part

@@ -18,5 +18,5 @@ returns-2 : tie.Need-returns-2
 unfolding span
 returns-2 c = refl
 
-pub span-spec : {M : Type 1} → statement M
-span-spec = tie.close (tie.spec returns sub-result add-result returns-2)
+pub span_spec : {M : Type 1} → statement M
+span_spec = tie.close (tie.spec returns sub-result add-result returns-2)

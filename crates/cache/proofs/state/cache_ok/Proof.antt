@@ -2,7 +2,7 @@
 -- their bytes are no more than its bytes.
 use Rattle.std.proofs.Common.{sym, ◌∙◌}
 use borrow.Author.Tests.{not-true, not-false}
-use Rattle.cache.specs.State.{cacheOk}
+use Rattle.cache.specs.State.{cache_ok}
 use Rattle.cache.proofs.RunLaws.{room}
 use Rattle.cache.proofs.state.cache_ok.Statement.{statement}
 use Rattle.cache.proofs.state.cache_ok.Tie as tie
@@ -11,14 +11,14 @@ state-ok-requires : tie.Need-state-ok-requires
 state-ok-requires c κs = tt
 
 returns : tie.Need-returns
-unfolding cacheOk
+unfolding cache_ok
 returns c = rw (sym c.before.state-ok.ensures ∙ not-true _ c.if1.true)
 
 rules-requires : tie.Need-rules-requires
 rules-requires c κs = tt
 
 returns-2 : tie.Need-returns-2
-unfolding cacheOk
+unfolding cache_ok
 returns-2 c =
     let state = c.before.before in
     rw (
@@ -30,7 +30,7 @@ entry-in-requires : tie.Need-entry-in-requires
 entry-in-requires c κs = tt
 
 returns-3 : tie.Need-returns-3
-unfolding cacheOk
+unfolding cache_ok
 returns-3 c =
     let rules = c.before.before in
     let state = rules.before.before in
@@ -41,7 +41,7 @@ returns-3 c =
     )
 
 returns-4 : tie.Need-returns-4
-unfolding cacheOk
+unfolding cache_ok
 returns-4 c =
     let entry = c.before.before in
     let rules = entry.before.before in
@@ -53,5 +53,5 @@ returns-4 c =
       room,
     )
 
-pub cache-ok-spec : {M : Type 1} → statement M
-cache-ok-spec = tie.close (tie.spec state-ok-requires returns rules-requires returns-2 entry-in-requires returns-3 returns-4)
+pub cache_ok_spec : {M : Type 1} → statement M
+cache_ok_spec = tie.close (tie.spec state-ok-requires returns rules-requires returns-2 entry-in-requires returns-3 returns-4)

@@ -15,5 +15,5 @@ returns c =
     let placed = c.before.before.before in
     rw (placed.before.empty-slot.ensures, placed.empty-place.ensures)
 
-pub cleared-spec : {M : Type 1} → statement M
-cleared-spec = tie.close (tie.spec empty-slot-requires empty-place-requires returns)
+pub cleared_spec : {M : Type 1} → statement M
+cleared_spec = tie.close (tie.spec empty-slot-requires empty-place-requires returns)

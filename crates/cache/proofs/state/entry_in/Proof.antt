@@ -30,8 +30,8 @@ returns-3 c = rw (c.in-grid.ensures, c.before.before.pending.given.1)
 returns-4 : tie.Need-returns-4
 returns-4 c = search rules
 
-pub entry-in-spec : {M : Type 1} → statement M
-entry-in-spec =
+pub entry_in_spec : {M : Type 1} → statement M
+entry_in_spec =
     tie.close
     (tie.spec
     enum_told

@@ -13,5 +13,5 @@ returns : tie.Need-returns
 unfolding fresh
 returns c = rw (c.before.empty-slot.ensures, c.empty-place.ensures)
 
-pub fresh-spec : {M : Type 1} → statement M
-fresh-spec = tie.close (tie.spec empty-slot-requires empty-place-requires returns)
+pub fresh_spec : {M : Type 1} → statement M
+fresh_spec = tie.close (tie.spec empty-slot-requires empty-place-requires returns)

@@ -18,6 +18,6 @@ returns c = rw (c.tile-loads.ensures, c.before.before.loading.given.1)
 returns-2 : tie.Need-returns-2
 returns-2 c = search rules
 
-pub load-ok-spec : {M : Type 1} → statement M
-load-ok-spec =
+pub load_ok_spec : {M : Type 1} → statement M
+load_ok_spec =
     tie.close (tie.spec enum-known-loading tile-loads-requires enum_told returns returns-2)

@@ -33,8 +33,8 @@ returns-3 c = rw (c.wants-entry.ensures, c.before.before.pending.given.1)
 returns-4 : tie.Need-returns-4
 returns-4 c = rw (c.wants-chunk.ensures, c.before.enum-told3.given.1)
 
-pub pending-ok-spec : {M : Type 1} → statement M
-pending-ok-spec =
+pub pending_ok_spec : {M : Type 1} → statement M
+pending_ok_spec =
     tie.close
     (tie.spec
     enum_told

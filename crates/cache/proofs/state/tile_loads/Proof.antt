@@ -1,7 +1,7 @@
 -- `cache::state::tile_loads` meets its contract: each return by the tests before it.
 use Rattle.std.proofs.Common.{sym, ◌∙◌, rules, eq-eqb, ne_eqb}
 use borrow.Author.Tests.{not-true, not-false}
-use Rattle.cache.specs.State.{tileLoads}
+use Rattle.cache.specs.State.{tile_loads}
 use Rattle.cache.proofs.state.tile_loads.Statement.{statement}
 use Rattle.cache.proofs.state.tile_loads.Tie as tie
 
@@ -12,14 +12,14 @@ is-run-requires : tie.Need-is-run-requires
 is-run-requires c κs = tt
 
 returns : tie.Need-returns
-unfolding tileLoads
+unfolding tile_loads
 returns c = rw (← c.before.before.slot-at.ensures, sym c.before.is-run.ensures ∙ not-true _ c.if1.true)
 
 holds-requires : tie.Need-holds-requires
 holds-requires c κs = tt
 
 returns-2 : tie.Need-returns-2
-unfolding tileLoads
+unfolding tile_loads
 returns-2 c =
     let run = c.before.before in
     rw (
@@ -32,7 +32,7 @@ cast-if3 : tie.Need-overflow-cast-if3
 cast-if3 c = search rules
 
 returns-3 : tie.Need-returns-3
-unfolding tileLoads
+unfolding tile_loads
 returns-3 c =
     let held = c.before.before.before in
     let run = held.before.before in
@@ -44,7 +44,7 @@ returns-3 c =
     )
 
 returns-4 : tie.Need-returns-4
-unfolding tileLoads
+unfolding tile_loads
 returns-4 c =
     let long = c.before in
     let held = long.before.before.before in
@@ -58,7 +58,7 @@ returns-4 c =
     )
 
 returns-5 : tie.Need-returns-5
-unfolding tileLoads
+unfolding tile_loads
 returns-5 c =
     let loading = c.before in
     let long = loading.before in
@@ -72,8 +72,8 @@ returns-5 c =
       loading.if4.false,
     )
 
-pub tile-loads-spec : {M : Type 1} → statement M
-tile-loads-spec =
+pub tile_loads_spec : {M : Type 1} → statement M
+tile_loads_spec =
     tie.close
     (tie.spec
     slot-at-requires

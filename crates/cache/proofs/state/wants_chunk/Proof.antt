@@ -5,13 +5,13 @@ use Rattle.cache.specs.declared.Loading.{Loading}
 use Rattle.cache.specs.declared.MaybeLoading.{MaybeLoading}
 use Rattle.cache.specs.declared.MaybeLoading.TheVariants as MaybeLoading
 use Rattle.cache.specs.declared.next.Next.{Next}
-use Rattle.cache.specs.Lookups.{nextStep}
-use Rattle.cache.specs.State.{isChunk, wantsChunkOf, wantsChunk}
+use Rattle.cache.specs.Lookups.{next_step}
+use Rattle.cache.specs.State.{is_chunk, wants_chunk_of, wants_chunk}
 use Rattle.cache.proofs.state.wants_chunk.Statement.{statement}
 use Rattle.cache.proofs.state.wants_chunk.Tie as tie
 
-by_next : (c : Cache) (l : Loading) {n : Next} → c.loading ≡ MaybeLoading.Tile l → nextStep c l.key ≡ n → isChunk n ≡ wantsChunk c
-by_next c l e q = sym (ap (λ (m : MaybeLoading). wantsChunkOf m c) e ∙ ap isChunk q)
+by_next : (c : Cache) (l : Loading) {n : Next} → c.loading ≡ MaybeLoading.Tile l → next_step c l.key ≡ n → is_chunk n ≡ wants_chunk c
+by_next c l e q = sym (ap (λ (m : MaybeLoading). wants_chunk_of m c) e ∙ ap is_chunk q)
 
 enum_told : tie.Need-enum-told
 enum_told c = search rules
@@ -70,8 +70,8 @@ returns-6 c =
     let load = next.before.before in
     by_next load.before.before.args.c _ load.loading.given.1 (sym next.next-step.ensures ∙ c.enum-told6.given.1)
 
-pub wants-chunk-spec : {M : Type 1} → statement M
-wants-chunk-spec =
+pub wants_chunk_spec : {M : Type 1} → statement M
+wants_chunk_spec =
     tie.close
     (tie.spec
     enum_told

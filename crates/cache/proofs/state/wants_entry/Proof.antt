@@ -36,8 +36,8 @@ returns-4 c = rw (sym c.before.before.next-step.ensures ∙ c.enum-told4.given.1
 returns-5 : tie.Need-returns-5
 returns-5 c = rw (sym c.before.before.next-step.ensures ∙ c.enum-told5.given.1)
 
-pub wants-entry-spec : {M : Type 1} → statement M
-wants-entry-spec =
+pub wants_entry_spec : {M : Type 1} → statement M
+wants_entry_spec =
     tie.close
     (tie.spec
     next-step-requires

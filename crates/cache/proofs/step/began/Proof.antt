@@ -55,8 +55,8 @@ returns-3 c =
     let begun = found.before.before in
     rw (le-ltb _ _ begun.before.before.if1.false, ← begun.begin.ensures, found.at.given.1, c.moved.ensures)
 
-pub began-spec : {M : Type 1} → statement M
-began-spec =
+pub began_spec : {M : Type 1} → statement M
+began_spec =
     tie.close
     (tie.spec
     forgot-requires

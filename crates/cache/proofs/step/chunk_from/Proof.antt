@@ -1,7 +1,7 @@
 -- `step::chunk_from` meets its contract: each return by whether the pack has the chunk's bytes.
 use Rattle.std.proofs.Common.{sym, ◌∙◌, arith, rules}
 use Rattle.pack.proofs.Laws.{read_at}
-use Rattle.cache.proofs.StepLaws.{read-there, read-part, read_past}
+use Rattle.cache.proofs.StepLaws.{read_there, read_part, read_past}
 use Rattle.cache.proofs.step.chunk_from.Statement.{statement}
 use Rattle.cache.proofs.step.chunk_from.Tie as tie
 
@@ -57,8 +57,8 @@ returns c =
     let read = found.before.before in
     let offset = read.before in
     let at = sym read.read.ensures ∙ found.a.given.1 in
-    let there = read-there _ _ _ at in
-    let part = read-part _ _ _ at in
+    let there = read_there _ _ _ at in
+    let part = read_part _ _ _ at in
     let step = c.before.before.chunk-step in (
       rw (← offset.before.chunk-len.ensures, ← offset.chunk-offset.ensures, there, ← part) step.ensures.0,
       rw (← offset.before.chunk-len.ensures, ← offset.chunk-offset.ensures, there, ← part) step.ensures.1,
@@ -78,8 +78,8 @@ returns-2 c =
       rw (← offset.before.chunk-len.ensures, ← offset.chunk-offset.ensures, past) step.ensures.1,
     )
 
-pub chunk-from-spec : {M : Type 1} → statement M
-chunk-from-spec =
+pub chunk_from_spec : {M : Type 1} → statement M
+chunk_from_spec =
     tie.close
     (tie.spec
     chunk-len-requires

@@ -1,8 +1,8 @@
 -- `step::chunk_step` meets its contract: each return by the tests that led there; the arena is as `put` left it, or untouched. Assumes
 -- nothing.
 use Rattle.std.proofs.Common.{arith, rules, le-ltb, lt-ltb, eq-eqb, ne_eqb}
-use Rattle.cache.specs.Loads.{chunkStep}
-use Rattle.cache.proofs.StepLaws.{chunk-less}
+use Rattle.cache.specs.Loads.{chunk_step}
+use Rattle.cache.proofs.StepLaws.{chunk_less}
 use Rattle.cache.proofs.step.chunk_step.Statement.{statement}
 use Rattle.cache.proofs.step.chunk_step.Tie as tie
 
@@ -13,7 +13,7 @@ failed-requires : tie.Need-failed-requires
 failed-requires c κs = tt
 
 returns : tie.Need-returns
-unfolding chunkStep
+unfolding chunk_step
 returns c =
     let failed = ne_eqb _ _ c.before.before.if1.true in
     (rw (failed, c.failed.ensures, c.before.dropped.ensures), rw failed)
@@ -29,7 +29,7 @@ add-come c =
     let sized = c.before in
     let put = sized.before.before.before in
     let start = put.before.before.before.before.before in
-    omega (arith, c.struct_known.given, sized.chunk-len.ensures, chunk-less start.args.l)
+    omega (arith, c.struct_known.given, sized.chunk-len.ensures, chunk_less start.args.l)
 
 further-requires : tie.Need-further-requires
 further-requires c κs = tt
@@ -38,7 +38,7 @@ same_length : tie.Need-same-length
 same_length c = search rules
 
 returns-2 : tie.Need-returns-2
-unfolding chunkStep
+unfolding chunk_step
 returns-2 c =
     let sized = c.before.before.before.before in
     let put = sized.before.before.before in
@@ -56,7 +56,7 @@ same-length-2 : tie.Need-same-length-2
 same-length-2 c = search rules
 
 returns-3 : tie.Need-returns-3
-unfolding chunkStep
+unfolding chunk_step
 returns-3 c =
     let last = c.before.before.before in
     let sized = last.before.before.before in
@@ -67,8 +67,8 @@ returns-3 c =
       rw (came, ← sized.chunk-len.ensures, whole) put.put.ensures,
     )
 
-pub chunk-step-spec : {M : Type 1} → statement M
-chunk-step-spec =
+pub chunk_step_spec : {M : Type 1} → statement M
+chunk_step_spec =
     tie.close
     (tie.spec
     dropped-requires

@@ -19,5 +19,5 @@ refused-requires c κs = tt
 returns-2 : tie.Need-returns-2
 returns-2 c = rw (lt-leb _ _ c.before.if1.false, c.refused.ensures)
 
-pub chunk-unread-spec : {M : Type 1} → statement M
-chunk-unread-spec = tie.close (tie.spec ended-requires done-requires returns refused-requires returns-2)
+pub chunk_unread_spec : {M : Type 1} → statement M
+chunk_unread_spec = tie.close (tie.spec ended-requires done-requires returns refused-requires returns-2)

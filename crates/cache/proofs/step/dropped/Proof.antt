@@ -27,8 +27,8 @@ returns-2 : tie.Need-returns-2
 unfolding moved dropped
 returns-2 c = rw (c.moved2.ensures, c.before.evict.ensures, c.before.before.before.loading.given.1)
 
-pub dropped-spec : {M : Type 1} → statement M
-dropped-spec =
+pub dropped_spec : {M : Type 1} → statement M
+dropped_spec =
     tie.close
     (tie.spec
     enum_told

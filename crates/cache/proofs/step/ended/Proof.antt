@@ -28,8 +28,8 @@ returns c =
     rw (c.ended-loads.ensures, c.before.withdrawn.ensures, c.before.before.ended-ring.ensures, c.before.before.before.before.ended-pages.ensures, c.before.before.before.before.before.passes.ensures)
     (ended-parts args.c args.arena.now args.l args.size)
 
-pub ended-spec : {M : Type 1} → statement M
-ended-spec =
+pub ended_spec : {M : Type 1} → statement M
+ended_spec =
     tie.close
     (tie.spec
     cast-passes

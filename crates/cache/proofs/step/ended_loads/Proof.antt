@@ -12,5 +12,5 @@ returns c = rw (c.wrapping-add-u32.ensures, c.before.if1.true)
 returns-2 : tie.Need-returns-2
 returns-2 c = rw c.if1.false
 
-pub ended-loads-spec : {M : Type 1} → statement M
-ended-loads-spec = tie.close (tie.spec wrapping-add-u32-requires returns returns-2)
+pub ended_loads_spec : {M : Type 1} → statement M
+ended_loads_spec = tie.close (tie.spec wrapping-add-u32-requires returns returns-2)

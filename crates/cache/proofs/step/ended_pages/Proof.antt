@@ -15,5 +15,5 @@ without-run-requires c κs = search rules
 returns-2 : tie.Need-returns-2
 returns-2 c = rw (c.without-run.ensures, c.before.if1.false)
 
-pub ended-pages-spec : {M : Type 1} → statement M
-ended-pages-spec = tie.close (tie.spec ready-pages-requires returns without-run-requires returns-2)
+pub ended_pages_spec : {M : Type 1} → statement M
+ended_pages_spec = tie.close (tie.spec ready-pages-requires returns without-run-requires returns-2)

@@ -12,5 +12,5 @@ forget-requires c κs = search rules
 returns-2 : tie.Need-returns-2
 returns-2 c = rw (c.forget.ensures, c.before.if1.false)
 
-pub ended-ring-spec : {M : Type 1} → statement M
-ended-ring-spec = tie.close (tie.spec returns forget-requires returns-2)
+pub ended_ring_spec : {M : Type 1} → statement M
+ended_ring_spec = tie.close (tie.spec returns forget-requires returns-2)

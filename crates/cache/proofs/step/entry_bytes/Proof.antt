@@ -40,8 +40,8 @@ returns c =
       c.byte-at8.ensures,
     )
 
-pub entry-bytes-spec : {M : Type 1} → statement M
-entry-bytes-spec =
+pub entry_bytes_spec : {M : Type 1} → statement M
+entry_bytes_spec =
     tie.close
     (tie.spec
     byte-at-requires

@@ -1,7 +1,7 @@
 -- `step::entry_from` meets its contract: each return by whether the pack has the entry's bytes.
 use Rattle.std.proofs.Common.{sym, ◌∙◌, arith, rules}
 use Rattle.pack.proofs.Laws.{read_at}
-use Rattle.cache.proofs.StepLaws.{read-there, read-part, read_past}
+use Rattle.cache.proofs.StepLaws.{read_there, read_part, read_past}
 use Rattle.cache.proofs.step.entry_from.Statement.{statement}
 use Rattle.cache.proofs.step.entry_from.Tie as tie
 
@@ -43,7 +43,7 @@ returns c =
     let found = c.before.before.before in
     let read = found.before.before in
     let at = sym read.read.ensures ∙ found.a.given.1 in
-    rw (← read.before.entry-of.ensures, read-there _ _ _ at, ← read-part _ _ _ at) c.entry-step.ensures
+    rw (← read.before.entry-of.ensures, read_there _ _ _ at, ← read_part _ _ _ at) c.entry-step.ensures
 
 returns-2 : tie.Need-returns-2
 returns-2 c =
@@ -52,8 +52,8 @@ returns-2 c =
     let past = read_past _ _ _ (sym read.read.ensures ∙ found.enum_told.given.1) in
     rw (← read.before.entry-of.ensures, past) c.entry-step2.ensures
 
-pub entry-from-spec : {M : Type 1} → statement M
-entry-from-spec =
+pub entry_from_spec : {M : Type 1} → statement M
+entry_from_spec =
     tie.close
     (tie.spec
     entry-of-requires

@@ -1,8 +1,8 @@
 -- `step::entry_step` meets its contract: each return by what the entry locates, which is read alike from the bytes and from the array of
 -- them.
 use Rattle.std.proofs.Common.{sym, ◌∙◌, rules, eq-eqb, ne_eqb}
-use Rattle.cache.specs.Loads.{entryStep}
-use Rattle.cache.proofs.StepLaws.{locate-read}
+use Rattle.cache.specs.Loads.{entry_step}
+use Rattle.cache.proofs.StepLaws.{locate_read}
 use Rattle.cache.proofs.step.entry_step.Statement.{statement}
 use Rattle.cache.proofs.step.entry_step.Tie as tie
 
@@ -13,7 +13,7 @@ failed-requires : tie.Need-failed-requires
 failed-requires c κs = tt
 
 returns : tie.Need-returns
-unfolding entryStep
+unfolding entry_step
 returns c = rw (ne_eqb _ _ c.before.if1.true, c.failed.ensures, c.before.before.dropped.ensures)
 
 entry-bytes-requires : tie.Need-entry-bytes-requires
@@ -44,13 +44,13 @@ began-requires : tie.Need-began-requires
 began-requires c κs = tt
 
 returns-2 : tie.Need-returns-2
-unfolding entryStep
+unfolding entry_step
 returns-2 c =
     let located = c.before.before.before.before in
     let entry = located.before.before in
     let came = entry.before in
     let start = came.before.before.before in
-    let at = locate-read start.args.header start.args.bytes.now entry.entry-bytes.ensures located.locate-of.ensures in
+    let at = locate_read start.args.header start.args.bytes.now entry.entry-bytes.ensures located.locate-of.ensures in
     rw (
       eq-eqb _ _ came.if1.false,
       sym at ∙ c.before.before.enum_told.given.1,
@@ -60,27 +60,27 @@ returns-2 c =
     )
 
 returns-3 : tie.Need-returns-3
-unfolding entryStep
+unfolding entry_step
 returns-3 c =
     let located = c.before.before.before.before in
     let entry = located.before.before in
     let came = entry.before in
     let start = came.before.before.before in
-    let at = locate-read start.args.header start.args.bytes.now entry.entry-bytes.ensures located.locate-of.ensures in
+    let at = locate_read start.args.header start.args.bytes.now entry.entry-bytes.ensures located.locate-of.ensures in
     rw (eq-eqb _ _ came.if1.false, sym at ∙ c.before.before.n.given.1, c.failed2.ensures, came.before.dropped.ensures)
 
 returns-4 : tie.Need-returns-4
-unfolding entryStep
+unfolding entry_step
 returns-4 c =
     let located = c.before.before.before.before in
     let entry = located.before.before in
     let came = entry.before in
     let start = came.before.before.before in
-    let at = locate-read start.args.header start.args.bytes.now entry.entry-bytes.ensures located.locate-of.ensures in
+    let at = locate_read start.args.header start.args.bytes.now entry.entry-bytes.ensures located.locate-of.ensures in
     rw (eq-eqb _ _ came.if1.false, sym at ∙ c.before.before.offset.given.1, c.began.ensures, came.before.dropped.ensures)
 
-pub entry-step-spec : {M : Type 1} → statement M
-entry-step-spec =
+pub entry_step_spec : {M : Type 1} → statement M
+entry_step_spec =
     tie.close
     (tie.spec
     dropped-requires

@@ -63,8 +63,8 @@ returns-6 c =
     let ready = slot.before.before.before in
     rw (ready.n2.given.1, ← slot.slot-at.ensures, sym c.before.passes.ensures ∙ c.if1.false)
 
-pub fetched-spec : {M : Type 1} → statement M
-fetched-spec =
+pub fetched_spec : {M : Type 1} → statement M
+fetched_spec =
     tie.close
     (tie.spec
     enum_told

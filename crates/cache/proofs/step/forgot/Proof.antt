@@ -13,5 +13,5 @@ returns : tie.Need-returns
 unfolding forgot
 returns c = rw (c.before.before.forget.ensures, c.withdrawn.ensures)
 
-pub forgot-spec : {M : Type 1} → statement M
-forgot-spec = tie.close (tie.spec forget-requires withdrawn-requires returns)
+pub forgot_spec : {M : Type 1} → statement M
+forgot_spec = tie.close (tie.spec forget-requires withdrawn-requires returns)

@@ -10,5 +10,5 @@ returns : tie.Need-returns
 unfolding further
 returns c = c.moved.ensures
 
-pub further-spec : {M : Type 1} → statement M
-further-spec = tie.close (tie.spec moved-requires returns)
+pub further_spec : {M : Type 1} → statement M
+further_spec = tie.close (tie.spec moved-requires returns)

@@ -10,5 +10,5 @@ returns : tie.Need-returns
 unfolding moved
 returns c = rw c.withdrawn.ensures
 
-pub moved-spec : {M : Type 1} → statement M
-moved-spec = tie.close (tie.spec withdrawn-requires returns)
+pub moved_spec : {M : Type 1} → statement M
+moved_spec = tie.close (tie.spec withdrawn-requires returns)

@@ -39,8 +39,8 @@ returns-4 c = search rules
 returns-5 : tie.Need-returns-5
 returns-5 c = rw (c.before.before.n.given.1, c.chunk-len.ensures)
 
-pub read-len-spec : {M : Type 1} → statement M
-read-len-spec =
+pub read_len_spec : {M : Type 1} → statement M
+read_len_spec =
     tie.close
     (tie.spec
     enum_told

@@ -35,8 +35,8 @@ element-write-d c = search rules
 returns-2 : tie.Need-returns-2
 returns-2 c = rw c.before.before.wrapping-add-u32.ensures
 
-pub ready-pages-spec : {M : Type 1} → statement M
-ready-pages-spec =
+pub ready_pages_spec : {M : Type 1} → statement M
+ready_pages_spec =
     tie.close
     (tie.spec
     wrapping-add-u32-requires

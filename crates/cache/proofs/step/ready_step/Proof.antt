@@ -33,8 +33,8 @@ returns-2 c =
     let slot = failed.before.before.before in
     rw (← slot.slot-at.ensures, sym failed.before.passes.ensures ∙ failed.if1.false) c.refused.ensures
 
-pub ready-step-spec : {M : Type 1} → statement M
-ready-step-spec =
+pub ready_step_spec : {M : Type 1} → statement M
+ready_step_spec =
     tie.close
     (tie.spec
     slot-at-requires

@@ -60,8 +60,8 @@ same-length-2 c = search rules
 returns-5 : tie.Need-returns-5
 returns-5 c = let step = c.before.before.before.n2.given.1 in (rw (step, c.ready-step.ensures), rw step)
 
-pub stepped-spec : {M : Type 1} → statement M
-stepped-spec =
+pub stepped_spec : {M : Type 1} → statement M
+stepped_spec =
     tie.close
     (tie.spec
     enum_told

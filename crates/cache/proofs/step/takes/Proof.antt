@@ -24,7 +24,7 @@ returns-2 c =
     let within = c.before.before in
     rw (sym within.before.in-grid.ensures ∙ not-false _ within.if1.false, ← c.before.read-len.ensures) c.fits3.ensures
 
-pub takes-spec : {M : Type 1} → statement M
-takes-spec =
+pub takes_spec : {M : Type 1} → statement M
+takes_spec =
     tie.close
     (tie.spec in-grid-requires fits-requires returns read-len-requires fits-requires-2 returns-2)

@@ -51,8 +51,8 @@ returns-4 c = rw (c.before.before.n.given.1, c.chunk-unread.ensures)
 returns-5 : tie.Need-returns-5
 returns-5 c = rw (c.before.before.n2.given.1, c.ready-step.ensures)
 
-pub unread-step-spec : {M : Type 1} → statement M
-unread-step-spec =
+pub unread_step_spec : {M : Type 1} → statement M
+unread_step_spec =
     tie.close
     (tie.spec
     enum_told

@@ -18,6 +18,6 @@ returns c = rw c.enum_told.given.1
 returns-2 : tie.Need-returns-2
 returns-2 c = rw (c.evict.ensures, c.before.before.loading.given.1)
 
-pub without-run-spec : {M : Type 1} → statement M
-without-run-spec =
+pub without_run_spec : {M : Type 1} → statement M
+without_run_spec =
     tie.close (tie.spec enum_told enum-known-loading evict-requires returns returns-2)

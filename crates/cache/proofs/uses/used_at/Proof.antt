@@ -24,5 +24,5 @@ returns-2 c =
     let ages : length used ≡ 96 = sym (length-map used _) ∙ start.well-formed.0.1.1.1.0.1.0.1 in
     rw (c.before.wrapping-add-u32.ensures, set_out used start.args.i _ (omega (arith, c.if1.false)))
 
-pub used-at-spec : {M : Type 1} → statement M
-used-at-spec = tie.close (tie.spec wrapping-add-u32-requires mul-d element-write-d returns returns-2)
+pub used_at_spec : {M : Type 1} → statement M
+used_at_spec = tie.close (tie.spec wrapping-add-u32-requires mul-d element-write-d returns returns-2)

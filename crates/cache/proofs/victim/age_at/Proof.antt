@@ -24,5 +24,5 @@ returns-2 c =
 returns-3 : tie.Need-returns-3
 returns-3 c = rw (lt-ltb _ _ c.before.before.if1.false, sym c.before.is-run.ensures ∙ c.if2.false)
 
-pub age-at-spec : {M : Type 1} → statement M
-age-at-spec = tie.close (tie.spec returns is-run-requires since-requires returns-2 returns-3)
+pub age_at_spec : {M : Type 1} → statement M
+age_at_spec = tie.close (tie.spec returns is-run-requires since-requires returns-2 returns-3)

@@ -2,7 +2,7 @@
 use Rattle.std.proofs.Common.{◌≡◌, ℕ, ◌-◌, ◌<◌, ◌≤◌, length, sym, ◌∙◌, arith, length-set, rules}
 use lib.ListN.{length-map, length-replicate}
 use Rattle.cache.specs.Victim.{age, Aged}
-use Rattle.cache.proofs.VictimLaws.{age-read, aged-more}
+use Rattle.cache.proofs.VictimLaws.{age_read, aged_more}
 use Rattle.cache.proofs.victim.ages_of.Statement.{statement}
 use Rattle.cache.proofs.victim.ages_of.Tie as tie
 
@@ -58,25 +58,25 @@ loop-again : tie.Need-loop-preserved invariant-loop decreases-loop
 loop-again c =
     let placed = c.before.before.before in
     let headed = placed.before in
-    let at-loop = headed.before.before.before.loop in
+    let at_loop = headed.before.before.before.loop in
     let start = headed.before.before.before.before in
     let g = start.args.t1 in
     let size : length g.slots ≡ 96 = sym (length-map g.slots _) ∙ start.well-formed.0.1.1.0.1.0.1 in
-    let is : c.age-at.result ≡ age g at-loop.i
+    let is : c.age-at.result ≡ age g at_loop.i
     = c.age-at.ensures
-    ∙ age-read g at-loop.i headed.head_of.result placed.place_of.result size headed.head_of.ensures placed.place_of.ensures.1 in (
+    ∙ age_read g at_loop.i headed.head_of.result placed.place_of.result size headed.head_of.ensures placed.place_of.ensures.1 in (
       omega arith,
       (
-        length-set at-loop.d.v at-loop.i c.age-at.result ∙ at-loop.invariant.1.0,
-        rw is (aged-more g at-loop.d.v at-loop.i (omega arith) at-loop.invariant.1.1),
+        length-set at_loop.d.v at_loop.i c.age-at.result ∙ at_loop.invariant.1.0,
+        rw is (aged_more g at_loop.d.v at_loop.i (omega arith) at_loop.invariant.1.1),
       ),
     )
 
 returns : tie.Need-returns invariant-loop decreases-loop
 returns c = let e : c.before.loop.i ≡ c.before.before.args.t1.count = omega arith in rw e at c.before.loop.invariant.1.1
 
-pub ages-of-spec : {M : Type 1} → statement M
-ages-of-spec =
+pub ages_of_spec : {M : Type 1} → statement M
+ages_of_spec =
     tie.close
     (tie.spec
     invariant-loop

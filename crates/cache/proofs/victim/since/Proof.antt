@@ -21,5 +21,5 @@ returns-2 : tie.Need-returns-2
 unfolding since
 returns-2 c = omega arith
 
-pub since-spec : {M : Type 1} → statement M
-since-spec = tie.close (tie.spec sub-result add-result add-result-2 returns returns-2)
+pub since_spec : {M : Type 1} → statement M
+since_spec = tie.close (tie.spec sub-result add-result add-result-2 returns returns-2)

@@ -1,6 +1,6 @@
--- `cache::victim::victim` meets its contract: the oldest by the ages that were taken once, which are the pages' (`oldest-is`).
+-- `cache::victim::victim` meets its contract: the oldest by the ages that were taken once, which are the pages' (`oldest_is`).
 use Rattle.std.proofs.Common.{◌∙◌, arith, rules, lt-ltb}
-use Rattle.cache.proofs.VictimLaws.{oldest-is}
+use Rattle.cache.proofs.VictimLaws.{oldest_is}
 use Rattle.cache.proofs.victim.victim.Statement.{statement}
 use Rattle.cache.proofs.victim.victim.Tie as tie
 
@@ -17,7 +17,7 @@ returns-2 : tie.Need-returns-2
 returns-2 c =
     let taken = c.before.before.before in
     let start = taken.before.before.before in
-    c.oldest.ensures ∙ oldest-is start.args.g taken.ages-of.result.v taken.ages-of.ensures start.args.pages
+    c.oldest.ensures ∙ oldest_is start.args.g taken.ages-of.result.v taken.ages-of.ensures start.args.pages
 
-pub victim-spec : {M : Type 1} → statement M
-victim-spec = tie.close (tie.spec returns ages-of-requires oldest-requires returns-2)
+pub victim_spec : {M : Type 1} → statement M
+victim_spec = tie.close (tie.spec returns ages-of-requires oldest-requires returns-2)

@@ -32,7 +32,7 @@ returns-2 c =
     let high = low.before in
     rw (le-ltb _ _ (rw (high.high.ensures, low.low.ensures) at c.before.before.if1.false), high2.high2.ensures, c.low2.ensures)
 
-pub apart-spec : {M : Type 1} → statement M
-apart-spec =
+pub apart_spec : {M : Type 1} → statement M
+apart_spec =
     tie.close
     (tie.spec high-requires low-requires returns high-requires-2 low-requires-2 returns-2)

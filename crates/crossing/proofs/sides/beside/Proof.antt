@@ -44,8 +44,8 @@ returns-3 c =
     let s1 = s2.before in
     rw (← s1.side.ensures, ← s2.side2.ensures, ← s3.side3.ensures, ← s4.side4.ensures, le-ltb _ _ c.before.if1.false, le-ltb _ _ c.if2.false)
 
-pub beside-spec : {M : Type 1} → statement M
-beside-spec =
+pub beside_spec : {M : Type 1} → statement M
+beside_spec =
     tie.close
     (tie.spec
     side-requires

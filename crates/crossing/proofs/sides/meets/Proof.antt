@@ -53,8 +53,8 @@ returns-4 c =
       c.beside2.ensures,
     )
 
-pub meets-spec : {M : Type 1} → statement M
-meets-spec =
+pub meets_spec : {M : Type 1} → statement M
+meets_spec =
     tie.close
     (tie.spec
     apart-requires

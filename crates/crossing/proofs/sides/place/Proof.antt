@@ -16,5 +16,5 @@ returns c =
     let y = c.before.before in
     rw (y.raised.ensures, c.raised2.ensures, got w32 y.before.struct_told.given.0.1, got w32 c.before.struct-told2.given.1.0.1)
 
-pub place-spec : {M : Type 1} → statement M
-place-spec = tie.close (tie.spec raised-requires raised-requires-2 returns)
+pub place_spec : {M : Type 1} → statement M
+place_spec = tie.close (tie.spec raised-requires raised-requires-2 returns)

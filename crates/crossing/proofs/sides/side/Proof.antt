@@ -33,6 +33,6 @@ returns : tie.Need-returns
 unfolding side
 returns c = refl
 
-pub side-spec : {M : Type 1} → statement M
-side-spec =
+pub side_spec : {M : Type 1} → statement M
+side_spec =
     tie.close (tie.spec mul-result mul-result-2 add-result mul-result-3 add-result-2 returns)

@@ -57,8 +57,8 @@ loop-again c = search rules
 returns : tie.Need-returns invariant-loop decreases-loop
 returns c = search rules
 
-pub heights-spec : {M : Type 1} → statement M
-heights-spec =
+pub heights_spec : {M : Type 1} → statement M
+heights_spec =
     tie.close
     (tie.spec
     invariant-loop

@@ -42,8 +42,8 @@ write-all-requires c κs = search rules
 returns : tie.Need-returns
 returns c = search rules
 
-pub road-spec : {M : Type 1} → statement M
-road-spec =
+pub road_spec : {M : Type 1} → statement M
+road_spec =
     tie.close
     (tie.spec
     ahead-requires

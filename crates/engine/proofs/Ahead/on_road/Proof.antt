@@ -15,5 +15,5 @@ returns c = search rules
 returns-2 : tie.Need-returns-2
 returns-2 c = rw c.before.enum-told2.given.1
 
-pub on-road-spec : {M : Type 1} → statement M
-on-road-spec = tie.close (tie.spec enum_told enum-told-2 returns returns-2)
+pub on_road_spec : {M : Type 1} → statement M
+on_road_spec = tie.close (tie.spec enum_told enum-told-2 returns returns-2)

@@ -19,5 +19,5 @@ returns-2 : tie.Need-returns-2
 unfolding ahead
 returns-2 c = rw (sym c.before.before.before.engine-ok.ensures ∙ not-false _ c.before.before.if1.false)
 
-pub ahead-spec : {M : Type 1} → statement M
-ahead-spec = tie.close (tie.spec engine-ok-requires nothing-ahead-requires returns returns-2)
+pub ahead_spec : {M : Type 1} → statement M
+ahead_spec = tie.close (tie.spec engine-ok-requires nothing-ahead-requires returns returns-2)

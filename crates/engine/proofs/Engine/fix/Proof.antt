@@ -52,8 +52,8 @@ returns-3 c =
       ← c.before.fixed.ensures,
     ) c.followed.ensures
 
-pub fix-spec : {M : Type 1} → statement M
-fix-spec =
+pub fix_spec : {M : Type 1} → statement M
+fix_spec =
     tie.close
     (tie.spec
     engine-ok-requires

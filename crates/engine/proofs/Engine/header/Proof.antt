@@ -32,5 +32,5 @@ returns-3 c =
     let ok = call.before.before in
     rw (sym ok.before.engine-ok.ensures ∙ not-false _ ok.if1.false, sym call.is-ready.ensures ∙ c.if2.false, ok.before.before.no_header.ensures)
 
-pub header-spec : {M : Type 1} → statement M
-header-spec = tie.close (tie.spec no-header-requires engine-ok-requires returns is-ready-requires returns-2 returns-3)
+pub header_spec : {M : Type 1} → statement M
+header_spec = tie.close (tie.spec no-header-requires engine-ok-requires returns is-ready-requires returns-2 returns-3)

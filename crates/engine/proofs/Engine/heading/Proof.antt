@@ -30,5 +30,5 @@ returns-3 c =
     let ok = c.before.before.before.before.before in
     rw (sym ok.before.engine-ok.ensures ∙ not-false _ ok.if1.false, c.before.heading.given.1)
 
-pub heading-spec : {M : Type 1} → statement M
-heading-spec = tie.close (tie.spec engine-ok-requires returns enum_told enum-known-heading returns-2 returns-3)
+pub heading_spec : {M : Type 1} → statement M
+heading_spec = tie.close (tie.spec engine-ok-requires returns enum_told enum-known-heading returns-2 returns-3)

@@ -27,8 +27,8 @@ returns-2 c =
     let ok = c.before.before.before in
     rw (sym ok.before.engine-ok.ensures ∙ not-false _ ok.if1.false, ← c.before.lost.ensures) c.followed.ensures
 
-pub lost-spec : {M : Type 1} → statement M
-lost-spec =
+pub lost_spec : {M : Type 1} → statement M
+lost_spec =
     tie.close
     (tie.spec
     engine-ok-requires

@@ -22,6 +22,6 @@ returns-2 : tie.Need-returns-2
 unfolding reset
 returns-2 c = rw (sym c.before.before.engine-ok.ensures ∙ not-false _ c.before.if1.false) c.forgotten.ensures
 
-pub reset-spec : {M : Type 1} → statement M
-reset-spec =
+pub reset_spec : {M : Type 1} → statement M
+reset_spec =
     tie.close (tie.spec engine-ok-requires unchanged-requires returns forgotten-requires returns-2)

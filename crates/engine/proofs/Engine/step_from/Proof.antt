@@ -2,14 +2,14 @@
 use Rattle.std.proofs.Common.{◌≡◌, ℕ, List, rules}
 use Rattle.engine.specs.declared.Engine.{Engine}
 use Rattle.engine.specs.declared.Status.TheVariants as Status
-use Rattle.engine.specs.Calls.{step, answeredFrom, stepFrom}
-use Rattle.engine.proofs.StepNeeds.{step-over}
+use Rattle.engine.specs.Calls.{step, answered_from, step_from}
+use Rattle.engine.proofs.StepNeeds.{step_over}
 use Rattle.engine.proofs.Engine.step_from.Statement.{statement}
 use Rattle.engine.proofs.Engine.step_from.Tie as tie
 
 fetches : (e : Engine) (arena pack : List ℕ) {offset len : ℕ} → (step e arena).answer ≡ Status.Fetch offset len
-    → stepFrom e arena pack ≡ answeredFrom (step e arena).engine arena offset len pack
-unfolding stepFrom
+    → step_from e arena pack ≡ answered_from (step e arena).engine arena offset len pack
+unfolding step_from
 fetches e arena pack told = rw told
 
 step-requires : tie.Need-step-requires
@@ -38,15 +38,15 @@ same-length-2 : tie.Need-same-length-2
 same-length-2 c = search rules
 
 returns-2 : tie.Need-returns-2
-unfolding stepFrom
+unfolding step_from
 returns-2 c =
     let made = c.before in
     let args = made.before.before.before.before.args in
-    let rest = step-over made.step.result.answer c.match.keys2 made.step.result args.arena.now args.pack.now in
+    let rest = step_over made.step.result.answer c.match.keys2 made.step.result args.arena.now args.pack.now in
     (rw (← made.step.ensures, rest), rw (← made.step.ensures, rest))
 
-pub step-from-spec : {M : Type 1} → statement M
-step-from-spec =
+pub step_from_spec : {M : Type 1} → statement M
+step_from_spec =
     tie.close
     (tie.spec
     step-requires

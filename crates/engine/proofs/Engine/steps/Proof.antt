@@ -16,5 +16,5 @@ returns-2 : tie.Need-returns-2
 unfolding steps
 returns-2 c = rw (sym c.before.before.engine-ok.ensures ∙ not-false _ c.before.if1.false)
 
-pub steps-spec : {M : Type 1} → statement M
-steps-spec = tie.close (tie.spec engine-ok-requires returns returns-2)
+pub steps_spec : {M : Type 1} → statement M
+steps_spec = tie.close (tie.spec engine-ok-requires returns returns-2)

@@ -3,7 +3,7 @@ use Rattle.std.proofs.Common.{sym, ◌∙◌, rules}
 use borrow.Author.Tests.{not-true, not-false}
 use Rattle.engine.specs.Calls.{deliver}
 use Rattle.engine.specs.Deliver.{delivered}
-use Rattle.engine.proofs.StepNeeds.{part-delivered}
+use Rattle.engine.proofs.StepNeeds.{part_delivered}
 use Rattle.engine.proofs.deliver.delivered.Statement.{statement}
 use Rattle.engine.proofs.deliver.delivered.Tie as tie
 
@@ -71,11 +71,11 @@ unfolding deliver delivered
 returns-5 c =
     let ok = sym c.before.before.before.before.before.before.before.before.engine-ok.ensures ∙ not-false _ c.before.before.before.before.before.before.before.if1.false in
     let args = c.before.before.before.before.before.before.before.before.before.before.before.args in
-    let part = part-delivered args.e.shared.cache.pending c.before.before.before.before.match.keys3 args.e args.arena.now args.failure args.bytes.now in
+    let part = part_delivered args.e.shared.cache.pending c.before.before.before.before.match.keys3 args.e args.arena.now args.failure args.bytes.now in
     (rw (ok, part) c.before.before.need-came.ensures.0, rw (ok, part) c.before.before.need-came.ensures.1)
 
-pub delivered-spec : {M : Type 1} → statement M
-delivered-spec =
+pub delivered_spec : {M : Type 1} → statement M
+delivered_spec =
     tie.close
     (tie.spec
     engine-ok-requires

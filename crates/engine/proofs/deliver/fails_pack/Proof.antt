@@ -1,6 +1,6 @@
 -- `engine::deliver::fails_pack` meets its contract: by how the step of the load ended.
 use Rattle.std.proofs.Common.{rules}
-use Rattle.engine.proofs.StepNeeds.{load-stays}
+use Rattle.engine.proofs.StepNeeds.{load_stays}
 use Rattle.engine.proofs.deliver.fails_pack.Statement.{statement}
 use Rattle.engine.proofs.deliver.fails_pack.Tie as tie
 
@@ -11,7 +11,7 @@ returns : tie.Need-returns
 returns c = rw c.enum_told.given.1
 
 returns-2 : tie.Need-returns-2
-returns-2 c = rw (load-stays c.before.args.answer c.match.keys2 c.before.args.failures)
+returns-2 c = rw (load_stays c.before.args.answer c.match.keys2 c.before.args.failures)
 
-pub fails-pack-spec : {M : Type 1} → statement M
-fails-pack-spec = tie.close (tie.spec enum_told returns returns-2)
+pub fails_pack_spec : {M : Type 1} → statement M
+fails_pack_spec = tie.close (tie.spec enum_told returns returns-2)

@@ -1,6 +1,6 @@
 -- `engine::deliver::load_leaves` meets its contract: by how the step of the load ended, and the count of failures.
 use Rattle.std.proofs.Common.{rules, le-ltb, lt-ltb}
-use Rattle.engine.proofs.StepNeeds.{load-counted}
+use Rattle.engine.proofs.StepNeeds.{load_counted}
 use Rattle.engine.proofs.deliver.load_leaves.Statement.{statement}
 use Rattle.engine.proofs.deliver.load_leaves.Tie as tie
 
@@ -33,10 +33,10 @@ returns-3 c =
     rw (c.before.before.before.before.counted.ensures, c.before.before.enum-told2.given.1, many)
 
 returns-4 : tie.Need-returns-4
-returns-4 c = rw (c.before.counted.ensures, load-counted c.before.before.args.answer c.match.keys3 c.before.before.args.f)
+returns-4 c = rw (c.before.counted.ensures, load_counted c.before.before.args.answer c.match.keys3 c.before.before.args.f)
 
-pub load-leaves-spec : {M : Type 1} → statement M
-load-leaves-spec =
+pub load_leaves_spec : {M : Type 1} → statement M
+load_leaves_spec =
     tie.close
     (tie.spec
     counted-requires

@@ -1,6 +1,6 @@
 -- `engine::deliver::loaded` meets its contract: a step of the load that is refused, and any other.
 use Rattle.std.proofs.Common.{rules}
-use Rattle.engine.proofs.StepNeeds.{load-ended}
+use Rattle.engine.proofs.StepNeeds.{load_ended}
 use Rattle.engine.proofs.deliver.loaded.Statement.{statement}
 use Rattle.engine.proofs.deliver.loaded.Tie as tie
 
@@ -33,11 +33,11 @@ returns-2 c =
       c.before.before.before.load-phase.ensures,
       c.before.before.before.before.before.load-leaves.ensures,
       c.before.before.before.before.before.before.fails-pack.ensures,
-      load-ended args.l.answer c.before.before.before.before.before.before.before.before.match.keys2 args.e args.l.cache,
+      load_ended args.l.answer c.before.before.before.before.before.before.before.before.match.keys2 args.e args.l.cache,
     )
 
-pub loaded-spec : {M : Type 1} → statement M
-loaded-spec =
+pub loaded_spec : {M : Type 1} → statement M
+loaded_spec =
     tie.close
     (tie.spec
     enum-known-answer

@@ -3,13 +3,13 @@ use Rattle.std.proofs.Common.{◌≡◌, ℕ, List, rules}
 use Rattle.pack.specs.declared.TileKey.{TileKey}
 use Rattle.cache.specs.declared.MaybeKey.TheVariants as MaybeKey
 use Rattle.cache.specs.declared.MaybeKey.{MaybeKey}
-use Rattle.engine.specs.Deliver.{partCame, needCameBy}
+use Rattle.engine.specs.Deliver.{part_came, need_came_by}
 use Rattle.engine.specs.declared.Engine.{Engine}
 use Rattle.engine.proofs.deliver.need_came.Statement.{statement}
 use Rattle.engine.proofs.deliver.need_came.Tie as tie
 
 needed : (need : MaybeKey) {key : TileKey} → need ≡ MaybeKey.Key key → (e : Engine) (arena : List ℕ) (failure : ℕ) (bs : List ℕ)
-    → needCameBy need e arena failure bs ≡ partCame e arena key failure bs
+    → need_came_by need e arena failure bs ≡ part_came e arena key failure bs
 needed need told e arena failure bs = rw told
 
 enum_told : tie.Need-enum-told
@@ -32,15 +32,15 @@ same_length c = search rules
 
 returns-2 : tie.Need-returns-2
 returns-2 c =
-    let part-came = c.before.before in
-    let need-call = part-came.before.before.before in
-    let start = need-call.before.before.before.before.before.before in
+    let part_came_call = c.before.before in
+    let need_call = part_came_call.before.before.before in
+    let start = need_call.before.before.before.before.before.before in
     let args = start.args in
-    let need = needed args.e.follower.due.need need-call.need.given.1 args.e args.arena.now args.failure args.bytes.now in
-    (rw need part-came.part-came.ensures.0, rw need part-came.part-came.ensures.1)
+    let need = needed args.e.follower.due.need need_call.need.given.1 args.e args.arena.now args.failure args.bytes.now in
+    (rw need part_came_call.part-came.ensures.0, rw need part_came_call.part-came.ensures.1)
 
-pub need-came-spec : {M : Type 1} → statement M
-need-came-spec =
+pub need_came_spec : {M : Type 1} → statement M
+need_came_spec =
     tie.close
     (tie.spec
     enum_told

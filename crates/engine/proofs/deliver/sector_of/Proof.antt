@@ -15,5 +15,5 @@ whole-sector-requires c κs = omega (arith, c.if1.false)
 returns-2 : tie.Need-returns-2
 returns-2 c = c.whole-sector.ensures
 
-pub sector-of-spec : {M : Type 1} → statement M
-sector-of-spec = tie.close (tie.spec short-sector-requires returns whole-sector-requires returns-2)
+pub sector_of_spec : {M : Type 1} → statement M
+sector_of_spec = tie.close (tie.spec short-sector-requires returns whole-sector-requires returns-2)

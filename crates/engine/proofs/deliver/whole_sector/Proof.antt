@@ -2,13 +2,13 @@
 use Rattle.std.proofs.Common.{◌≡◌, ℕ, ◌-◌, ◌≤◌, List, set, sym, arith, rules}
 use Rattle.num.proofs.FoldLaws.{up_start, up_turn}
 use Rattle.num.specs.Fold.{up_to}
-use Rattle.pack.specs.Bytes.{byteAt}
-use Rattle.engine.specs.Deliver.{sectorOf}
+use Rattle.pack.specs.Bytes.{byte_at}
+use Rattle.engine.specs.Deliver.{sector_of}
 use Rattle.engine.proofs.deliver.whole_sector.Statement.{statement}
 use Rattle.engine.proofs.deliver.whole_sector.Tie as tie
 
 abbrev invariant-loop : tie.invariant-loop
-invariant-loop bytes out₀ i₀ out i = (i ≤ 512) × (out ≡ up_to (λ (o : List ℕ) (j : ℕ). set o j (byteAt bytes j)) out₀ i)
+invariant-loop bytes out₀ i₀ out i = (i ≤ 512) × (out ≡ up_to (λ (o : List ℕ) (j : ℕ). set o j (byte_at bytes j)) out₀ i)
 
 abbrev decreases-loop : tie.decreases-loop
 decreases-loop bytes out₀ i₀ out i = 512 - i
@@ -32,13 +32,13 @@ loop-again : tie.Need-loop-preserved invariant-loop decreases-loop
 loop-again c = (omega arith, rw (c.before.before.loop.invariant.1, up_turn))
 
 returns : tie.Need-returns invariant-loop decreases-loop
-unfolding sectorOf
+unfolding sector_of
 returns c =
     let end : c.before.loop.i ≡ 512 = omega arith in
     rw (c.before.loop.invariant.1, end)
 
-pub whole-sector-spec : {M : Type 1} → statement M
-whole-sector-spec =
+pub whole_sector_spec : {M : Type 1} → statement M
+whole_sector_spec =
     tie.close
     (tie.spec
     invariant-loop

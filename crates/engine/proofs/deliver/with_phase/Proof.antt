@@ -8,5 +8,5 @@ with-pending-requires c κs = tt
 returns : tie.Need-returns
 returns c = rw c.with-pending.ensures
 
-pub with-phase-spec : {M : Type 1} → statement M
-with-phase-spec = tie.close (tie.spec with-pending-requires returns)
+pub with_phase_spec : {M : Type 1} → statement M
+with_phase_spec = tie.close (tie.spec with-pending-requires returns)

@@ -27,7 +27,7 @@ returns-3 c = search rules
 returns-4 : tie.Need-returns-4
 returns-4 c = rw c.before.answer.given.1
 
-pub awaits-read-spec : {M : Type 1} → statement M
-awaits-read-spec =
+pub awaits_read_spec : {M : Type 1} → statement M
+awaits_read_spec =
     tie.close
     (tie.spec enum_told enum-told-2 enum-told-3 enum-known-answer returns returns-2 returns-3 returns-4)

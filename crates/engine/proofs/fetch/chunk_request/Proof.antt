@@ -32,8 +32,8 @@ returns-2 c =
     let loading = c.before.before.before.before in
     rw (loading.loading.given.1, c.chunk-len.ensures)
 
-pub chunk-request-spec : {M : Type 1} → statement M
-chunk-request-spec =
+pub chunk_request_spec : {M : Type 1} → statement M
+chunk_request_spec =
     tie.close
     (tie.spec
     enum_told

@@ -1,6 +1,6 @@
 -- `engine::fetch::need_step` meets its contract: each return by whether the cache asks for a read.
 use Rattle.std.proofs.Common.{sym, ◌∙◌}
-use Rattle.engine.proofs.NeedLaws.{need-reads, need-settles}
+use Rattle.engine.proofs.NeedLaws.{need_reads, need_settles}
 use Rattle.engine.proofs.fetch.need_step.Statement.{statement}
 use Rattle.engine.proofs.fetch.need_step.Tie as tie
 
@@ -21,7 +21,7 @@ returns c =
     let test = c.before.before in
     let settled = test.before.before in
     let start = settled.before.before.before.before.before in
-    let reads = need-reads start.args.e start.args.arena.now start.args.key _ settled.settled.ensures
+    let reads = need_reads start.args.e start.args.arena.now start.args.key _ settled.settled.ensures
     (sym test.before.awaits-read.ensures ∙ test.if1.true) in
     rw (c.opened.ensures, c.before.pending-for.ensures) reads
 
@@ -34,11 +34,11 @@ returns-2 c =
     let settled = test.before.before in
     let start = settled.before.before.before.before.before in
     rw c.loaded.ensures
-    (need-settles start.args.e start.args.arena.now start.args.key _ settled.settled.ensures
+    (need_settles start.args.e start.args.arena.now start.args.key _ settled.settled.ensures
     (sym test.before.awaits-read.ensures ∙ test.if1.false))
 
-pub need-step-spec : {M : Type 1} → statement M
-need-step-spec =
+pub need_step_spec : {M : Type 1} → statement M
+need_step_spec =
     tie.close
     (tie.spec
     settled-requires

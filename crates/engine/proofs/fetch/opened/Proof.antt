@@ -11,5 +11,5 @@ with-pending-requires c κs = tt
 returns : tie.Need-returns
 returns c = rw (c.before.before.request-of.ensures, c.with-pending.ensures)
 
-pub opened-spec : {M : Type 1} → statement M
-opened-spec = tie.close (tie.spec request-of-requires with-pending-requires returns)
+pub opened_spec : {M : Type 1} → statement M
+opened_spec = tie.close (tie.spec request-of-requires with-pending-requires returns)

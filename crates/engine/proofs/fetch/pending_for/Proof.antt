@@ -21,6 +21,6 @@ returns-2 c = rw c.enum_told.given.1
 returns-3 : tie.Need-returns-3
 returns-3 c = rw (c.before.before.before.loading.given.1, sym c.before.same_key.ensures ∙ c.if1.false)
 
-pub pending-for-spec : {M : Type 1} → statement M
-pending-for-spec =
+pub pending_for_spec : {M : Type 1} → statement M
+pending_for_spec =
     tie.close (tie.spec enum_told enum-known-loading same-key-requires returns returns-2 returns-3)

@@ -33,8 +33,8 @@ returns-3 c = rw (c.entry-of.ensures, c.before.before.pending.given.1)
 returns-4 : tie.Need-returns-4
 returns-4 c = rw (c.chunk-request.ensures, c.before.enum-told3.given.1)
 
-pub request-spec : {M : Type 1} → statement M
-request-spec =
+pub request_spec : {M : Type 1} → statement M
+request_spec =
     tie.close
     (tie.spec
     enum_told

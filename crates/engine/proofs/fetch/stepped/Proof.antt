@@ -7,14 +7,14 @@ use Rattle.engine.specs.Steps as Steps
 use borrow.Author.Tests.{not-true, not-false}
 use Rattle.engine.specs.Calls.{step}
 use Rattle.engine.specs.Steps.{stepped}
-use Rattle.engine.proofs.PlanLaws.{plan-step, plan-in}
-use Rattle.engine.proofs.StepNeeds.{fetch-repeated}
+use Rattle.engine.proofs.PlanLaws.{plan_step, plan_in}
+use Rattle.engine.proofs.StepNeeds.{fetch_repeated}
 use Rattle.engine.proofs.fetch.stepped.Statement.{statement}
 use Rattle.engine.proofs.fetch.stepped.Tie as tie
 
 repeated : (e : Engine) (arena : List ℕ) → (tag_of Pendings.the_type e.shared.cache.pending ≡ 1) ⊎ ((tag_of Pendings.the_type e.shared.cache.pending ≡ 2) ⊎ (tag_of Pendings.the_type e.shared.cache.pending ≡ 3)) → stepped e arena ≡ Steps.repeated e e.shared.cache.pending
 unfolding stepped
-repeated e arena h = fetch-repeated e.shared.cache.pending h e arena
+repeated e arena h = fetch_repeated e.shared.cache.pending h e arena
 
 engine-ok-requires : tie.Need-engine-ok-requires
 engine-ok-requires c κs = search rules
@@ -69,7 +69,7 @@ enum-known-plan-3 c = search rules
 road-step-requires : tie.Need-road-step-requires
 road-step-requires c κs =
     let ok = sym c.before.before.before.before.before.before.before.before.before.before.before.before.before.before.engine-ok.ensures ∙ not-false _ c.before.before.before.before.before.before.before.before.before.before.before.before.before.if1.false in
-    rw (sym c.before.before.before.of-state.ensures ∙ c.before.plan3.given.1) at (plan-in c.before.before.before.before.before.before.before.before.before.before.before.before.before.before.before.before.args.e _ ok)
+    rw (sym c.before.before.before.of-state.ensures ∙ c.before.plan3.given.1) at (plan_in c.before.before.before.before.before.before.before.before.before.before.before.before.before.before.before.before.args.e _ ok)
 
 enum-told-4 : tie.Need-enum-told-4
 enum-told-4 c = search rules
@@ -94,7 +94,7 @@ unfolding step
 returns-3 c =
     let ok = sym c.before.before.before.before.before.before.before.before.before.before.before.before.before.engine-ok.ensures ∙ not-false _ c.before.before.before.before.before.before.before.before.before.before.before.before.if1.false in
     let args = c.before.before.before.before.before.before.before.before.before.before.before.before.before.before.before.args in
-    let plan = plan-step args.e args.arena.now c.before.before.before.before.before.before.before.before.enum_told.given.1 in
+    let plan = plan_step args.e args.arena.now c.before.before.before.before.before.before.before.before.enum_told.given.1 in
     rw (ok, plan, sym c.before.before.of-state.ensures ∙ c.enum-told2.given.1)
 
 returns-4 : tie.Need-returns-4
@@ -102,7 +102,7 @@ unfolding step
 returns-4 c =
     let ok = sym c.before.before.before.before.before.before.before.before.before.before.before.before.before.before.engine-ok.ensures ∙ not-false _ c.before.before.before.before.before.before.before.before.before.before.before.before.before.if1.false in
     let args = c.before.before.before.before.before.before.before.before.before.before.before.before.before.before.before.before.args in
-    let plan = plan-step args.e args.arena.now c.before.before.before.before.before.before.before.before.before.enum_told.given.1 in
+    let plan = plan_step args.e args.arena.now c.before.before.before.before.before.before.before.before.before.enum_told.given.1 in
     rw (c.opened.ensures, ok, plan, sym c.before.before.before.of-state.ensures ∙ c.before.enum-told3.given.1)
 
 returns-5 : tie.Need-returns-5
@@ -110,7 +110,7 @@ unfolding step
 returns-5 c =
     let ok = sym c.before.before.before.before.before.before.before.before.before.before.before.before.before.before.before.engine-ok.ensures ∙ not-false _ c.before.before.before.before.before.before.before.before.before.before.before.before.before.before.if1.false in
     let args = c.before.before.before.before.before.before.before.before.before.before.before.before.before.before.before.before.before.args in
-    let plan = plan-step args.e args.arena.now c.before.before.before.before.before.before.before.before.before.before.enum_told.given.1 in
+    let plan = plan_step args.e args.arena.now c.before.before.before.before.before.before.before.before.before.before.enum_told.given.1 in
     rw (c.need-step.ensures, ok, plan, sym c.before.before.before.before.of-state.ensures ∙ c.before.before.plan.given.1)
 
 returns-6 : tie.Need-returns-6
@@ -118,7 +118,7 @@ unfolding step
 returns-6 c =
     let ok = sym c.before.before.before.before.before.before.before.before.before.before.before.before.before.before.before.engine-ok.ensures ∙ not-false _ c.before.before.before.before.before.before.before.before.before.before.before.before.before.before.if1.false in
     let args = c.before.before.before.before.before.before.before.before.before.before.before.before.before.before.before.before.before.args in
-    let plan = plan-step args.e args.arena.now c.before.before.before.before.before.before.before.before.before.before.enum_told.given.1 in
+    let plan = plan_step args.e args.arena.now c.before.before.before.before.before.before.before.before.before.before.enum_told.given.1 in
     rw (c.match-step.ensures, ok, plan, sym c.before.before.before.before.of-state.ensures ∙ c.before.before.plan2.given.1)
 
 returns-7 : tie.Need-returns-7
@@ -126,7 +126,7 @@ unfolding step
 returns-7 c =
     let ok = sym c.before.before.before.before.before.before.before.before.before.before.before.before.before.before.before.engine-ok.ensures ∙ not-false _ c.before.before.before.before.before.before.before.before.before.before.before.before.before.before.if1.false in
     let args = c.before.before.before.before.before.before.before.before.before.before.before.before.before.before.before.before.before.args in
-    let plan = plan-step args.e args.arena.now c.before.before.before.before.before.before.before.before.before.before.enum_told.given.1 in
+    let plan = plan_step args.e args.arena.now c.before.before.before.before.before.before.before.before.before.before.enum_told.given.1 in
     rw (c.road-step.ensures, ok, plan, sym c.before.before.before.before.of-state.ensures ∙ c.before.before.plan3.given.1)
 
 returns-8 : tie.Need-returns-8
@@ -134,7 +134,7 @@ unfolding step
 returns-8 c =
     let ok = sym c.before.before.before.before.before.before.before.before.before.before.before.before.before.before.engine-ok.ensures ∙ not-false _ c.before.before.before.before.before.before.before.before.before.before.before.before.before.if1.false in
     let args = c.before.before.before.before.before.before.before.before.before.before.before.before.before.before.before.before.args in
-    let plan = plan-step args.e args.arena.now c.before.before.before.before.before.before.before.before.before.enum_told.given.1 in
+    let plan = plan_step args.e args.arena.now c.before.before.before.before.before.before.before.before.before.enum_told.given.1 in
     rw (c.road-dropped.ensures, ok, plan, sym c.before.before.before.of-state.ensures ∙ c.before.enum-told4.given.1)
 
 returns-9 : tie.Need-returns-9
@@ -142,7 +142,7 @@ unfolding step
 returns-9 c =
     let ok = sym c.before.before.before.before.before.before.before.before.before.before.before.before.before.before.before.engine-ok.ensures ∙ not-false _ c.before.before.before.before.before.before.before.before.before.before.before.before.before.before.if1.false in
     let args = c.before.before.before.before.before.before.before.before.before.before.before.before.before.before.before.before.before.args in
-    let plan = plan-step args.e args.arena.now c.before.before.before.before.before.before.before.before.before.before.enum_told.given.1 in
+    let plan = plan_step args.e args.arena.now c.before.before.before.before.before.before.before.before.before.before.enum_told.given.1 in
     rw (c.left-map.ensures, ok, plan, sym c.before.before.before.before.of-state.ensures ∙ c.before.before.plan4.given.1)
 
 returns-10 : tie.Need-returns-10
@@ -150,11 +150,11 @@ unfolding step
 returns-10 c =
     let ok = sym c.before.before.before.before.before.before.before.before.before.before.before.before.before.before.before.engine-ok.ensures ∙ not-false _ c.before.before.before.before.before.before.before.before.before.before.before.before.before.before.if1.false in
     let args = c.before.before.before.before.before.before.before.before.before.before.before.before.before.before.before.before.before.args in
-    let plan = plan-step args.e args.arena.now c.before.before.before.before.before.before.before.before.before.before.enum_told.given.1 in
+    let plan = plan_step args.e args.arena.now c.before.before.before.before.before.before.before.before.before.before.enum_told.given.1 in
     rw (c.before.wrapping-add-u32.ensures, ok, plan, sym c.before.before.before.before.of-state.ensures ∙ c.before.before.enum-told5.given.1)
 
-pub stepped-spec : {M : Type 1} → statement M
-stepped-spec =
+pub stepped_spec : {M : Type 1} → statement M
+stepped_spec =
     tie.close
     (tie.spec
     engine-ok-requires

@@ -2,7 +2,7 @@
 -- their bits.
 use Rattle.std.proofs.Common.{sym, ◌∙◌, w32, rules}
 use Rattle.pack.proofs.Signed.{got}
-use Rattle.engine.specs.Fixes.{courseOf}
+use Rattle.engine.specs.Fixes.{course_of}
 use Rattle.engine.proofs.fixes.course_of.Statement.{statement}
 use Rattle.engine.proofs.fixes.course_of.Tie as tie
 
@@ -28,7 +28,7 @@ bearing-requires : tie.Need-bearing-requires
 bearing-requires c κs = tt
 
 returns : tie.Need-returns
-unfolding courseOf
+unfolding course_of
 returns c =
     let call = c.before.before in
     let scale = call.before.before in
@@ -39,7 +39,7 @@ returns c =
     rw (sym found ∙ c.enum_told.given.1)
 
 returns-2 : tie.Need-returns-2
-unfolding courseOf
+unfolding course_of
 returns-2 c =
     let place = c.before.before in
     let known = place.before.before in
@@ -59,8 +59,8 @@ returns-2 c =
       lon,
     )
 
-pub course-of-spec : {M : Type 1} → statement M
-course-of-spec =
+pub course_of_spec : {M : Type 1} → statement M
+course_of_spec =
     tie.close
     (tie.spec
     lon-scale-um-requires

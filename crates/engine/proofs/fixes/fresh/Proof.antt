@@ -14,5 +14,5 @@ returns-3 c =
     let start = c.before.before in
     rw (le-ltb 120000 (start.args.now-ms - start.args.c.at_ms) (omega (arith, c.if1.false)))
 
-pub fresh-spec : {M : Type 1} → statement M
-fresh-spec = tie.close (tie.spec returns returns-2 returns-3)
+pub fresh_spec : {M : Type 1} → statement M
+fresh_spec = tie.close (tie.spec returns returns-2 returns-3)

@@ -1,5 +1,5 @@
 -- `engine::fixes::is_move` meets its contract: by the answers of its callees, with the literal read as a whole number.
-use Rattle.matcher.proofs.ScoreLiterals.{literal-15}
+use Rattle.matcher.proofs.ScoreLiterals.{literal_15}
 use Rattle.engine.proofs.fixes.is_move.Statement.{statement}
 use Rattle.engine.proofs.fixes.is_move.Tie as tie
 
@@ -13,7 +13,7 @@ length-requires : tie.Need-length-requires
 length-requires c κs = tt
 
 returns : tie.Need-returns
-returns c = rw (c.length.ensures, c.before.metres.ensures, c.before.before.place_at.ensures, literal-15)
+returns c = rw (c.length.ensures, c.before.metres.ensures, c.before.before.place_at.ensures, literal_15)
 
-pub is-move-spec : {M : Type 1} → statement M
-is-move-spec = tie.close (tie.spec place-at-requires metres-requires length-requires returns)
+pub is_move_spec : {M : Type 1} → statement M
+is_move_spec = tie.close (tie.spec place-at-requires metres-requires length-requires returns)

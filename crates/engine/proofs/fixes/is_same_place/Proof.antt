@@ -37,5 +37,5 @@ returns-3 c =
       ne_eqb _ _ c.if1.false,
     )
 
-pub is-same-place-spec : {M : Type 1} → statement M
-is-same-place-spec = tie.close (tie.spec enum_told enum-known-last returns returns-2 returns-3)
+pub is_same_place_spec : {M : Type 1} → statement M
+is_same_place_spec = tie.close (tie.spec enum_told enum-known-last returns returns-2 returns-3)

@@ -2,19 +2,19 @@
 -- nothing.
 use Rattle.std.proofs.Common.{◌≡◌, ℕ, ◌-◌, sym, refl, ◌∙◌, arith, rules}
 use Rattle.predict.specs.Incoming.{highest}
-use Rattle.engine.specs.Fixes.{isMove, movedFrom}
-use Rattle.predict.proofs.TrackLaws.{highest-none, highest-hit, highest-miss}
+use Rattle.engine.specs.Fixes.{is_move, moved_from}
+use Rattle.predict.proofs.TrackLaws.{highest_none, highest_hit, highest_miss}
 use Rattle.engine.proofs.fixes.moved_from.Statement.{statement}
 use Rattle.engine.proofs.fixes.moved_from.Tie as tie
 
 abbrev invariant-loop : tie.invariant-loop
-invariant-loop h here lon-um i₀ i = highest (λ (j : ℕ). isMove h here lon-um j) i ≡ movedFrom h here lon-um
+invariant-loop h here lon_um i₀ i = highest (λ (j : ℕ). is_move h here lon_um j) i ≡ moved_from h here lon_um
 
 abbrev decreases-loop : tie.decreases-loop
-decreases-loop h here lon-um i₀ i = i
+decreases-loop h here lon_um i₀ i = i
 
 loop-holds : tie.Need-loop-init invariant-loop decreases-loop
-unfolding movedFrom
+unfolding moved_from
 loop-holds c = refl
 
 sub-i : tie.Need-overflow-sub-i invariant-loop decreases-loop
@@ -25,26 +25,26 @@ is-move-requires c κs = tt
 
 returns : tie.Need-returns invariant-loop decreases-loop
 returns c =
-    let at-loop = c.before.before.before.loop in
+    let at_loop = c.before.before.before.loop in
     let hit = sym c.before.is_move.ensures ∙ c.if1.true in
-    sym (highest-hit _ (at-loop.i - 1) at-loop.i (omega (arith, c.before.before.loop-test.true)) hit) ∙ at-loop.invariant
+    sym (highest_hit _ (at_loop.i - 1) at_loop.i (omega (arith, c.before.before.loop-test.true)) hit) ∙ at_loop.invariant
 
 loop-less : tie.Need-loop-smaller invariant-loop decreases-loop
 loop-less c = search rules
 
 loop-again : tie.Need-loop-preserved invariant-loop decreases-loop
 loop-again c =
-    let at-loop = c.before.before.before.loop in
+    let at_loop = c.before.before.before.loop in
     let missed = sym c.before.is_move.ensures ∙ c.if1.false in
-    highest-miss _ (at-loop.i - 1) at-loop.i (omega (arith, c.before.before.loop-test.true)) missed ∙ at-loop.invariant
+    highest_miss _ (at_loop.i - 1) at_loop.i (omega (arith, c.before.before.loop-test.true)) missed ∙ at_loop.invariant
 
 returns-2 : tie.Need-returns-2 invariant-loop decreases-loop
 returns-2 c =
-    let at-loop = c.before.loop in
-    sym (highest-none _ at-loop.i (omega (arith, c.loop-test.false))) ∙ at-loop.invariant
+    let at_loop = c.before.loop in
+    sym (highest_none _ at_loop.i (omega (arith, c.loop-test.false))) ∙ at_loop.invariant
 
-pub moved-from-spec : {M : Type 1} → statement M
-moved-from-spec =
+pub moved_from_spec : {M : Type 1} → statement M
+moved_from_spec =
     tie.close
     (tie.spec
     invariant-loop

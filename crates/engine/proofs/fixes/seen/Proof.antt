@@ -27,5 +27,5 @@ returns c =
       got w32 {z = fix.lon} course.before.struct_told.given.1.0.1,
     )
 
-pub seen-spec : {M : Type 1} → statement M
-seen-spec = tie.close (tie.spec course-of-requires push-requires fresh-requires returns)
+pub seen_spec : {M : Type 1} → statement M
+seen_spec = tie.close (tie.spec course-of-requires push-requires fresh-requires returns)

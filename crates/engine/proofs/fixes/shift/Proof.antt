@@ -2,7 +2,7 @@
 -- held.
 use Rattle.std.proofs.Common.{◌≡◌, ◌-◌, ◌≤◌, length, sym, refl, ◌∙◌, arith, length-set, rules}
 use lib.ListN.{length-map}
-use Rattle.predict.proofs.Shift.{moved, shift-turn, shift-end}
+use Rattle.predict.proofs.Shift.{moved, shift_turn, shift_end}
 use Rattle.engine.specs.Fixes.{shifted}
 use Rattle.engine.proofs.fixes.shift.Statement.{statement}
 use Rattle.engine.proofs.fixes.shift.Tie as tie
@@ -41,26 +41,26 @@ loop-less c = search rules
 
 loop-again : tie.Need-loop-preserved invariant-loop decreases-loop
 loop-again c =
-    let at-loop = c.before.before.loop in
+    let at_loop = c.before.before.loop in
     let start = c.before.before.before in
     let v = start.args.h.v in
     let size : length v ≡ 16 = sym (length-map v _) ∙ start.well-formed.0.1.1.0.1.0.1 in (
       omega arith,
       (
-        length-set at-loop.d.v at-loop.i _ ∙ at-loop.invariant.1.0,
-        (rw at-loop.invariant.1.1.0 (shift-turn v at-loop.i _ (omega (arith, c.before.loop-test.true))), at-loop.invariant.1.1.1),
+        length-set at_loop.d.v at_loop.i _ ∙ at_loop.invariant.1.0,
+        (rw at_loop.invariant.1.1.0 (shift_turn v at_loop.i _ (omega (arith, c.before.loop-test.true))), at_loop.invariant.1.1.1),
       ),
     )
 
 returns : tie.Need-returns invariant-loop decreases-loop
 unfolding shifted
 returns c =
-    let at-loop = c.before.loop in
-    let end : at-loop.i ≡ 15 = omega arith in
-    rw (← shift-end c.before.before.args.h.v, ← end, ← at-loop.invariant.1.1.0, ← at-loop.invariant.1.1.1)
+    let at_loop = c.before.loop in
+    let end : at_loop.i ≡ 15 = omega arith in
+    rw (← shift_end c.before.before.args.h.v, ← end, ← at_loop.invariant.1.1.0, ← at_loop.invariant.1.1.1)
 
-pub shift-spec : {M : Type 1} → statement M
-shift-spec =
+pub shift_spec : {M : Type 1} → statement M
+shift_spec =
     tie.close
     (tie.spec
     invariant-loop

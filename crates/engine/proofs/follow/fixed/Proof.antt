@@ -20,5 +20,5 @@ returns-2 c =
     let test = c.before.before in
     rw (c.before.seen.ensures, sym test.before.is-same-place.ensures ∙ test.if1.false)
 
-pub fixed-spec : {M : Type 1} → statement M
-fixed-spec = tie.close (tie.spec is-same-place-requires returns seen-requires returns-2)
+pub fixed_spec : {M : Type 1} → statement M
+fixed_spec = tie.close (tie.spec is-same-place-requires returns seen-requires returns-2)

@@ -1,6 +1,6 @@
 -- `engine::follow::fresh` meets its contract: each field by the answer of its callee, with the literal read as a whole number.
 use Rattle.engine.specs.Follow.{fresh}
-use Rattle.engine.proofs.Literals.{literal-10000}
+use Rattle.engine.proofs.Literals.{literal_10000}
 use Rattle.engine.proofs.follow.fresh.Statement.{statement}
 use Rattle.engine.proofs.follow.fresh.Tie as tie
 
@@ -25,15 +25,15 @@ returns c =
     let due = c.before.before in
     rw (
       c.min.ensures,
-      literal-10000,
+      literal_10000,
       c.before.nothing-ahead.ensures,
       due.nothing-done.ensures,
       due.before.reset.ensures,
       due.before.before.nothing_Seen.ensures,
     )
 
-pub fresh-spec : {M : Type 1} → statement M
-fresh-spec =
+pub fresh_spec : {M : Type 1} → statement M
+fresh_spec =
     tie.close
     (tie.spec
     nothing-seen-requires

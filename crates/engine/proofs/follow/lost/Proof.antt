@@ -38,8 +38,8 @@ returns-2 c =
       sym c.before.is-matched.ensures ∙ c.if1.false,
     )
 
-pub lost-spec : {M : Type 1} → statement M
-lost-spec =
+pub lost_spec : {M : Type 1} → statement M
+lost_spec =
     tie.close
     (tie.spec
     lost-requires

@@ -26,7 +26,7 @@ returns c =
       due.before.before.before.reset.ensures,
     )
 
-pub reset-spec : {M : Type 1} → statement M
-reset-spec =
+pub reset_spec : {M : Type 1} → statement M
+reset_spec =
     tie.close
     (tie.spec reset-requires has-fix-requires nothing-done-requires forgotten-requires returns)

@@ -15,5 +15,5 @@ returns-2 c = rw (c.of-road.ensures, c.before.before.if1.false, c.before.if2.tru
 returns-3 : tie.Need-returns-3
 returns-3 c = search rules
 
-pub of-due-spec : {M : Type 1} → statement M
-of-due-spec = tie.close (tie.spec returns of-road-requires returns-2 returns-3)
+pub of_due_spec : {M : Type 1} → statement M
+of_due_spec = tie.close (tie.spec returns of-road-requires returns-2 returns-3)

@@ -1,7 +1,7 @@
 -- `engine::plan::of_fix` meets its contract: by where the fix lies, its place read back from its bits.
 use Rattle.std.proofs.Common.{sym, ◌∙◌, w32, rules}
 use Rattle.pack.proofs.Signed.{got}
-use Rattle.engine.proofs.StepNeeds.{fix-off}
+use Rattle.engine.proofs.StepNeeds.{fix_off}
 use Rattle.engine.proofs.plan.of_fix.Statement.{statement}
 use Rattle.engine.proofs.plan.of_fix.Tie as tie
 
@@ -20,7 +20,7 @@ returns c =
     let lat = got w32 {z = fix.lat} c.before.before.before.struct_told.given.0.1 in
     let lon = got w32 {z = fix.lon} c.before.before.before.struct_told.given.1.0.1 in
     let key = rw (lat, lon) at c.before.key_of.ensures in
-    rw (← key, fix-off c.before.key_of.result c.match.keys1 fix c.before.before.before.before.args.due c.before.before.before.before.args.current)
+    rw (← key, fix_off c.before.key_of.result c.match.keys1 fix c.before.before.before.before.args.due c.before.before.before.before.args.current)
 
 returns-2 : tie.Need-returns-2
 returns-2 c =
@@ -30,5 +30,5 @@ returns-2 c =
     let key = rw (lat, lon) at c.before.before.before.key_of.ensures in
     rw (c.of-due.ensures, sym key ∙ c.before.enum_told.given.1)
 
-pub of-fix-spec : {M : Type 1} → statement M
-of-fix-spec = tie.close (tie.spec key-of-requires enum_told of-due-requires returns returns-2)
+pub of_fix_spec : {M : Type 1} → statement M
+of_fix_spec = tie.close (tie.spec key-of-requires enum_told of-due-requires returns returns-2)

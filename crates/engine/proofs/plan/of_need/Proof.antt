@@ -18,5 +18,5 @@ returns c = rw c.before.need.given.1
 returns-2 : tie.Need-returns-2
 returns-2 c = rw (c.of-sight.ensures, c.before.enum_told.given.1)
 
-pub of-need-spec : {M : Type 1} → statement M
-of-need-spec = tie.close (tie.spec enum-known-need enum_told of-sight-requires returns returns-2)
+pub of_need_spec : {M : Type 1} → statement M
+of_need_spec = tie.close (tie.spec enum-known-need enum_told of-sight-requires returns returns-2)

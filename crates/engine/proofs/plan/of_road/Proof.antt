@@ -15,5 +15,5 @@ returns c = rw c.before.current.given.1
 returns-2 : tie.Need-returns-2
 returns-2 c = search rules
 
-pub of-road-spec : {M : Type 1} → statement M
-of-road-spec = tie.close (tie.spec enum-known-current enum_told returns returns-2)
+pub of_road_spec : {M : Type 1} → statement M
+of_road_spec = tie.close (tie.spec enum-known-current enum_told returns returns-2)

@@ -18,5 +18,5 @@ returns c = rw c.enum_told.given.1
 returns-2 : tie.Need-returns-2
 returns-2 c = rw (c.of-fix.ensures, c.before.before.fix.given.1)
 
-pub of-sight-spec : {M : Type 1} → statement M
-of-sight-spec = tie.close (tie.spec enum_told enum-known-fix of-fix-requires returns returns-2)
+pub of_sight_spec : {M : Type 1} → statement M
+of_sight_spec = tie.close (tie.spec enum_told enum-known-fix of-fix-requires returns returns-2)

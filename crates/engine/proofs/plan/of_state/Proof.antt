@@ -24,7 +24,7 @@ returns-2 c = rw c.enum-told2.given.1
 returns-3 : tie.Need-returns-3
 returns-3 c = rw (c.of-need.ensures, c.before.enum-told3.given.1)
 
-pub of-state-spec : {M : Type 1} → statement M
-of-state-spec =
+pub of_state_spec : {M : Type 1} → statement M
+of_state_spec =
     tie.close
     (tie.spec enum_told enum-told-2 enum-told-3 of-need-requires returns returns-2 returns-3)

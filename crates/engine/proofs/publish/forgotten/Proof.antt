@@ -11,5 +11,5 @@ nothing-ahead-requires c κs = tt
 returns : tie.Need-returns
 returns c = rw (c.nothing-ahead.ensures, c.before.wrapping-add-u32.ensures)
 
-pub forgotten-spec : {M : Type 1} → statement M
-forgotten-spec = tie.close (tie.spec wrapping-add-u32-requires nothing-ahead-requires returns)
+pub forgotten_spec : {M : Type 1} → statement M
+forgotten_spec = tie.close (tie.spec wrapping-add-u32-requires nothing-ahead-requires returns)

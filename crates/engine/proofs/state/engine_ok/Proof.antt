@@ -1,7 +1,7 @@
--- `engine::state::engine_ok` meets its contract: each return by the cache's own test and the summary's (`summary-ok`).
+-- `engine::state::engine_ok` meets its contract: each return by the cache's own test and the summary's (`summary_ok`).
 use Rattle.std.proofs.Common.{sym, ◌∙◌, rules}
 use borrow.Author.Tests.{not-true, not-false}
-use Rattle.engine.proofs.SummaryLaws.{summary-ok}
+use Rattle.engine.proofs.SummaryLaws.{summary_ok}
 use Rattle.engine.proofs.state.engine_ok.Statement.{statement}
 use Rattle.engine.proofs.state.engine_ok.Tie as tie
 
@@ -9,7 +9,7 @@ state-ok-requires : tie.Need-state-ok-requires
 state-ok-requires c κs = search rules
 
 returns : tie.Need-returns
-returns c = rw (summary-ok c.before.before.before.before.args.e c.before.before.before.before.args.size, sym c.before.state-ok.ensures ∙ not-true _ c.if1.true)
+returns c = rw (summary_ok c.before.before.before.before.args.e c.before.before.before.before.args.size, sym c.before.state-ok.ensures ∙ not-true _ c.if1.true)
 
 summary-of-requires : tie.Need-summary-of-requires
 summary-of-requires c κs = search rules
@@ -22,11 +22,11 @@ returns-2 c =
     let tested = c.before.before in
     let args = tested.before.before.before.before.args in
     rw (
-      summary-ok args.e args.size,
+      summary_ok args.e args.size,
       sym tested.before.state-ok.ensures ∙ not-false _ tested.if1.false,
       ← c.before.summary-of.ensures,
     ) c.passes.ensures
 
-pub engine-ok-spec : {M : Type 1} → statement M
-engine-ok-spec =
+pub engine_ok_spec : {M : Type 1} → statement M
+engine_ok_spec =
     tie.close (tie.spec state-ok-requires returns summary-of-requires passes-requires returns-2)

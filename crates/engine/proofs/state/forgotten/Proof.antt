@@ -16,5 +16,5 @@ returns : tie.Need-returns
 unfolding forgotten
 returns c = rw (c.reset.ensures, c.before.before.unread.ensures, c.before.before.before.cleared.ensures)
 
-pub forgotten-spec : {M : Type 1} → statement M
-forgotten-spec = tie.close (tie.spec cleared-requires unread-requires reset-requires returns)
+pub forgotten_spec : {M : Type 1} → statement M
+forgotten_spec = tie.close (tie.spec cleared-requires unread-requires reset-requires returns)

@@ -8,5 +8,5 @@ no-header-requires c κs = tt
 returns : tie.Need-returns
 returns c = rw c.no_header.ensures
 
-pub unread-spec : {M : Type 1} → statement M
-unread-spec = tie.close (tie.spec no-header-requires returns)
+pub unread_spec : {M : Type 1} → statement M
+unread_spec = tie.close (tie.spec no-header-requires returns)

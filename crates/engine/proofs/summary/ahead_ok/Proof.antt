@@ -16,5 +16,5 @@ matched-ok-requires c κs = tt
 returns-3 : tie.Need-returns-3
 returns-3 c = rw (le-leb _ _ c.before.before.if1.false, le-leb _ _ c.before.if2.false) c.matched-ok.ensures
 
-pub ahead-ok-spec : {M : Type 1} → statement M
-ahead-ok-spec = tie.close (tie.spec returns returns-2 matched-ok-requires returns-3)
+pub ahead_ok_spec : {M : Type 1} → statement M
+ahead_ok_spec = tie.close (tie.spec returns returns-2 matched-ok-requires returns-3)

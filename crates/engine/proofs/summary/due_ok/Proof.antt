@@ -21,8 +21,8 @@ returns-2 c =
     let limit = c.before in
     rw (← limit.before.before.reload-limit.ensures, le-leb _ _ limit.if1.false) c.need-ok.ensures
 
-pub due-ok-spec : {M : Type 1} → statement M
-due-ok-spec =
+pub due_ok_spec : {M : Type 1} → statement M
+due_ok_spec =
     tie.close
     (tie.spec
     reload-limit-requires

@@ -15,5 +15,5 @@ returns-2 c = rw (c.is-failed.ensures, le-ltb _ _ c.before.before.if1.false, eq-
 returns-3 : tie.Need-returns-3
 returns-3 c = rw (le-ltb _ _ c.before.if1.false, ne_eqb _ _ c.if2.false)
 
-pub failures-ok-spec : {M : Type 1} → statement M
-failures-ok-spec = tie.close (tie.spec returns is-failed-requires returns-2 returns-3)
+pub failures_ok_spec : {M : Type 1} → statement M
+failures_ok_spec = tie.close (tie.spec returns is-failed-requires returns-2 returns-3)

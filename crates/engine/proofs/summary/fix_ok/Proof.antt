@@ -21,5 +21,5 @@ returns-2 c =
     let tested = rw (got w32 c.before.before.struct_told.given.0.1, got w32 c.before.struct-told2.given.1.0.1) at c.is-point.ensures in
     rw c.before.before.before.before.fix.given.1 tested
 
-pub fix-ok-spec : {M : Type 1} → statement M
-fix-ok-spec = tie.close (tie.spec enum_told enum-known-fix is-point-requires returns returns-2)
+pub fix_ok_spec : {M : Type 1} → statement M
+fix_ok_spec = tie.close (tie.spec enum_told enum-known-fix is-point-requires returns returns-2)

@@ -2,7 +2,7 @@
 use Rattle.std.proofs.Common.{sym, ◌∙◌, rules}
 use mathlib.Core.Bool.{and-true}
 use borrow.Author.Tests.{not-true, not-false}
-use Rattle.engine.specs.Summaries.{followerIn}
+use Rattle.engine.specs.Summaries.{follower_in}
 use Rattle.engine.proofs.summary.follower_ok.Statement.{statement}
 use Rattle.engine.proofs.summary.follower_ok.Tie as tie
 
@@ -10,14 +10,14 @@ due-ok-requires : tie.Need-due-ok-requires
 due-ok-requires c κs = search rules
 
 returns : tie.Need-returns
-unfolding followerIn
+unfolding follower_in
 returns c = rw (sym c.before.due-ok.ensures ∙ not-true _ c.if1.true)
 
 sight-ok-requires : tie.Need-sight-ok-requires
 sight-ok-requires c κs = search rules
 
 returns-2 : tie.Need-returns-2
-unfolding followerIn
+unfolding follower_in
 returns-2 c =
     let due = c.before.before.before in
     rw (
@@ -29,7 +29,7 @@ matcher-ok-requires : tie.Need-matcher-ok-requires
 matcher-ok-requires c κs = search rules
 
 returns-3 : tie.Need-returns-3
-unfolding followerIn
+unfolding follower_in
 returns-3 c =
     let sight = c.before.before.before in
     let due = sight.before.before.before in
@@ -43,7 +43,7 @@ ahead-ok-requires : tie.Need-ahead-ok-requires
 ahead-ok-requires c κs = search rules
 
 returns-4 : tie.Need-returns-4
-unfolding followerIn
+unfolding follower_in
 returns-4 c =
     let matcher = c.before.before in
     let sight = matcher.before.before.before in
@@ -59,7 +59,7 @@ failures-ok-requires : tie.Need-failures-ok-requires
 failures-ok-requires c κs = search rules
 
 returns-5 : tie.Need-returns-5
-unfolding followerIn
+unfolding follower_in
 returns-5 c =
     let ahead = c.before in
     let matcher = ahead.before.before in
@@ -74,8 +74,8 @@ returns-5 c =
       and-true,
     )
 
-pub follower-ok-spec : {M : Type 1} → statement M
-follower-ok-spec =
+pub follower_ok_spec : {M : Type 1} → statement M
+follower_ok_spec =
     tie.close
     (tie.spec
     due-ok-requires

@@ -15,5 +15,5 @@ returns c = rw (sym c.before.before.is-ready.ensures ∙ c.before.if1.true) c.ru
 returns-2 : tie.Need-returns-2
 returns-2 c = search rules
 
-pub header-ok-spec : {M : Type 1} → statement M
-header-ok-spec = tie.close (tie.spec is-ready-requires rules-requires returns returns-2)
+pub header_ok_spec : {M : Type 1} → statement M
+header_ok_spec = tie.close (tie.spec is-ready-requires rules-requires returns returns-2)

@@ -24,7 +24,7 @@ returns-2 c = search rules
 returns-3 : tie.Need-returns-3
 returns-3 c = rw c.before.enum-told3.given.1 c.in-grid.ensures
 
-pub held-ok-spec : {M : Type 1} → statement M
-held-ok-spec =
+pub held_ok_spec : {M : Type 1} → statement M
+held_ok_spec =
     tie.close
     (tie.spec enum_told enum-told-2 enum-told-3 in-grid-requires returns returns-2 returns-3)

@@ -1,6 +1,6 @@
 -- `engine::summary::is_unread` meets its contract: each return by the phase.
 use Rattle.std.proofs.Common.{rules}
-use Rattle.engine.proofs.StateNeeds.{not-unread}
+use Rattle.engine.proofs.StateNeeds.{not_unread}
 use Rattle.engine.proofs.summary.is_unread.Statement.{statement}
 use Rattle.engine.proofs.summary.is_unread.Tie as tie
 
@@ -11,7 +11,7 @@ returns : tie.Need-returns
 returns c = search rules
 
 returns-2 : tie.Need-returns-2
-returns-2 c = rw (not-unread c.before.args.phase c.match.keys2)
+returns-2 c = rw (not_unread c.before.args.phase c.match.keys2)
 
-pub is-unread-spec : {M : Type 1} → statement M
-is-unread-spec = tie.close (tie.spec enum_told returns returns-2)
+pub is_unread_spec : {M : Type 1} → statement M
+is_unread_spec = tie.close (tie.spec enum_told returns returns-2)

@@ -18,6 +18,6 @@ returns c = search rules
 returns-2 : tie.Need-returns-2
 returns-2 c = rw (c.holds.ensures, c.before.before.before.loading.given.1)
 
-pub loads-needed-spec : {M : Type 1} → statement M
-loads-needed-spec =
+pub loads_needed_spec : {M : Type 1} → statement M
+loads_needed_spec =
     tie.close (tie.spec enum_told enum-known-loading holds-requires returns returns-2)

@@ -18,6 +18,6 @@ returns c = rw c.enum_told.given.1
 returns-2 : tie.Need-returns-2
 returns-2 c = rw c.before.before.before.current.given.1 c.held-ok.ensures
 
-pub matched-ok-spec : {M : Type 1} → statement M
-matched-ok-spec =
+pub matched_ok_spec : {M : Type 1} → statement M
+matched_ok_spec =
     tie.close (tie.spec enum_told enum-known-current held-ok-requires returns returns-2)

@@ -18,5 +18,5 @@ returns c = rw c.enum_told.given.1
 returns-2 : tie.Need-returns-2
 returns-2 c = rw c.before.before.need.given.1 c.held-ok.ensures
 
-pub need-ok-spec : {M : Type 1} → statement M
-need-ok-spec = tie.close (tie.spec enum_told enum-known-need held-ok-requires returns returns-2)
+pub need_ok_spec : {M : Type 1} → statement M
+need_ok_spec = tie.close (tie.spec enum_told enum-known-need held-ok-requires returns returns-2)

@@ -37,8 +37,8 @@ returns-3 c =
       sym follower.before.follower-ok.ensures ∙ not-false _ follower.if2.false,
     ) c.pending-ok.ensures
 
-pub passes-spec : {M : Type 1} → statement M
-passes-spec =
+pub passes_spec : {M : Type 1} → statement M
+passes_spec =
     tie.close
     (tie.spec
     shared-ok-requires

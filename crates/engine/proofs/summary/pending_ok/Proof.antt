@@ -52,8 +52,8 @@ returns-5 c = rw (c.before.before.before.pending.given.1, sym c.before.is-ready.
 returns-6 : tie.Need-returns-6
 returns-6 c = rw (c.before.before.enum-told3.given.1, sym c.before.is-ready2.ensures ∙ c.if2.false)
 
-pub pending-ok-spec : {M : Type 1} → statement M
-pending-ok-spec =
+pub pending_ok_spec : {M : Type 1} → statement M
+pending_ok_spec =
     tie.close
     (tie.spec
     enum_told

@@ -13,5 +13,5 @@ header-ok-requires c κs = search rules
 returns-2 : tie.Need-returns-2
 returns-2 c = rw (enough _ _ c.before.before.if1.false) c.header_ok.ensures
 
-pub shared-ok-spec : {M : Type 1} → statement M
-shared-ok-spec = tie.close (tie.spec returns header-ok-requires returns-2)
+pub shared_ok_spec : {M : Type 1} → statement M
+shared_ok_spec = tie.close (tie.spec returns header-ok-requires returns-2)

@@ -33,7 +33,7 @@ returns-3 c =
       sym places.before.places-ok.ensures ∙ not-false _ places.if2.false,
     ) c.heading-ok.ensures
 
-pub sight-ok-spec : {M : Type 1} → statement M
-sight-ok-spec =
+pub sight_ok_spec : {M : Type 1} → statement M
+sight_ok_spec =
     tie.close
     (tie.spec fix-ok-requires returns places-ok-requires returns-2 heading-ok-requires returns-3)

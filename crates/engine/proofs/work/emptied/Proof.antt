@@ -15,5 +15,5 @@ returns c = rw (c.without-match.ensures, sym c.before.before.is-matched.ensures 
 returns-2 : tie.Need-returns-2
 returns-2 c = rw (sym c.before.is-matched.ensures ∙ c.if1.false)
 
-pub emptied-spec : {M : Type 1} → statement M
-emptied-spec = tie.close (tie.spec is-matched-requires without-match-requires returns returns-2)
+pub emptied_spec : {M : Type 1} → statement M
+emptied_spec = tie.close (tie.spec is-matched-requires without-match-requires returns returns-2)

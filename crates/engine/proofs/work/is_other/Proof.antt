@@ -18,6 +18,6 @@ returns c = search rules
 returns-2 : tie.Need-returns-2
 returns-2 c = rw (c.before.before.published.given.1, c.is-on.ensures)
 
-pub is-other-spec : {M : Type 1} → statement M
-is-other-spec =
+pub is_other_spec : {M : Type 1} → statement M
+is_other_spec =
     tie.close (tie.spec enum_told enum-known-published is-on-requires returns returns-2)

@@ -23,5 +23,5 @@ returns-2 c = search rules
 returns-3 : tie.Need-returns-3
 returns-3 c = rw c.before.before.last.given.1
 
-pub is-time-spec : {M : Type 1} → statement M
-is-time-spec = tie.close (tie.spec enum_told enum-known-last returns returns-2 returns-3)
+pub is_time_spec : {M : Type 1} → statement M
+is_time_spec = tie.close (tie.spec enum_told enum-known-last returns returns-2 returns-3)

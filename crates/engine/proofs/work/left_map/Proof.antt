@@ -12,5 +12,5 @@ off-map-requires c κs = search rules
 returns : tie.Need-returns
 returns c = rw (c.off-map.ensures, c.before.counted.ensures)
 
-pub left-map-spec : {M : Type 1} → statement M
-left-map-spec = tie.close (tie.spec counted-requires off-map-requires returns)
+pub left_map_spec : {M : Type 1} → statement M
+left_map_spec = tie.close (tie.spec counted-requires off-map-requires returns)

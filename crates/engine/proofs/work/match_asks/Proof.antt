@@ -3,21 +3,21 @@ use Rattle.std.proofs.Common.{◌≡◌, ℕ, ◌+◌, Bool, true, false, cond, 
 use Rattle.pack.specs.declared.TileKey.{TileKey}
 use Rattle.engine.specs.declared.Due.{Due}
 use Rattle.engine.specs.declared.Follower.{Follower}
-use Rattle.engine.specs.Plans.{askingDue}
-use Rattle.engine.specs.Work.{withDue, asking, mayAsk, matchDone, matchAsks}
+use Rattle.engine.specs.Plans.{asking_due}
+use Rattle.engine.specs.Work.{with_due, asking, may_ask, match_done, match_asks}
 use Rattle.engine.proofs.work.match_asks.Statement.{statement}
 use Rattle.engine.proofs.work.match_asks.Tie as tie
 
-asked_is : (f : Follower) (pages : ℕ) (key : TileKey) → withDue f (askingDue f.due pages key) ≡ matchAsks f pages key
-asked_is f pages key = by (mayAsk f.due pages)
+asked_is : (f : Follower) (pages : ℕ) (key : TileKey) → with_due f (asking_due f.due pages key) ≡ match_asks f pages key
+asked_is f pages key = by (may_ask f.due pages)
   where
     asked : Due
     asked = asking f.due key (f.due.reloads + 1)
 
     ended : Due
-    ended = matchDone f.due f.due.road
+    ended = match_done f.due f.due.road
 
-    by : (t : Bool) → withDue f (cond t asked ended) ≡ cond t (withDue f asked) (withDue f ended)
+    by : (t : Bool) → with_due f (cond t asked ended) ≡ cond t (with_due f asked) (with_due f ended)
     by true = refl
     by false = refl
 
@@ -29,5 +29,5 @@ returns c =
     let args = c.before.before.args in
     rw c.asking-due.ensures (asked_is args.f args.pages args.key)
 
-pub match-asks-spec : {M : Type 1} → statement M
-match-asks-spec = tie.close (tie.spec asking-due-requires returns)
+pub match_asks_spec : {M : Type 1} → statement M
+match_asks_spec = tie.close (tie.spec asking-due-requires returns)

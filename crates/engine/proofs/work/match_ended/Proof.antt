@@ -1,6 +1,6 @@
 -- `engine::work::match_ended` meets its contract: a match that refuses the step, and any other.
 use Rattle.std.proofs.Common.{rules}
-use Rattle.engine.proofs.StepNeeds.{match-ended}
+use Rattle.engine.proofs.StepNeeds.{match_ended}
 use Rattle.engine.proofs.work.match_ended.Statement.{statement}
 use Rattle.engine.proofs.work.match_ended.Tie as tie
 
@@ -33,11 +33,11 @@ returns-2 c =
       c.before.match-leaves.ensures,
       c.before.before.before.before.before.counted.ensures,
       c.before.before.before.before.before.before.before.with-uses.ensures,
-      match-ended args.u.answer c.before.before.before.before.before.before.before.before.before.before.before.match.keys2 args.e _ args.fix _,
+      match_ended args.u.answer c.before.before.before.before.before.before.before.before.before.before.before.match.keys2 args.e _ args.fix _,
     )
 
-pub match-ended-spec : {M : Type 1} → statement M
-match-ended-spec =
+pub match_ended_spec : {M : Type 1} → statement M
+match_ended_spec =
     tie.close
     (tie.spec
     enum-known-answer

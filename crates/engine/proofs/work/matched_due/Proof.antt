@@ -37,8 +37,8 @@ returns-3 c =
       sym c.before.is-time.ensures ∙ c.if2.false,
     )
 
-pub matched-due-spec : {M : Type 1} → statement M
-matched-due-spec =
+pub matched_due_spec : {M : Type 1} → statement M
+matched_due_spec =
     tie.close
     (tie.spec
     enum_told

@@ -12,5 +12,5 @@ reload-limit-requires c κs = tt
 returns : tie.Need-returns
 returns c = rw c.reload-limit.ensures
 
-pub may-ask-spec : {M : Type 1} → statement M
-may-ask-spec = tie.close (tie.spec cast-result reload-limit-requires returns)
+pub may_ask_spec : {M : Type 1} → statement M
+may_ask_spec = tie.close (tie.spec cast-result reload-limit-requires returns)

@@ -13,5 +13,5 @@ returns : tie.Need-returns
 unfolding published
 returns c = rw (c.with-match.ensures, c.before.road-done.ensures)
 
-pub published-spec : {M : Type 1} → statement M
-published-spec = tie.close (tie.spec road-done-requires with-match-requires returns)
+pub published_spec : {M : Type 1} → statement M
+published_spec = tie.close (tie.spec road-done-requires with-match-requires returns)

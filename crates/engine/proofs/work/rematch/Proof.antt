@@ -8,5 +8,5 @@ reset-requires c κs = tt
 returns : tie.Need-returns
 returns c = rw c.before.reset.ensures
 
-pub rematch-spec : {M : Type 1} → statement M
-rematch-spec = tie.close (tie.spec reset-requires returns)
+pub rematch_spec : {M : Type 1} → statement M
+rematch_spec = tie.close (tie.spec reset-requires returns)

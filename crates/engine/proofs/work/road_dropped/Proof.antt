@@ -9,5 +9,5 @@ counted-requires c κs = search rules
 returns : tie.Need-returns
 returns c = rw c.before.counted.ensures
 
-pub road-dropped-spec : {M : Type 1} → statement M
-road-dropped-spec = tie.close (tie.spec counted-requires returns)
+pub road_dropped_spec : {M : Type 1} → statement M
+road_dropped_spec = tie.close (tie.spec counted-requires returns)

@@ -1,6 +1,6 @@
 -- `engine::work::road_leaves` meets its contract: by how the road ended.
 use Rattle.std.proofs.Common.{rules}
-use Rattle.engine.proofs.StepNeeds.{road-left}
+use Rattle.engine.proofs.StepNeeds.{road_left}
 use Rattle.engine.proofs.work.road_leaves.Statement.{statement}
 use Rattle.engine.proofs.work.road_leaves.Tie as tie
 
@@ -26,10 +26,10 @@ returns-2 : tie.Need-returns-2
 returns-2 c = rw (c.road-asks.ensures, c.before.before.answer2.given.1)
 
 returns-3 : tie.Need-returns-3
-returns-3 c = rw (c.rematch.ensures, road-left c.before.before.args.answer c.before.match.keys3 c.before.before.args.f c.before.before.args.a c.before.before.args.pages c.before.before.args.fix c.before.before.args.found)
+returns-3 c = rw (c.rematch.ensures, road_left c.before.before.args.answer c.before.match.keys3 c.before.before.args.f c.before.before.args.a c.before.before.args.pages c.before.before.args.fix c.before.before.args.found)
 
-pub road-leaves-spec : {M : Type 1} → statement M
-road-leaves-spec =
+pub road_leaves_spec : {M : Type 1} → statement M
+road_leaves_spec =
     tie.close
     (tie.spec
     enum-known-answer

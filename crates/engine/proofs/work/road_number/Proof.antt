@@ -1,6 +1,6 @@
 -- `engine::work::road_number` meets its contract: by how the road ended.
 use Rattle.std.proofs.Common.{rules}
-use Rattle.engine.proofs.StepNeeds.{road-unnumbered}
+use Rattle.engine.proofs.StepNeeds.{road_unnumbered}
 use Rattle.engine.proofs.work.road_number.Statement.{statement}
 use Rattle.engine.proofs.work.road_number.Tie as tie
 
@@ -8,10 +8,10 @@ enum-known-answer : tie.Need-enum-known-answer
 enum-known-answer c = search rules
 
 returns : tie.Need-returns
-returns c = rw (road-unnumbered c.before.args.answer c.match.keys1)
+returns c = rw (road_unnumbered c.before.args.answer c.match.keys1)
 
 returns-2 : tie.Need-returns-2
 returns-2 c = rw c.before.answer.given.1
 
-pub road-number-spec : {M : Type 1} → statement M
-road-number-spec = tie.close (tie.spec enum-known-answer returns returns-2)
+pub road_number_spec : {M : Type 1} → statement M
+road_number_spec = tie.close (tie.spec enum-known-answer returns returns-2)

@@ -7,17 +7,17 @@ use mir.Syntax.{w32, w64}
 use mir.Val.{SFits, to_z, of_z}
 use borrow.Author.Rules.{rules}
 use Rattle.pack.proofs.Signed.{range, fits, sub, sf, wide, widens}
-use Rattle.geo.specs.Flat.{metresOf}
+use Rattle.geo.specs.Flat.{metres_of}
 use Rattle.geo.proofs.flat.metres.Statement.{statement}
 use Rattle.geo.proofs.flat.metres.Tie as tie
 
 -- the difference of two i32 in 64 bits, and as the code reads it back
 module _ {a b : ℤ} (f : SFits w32 a) (g : SFits w32 b) where
-  gap-fits : SFits w64 (to_z w64 (of_z w64 (to_z w32 (of_z w32 a))) -ℤ to_z w64 (of_z w64 (to_z w32 (of_z w32 b))))
-  gap-fits = rw (wide f, wide g) (fits w64 (a -ℤ b) (omega (arith, range f, range g, sub a b)))
+  gap_fits : SFits w64 (to_z w64 (of_z w64 (to_z w32 (of_z w32 a))) -ℤ to_z w64 (of_z w64 (to_z w32 (of_z w32 b))))
+  gap_fits = rw (wide f, wide g) (fits w64 (a -ℤ b) (omega (arith, range f, range g, sub a b)))
 
   gap_is : to_z w64 (of_z w64 (to_z w64 (of_z w64 (to_z w32 (of_z w32 a))) -ℤ to_z w64 (of_z w64 (to_z w32 (of_z w32 b))))) ≡ a -ℤ b
-  gap_is = rw (to_z-of_z gap-fits, wide f, wide g)
+  gap_is = rw (to_z-of_z gap_fits, wide f, wide g)
 
 cast-f32-of-i64 : tie.Need-overflow-cast-f32-of-i64
 cast-f32-of-i64 c = widens (sf w32 c.before.before.args.p.lon c.struct_told.given.1.0.1)
@@ -28,7 +28,7 @@ cast-f32-of-i64-2 c = widens (sf w32 c.before.before.before.before.args.origin.l
 sub-f32-of-i64 : tie.Need-overflow-sub-f32-of-i64
 sub-f32-of-i64 c =
     let start = c.before.before.before.before in
-    gap-fits (sf w32 start.args.p.lon c.before.before.struct_told.given.1.0.1) (sf w32 start.args.origin.lon c.struct-told2.given.1.0.1)
+    gap_fits (sf w32 start.args.p.lon c.before.before.struct_told.given.1.0.1) (sf w32 start.args.origin.lon c.struct-told2.given.1.0.1)
 
 f32-of-i64-requires : tie.Need-f32-of-i64-requires
 f32-of-i64-requires c κs = search rules
@@ -43,7 +43,7 @@ cast-f32-of-i64-4 c =
 sub-f32-of-i64-2 : tie.Need-overflow-sub-f32-of-i64-2
 sub-f32-of-i64-2 c =
     let start = c.before.before.before.before.before.before.before.before.before in
-    gap-fits (sf w32 start.args.p.lat c.before.before.struct-told3.given.0.1) (sf w32 start.args.origin.lat c.struct-told4.given.0.1)
+    gap_fits (sf w32 start.args.p.lat c.before.before.struct-told3.given.0.1) (sf w32 start.args.origin.lat c.struct-told4.given.0.1)
 
 f32-of-i64-requires-2 : tie.Need-f32-of-i64-requires-2
 f32-of-i64-requires-2 c κs = search rules
@@ -52,23 +52,23 @@ f32-of-u32-requires : tie.Need-f32-of-u32-requires
 f32-of-u32-requires c κs = search rules
 
 returns : tie.Need-returns
-unfolding metresOf
+unfolding metres_of
 returns c =
     let north = c.before in
     let east = north.before.before.before.before.before in
     let start = east.before.before.before.before.before in
-    let p-lat = sf w32 start.args.p.lat north.before.before.before.struct-told3.given.0.1 in
-    let o-lat = sf w32 start.args.origin.lat north.before.struct-told4.given.0.1 in
-    let p-lon = sf w32 start.args.p.lon east.before.before.before.struct_told.given.1.0.1 in
-    let o-lon = sf w32 start.args.origin.lon east.before.struct-told2.given.1.0.1 in
+    let p_lat = sf w32 start.args.p.lat north.before.before.before.struct-told3.given.0.1 in
+    let o_lat = sf w32 start.args.origin.lat north.before.struct-told4.given.0.1 in
+    let p_lon = sf w32 start.args.p.lon east.before.before.before.struct_told.given.1.0.1 in
+    let o_lon = sf w32 start.args.origin.lon east.before.struct-told2.given.1.0.1 in
     rw (
-      rw (gap_is p-lon o-lon) at east.f32-of-i64.ensures,
-      rw (gap_is p-lat o-lat) at north.f32-of-i642.ensures,
+      rw (gap_is p_lon o_lon) at east.f32-of-i64.ensures,
+      rw (gap_is p_lat o_lat) at north.f32-of-i642.ensures,
       c.f32-of-u32.ensures,
     )
 
-pub metres-spec : {M : Type 1} → statement M
-metres-spec =
+pub metres_spec : {M : Type 1} → statement M
+metres_spec =
     tie.close
     (tie.spec
     cast-f32-of-i64

@@ -29,5 +29,5 @@ returns c =
       south.before.before.corner-of.ensures,
     )
 
-pub point-spec : {M : Type 1} → statement M
-point-spec = tie.close (tie.spec corner-of-requires beyond-requires beyond-requires-2 returns)
+pub point_spec : {M : Type 1} → statement M
+point_spec = tie.close (tie.spec corner-of-requires beyond-requires beyond-requires-2 returns)

@@ -15,5 +15,5 @@ mul-result c = omega (arith, most c.ranges.a c.ranges.b)
 returns : tie.Need-returns
 returns c = (refl, most c.ranges.a c.ranges.b)
 
-pub product-spec : {M : Type 1} → statement M
-product-spec = tie.close (tie.spec mul-result returns)
+pub product_spec : {M : Type 1} → statement M
+product_spec = tie.close (tie.spec mul-result returns)

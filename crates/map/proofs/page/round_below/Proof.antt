@@ -39,8 +39,8 @@ returns-2 c = search rules
 returns-3 : tie.Need-returns-3 invariant-loop decreases-loop
 returns-3 c = search rules
 
-pub round-below-spec : {M : Type 1} → statement M
-round-below-spec =
+pub round_below_spec : {M : Type 1} → statement M
+round_below_spec =
     tie.close
     (tie.spec
     invariant-loop

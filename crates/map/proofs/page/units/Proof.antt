@@ -19,5 +19,5 @@ returns : tie.Need-returns
 returns c =
     (rw (c.product.ensures.0, c.before.short.ensures), omega (arith, div-le_self c.product.result (c.before.before.args.over + 1), c.product.ensures.1))
 
-pub units-spec : {M : Type 1} → statement M
-units-spec = tie.close (tie.spec short-requires product-requires add-result div-result returns)
+pub units_spec : {M : Type 1} → statement M
+units_spec = tie.close (tie.spec short-requires product-requires add-result div-result returns)

@@ -48,8 +48,8 @@ loop-again c = search rules
 returns-2 : tie.Need-returns-2 invariant-loop decreases-loop
 returns-2 c = search rules
 
-pub ticks-spec : {M : Type 1} → statement M
-ticks-spec =
+pub ticks_spec : {M : Type 1} → statement M
+ticks_spec =
     tie.close
     (tie.spec
     invariant-loop

@@ -36,8 +36,8 @@ loop-again c = search rules
 returns-2 : tie.Need-returns-2 invariant-loop decreases-loop
 returns-2 c = search rules
 
-pub legs-spec : {M : Type 1} → statement M
-legs-spec =
+pub legs_spec : {M : Type 1} → statement M
+legs_spec =
     tie.close
     (tie.spec
     invariant-loop

@@ -30,8 +30,8 @@ loop-again c = search rules
 returns : tie.Need-returns invariant-loop decreases-loop
 returns c = search rules
 
-pub points-spec : {M : Type 1} → statement M
-points-spec =
+pub points_spec : {M : Type 1} → statement M
+points_spec =
     tie.close
     (tie.spec
     invariant-loop

@@ -31,7 +31,7 @@ returns-3 c =
     let ok = c.before.before.before in
     rw (sym ok.before.counts-ok.ensures ∙ not-false _ ok.if1.false, c.before.current.given.1)
 
-pub current-spec : {M : Type 1} → statement M
-current-spec =
+pub current_spec : {M : Type 1} → statement M
+current_spec =
     tie.close
     (tie.spec counts-ok-requires returns enum_told enum-known-current returns-2 returns-3)

@@ -22,5 +22,5 @@ returns-2 : tie.Need-returns-2
 unfolding update
 returns-2 c = rw (sym c.before.before.call_ok.ensures ∙ not-false _ c.before.if1.false) c.updated.ensures
 
-pub update-spec : {M : Type 1} → statement M
-update-spec = tie.close (tie.spec call-ok-requires refused-requires returns updated-requires returns-2)
+pub update_spec : {M : Type 1} → statement M
+update_spec = tie.close (tie.spec call-ok-requires refused-requires returns updated-requires returns-2)

@@ -59,8 +59,8 @@ returns-5 c =
       le-ltb _ _ c.if3.false,
     )
 
-pub beaten-spec : {M : Type 1} → statement M
-beaten-spec =
+pub beaten_spec : {M : Type 1} → statement M
+beaten_spec =
     tie.close
     (tie.spec
     enum_told

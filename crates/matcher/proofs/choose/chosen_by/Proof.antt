@@ -44,8 +44,8 @@ returns-3 c =
       c.before.candidate-in.ensures,
     )
 
-pub chosen-by-spec : {M : Type 1} → statement M
-chosen-by-spec =
+pub chosen_by_spec : {M : Type 1} → statement M
+chosen_by_spec =
     tie.close
     (tie.spec
     enum_told

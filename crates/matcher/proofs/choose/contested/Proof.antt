@@ -17,5 +17,5 @@ returns-2 : tie.Need-returns-2
 unfolding contested
 returns-2 c = rw (← c.before.beaten.ensures, le-ltb _ _ c.if1.false)
 
-pub contested-spec : {M : Type 1} → statement M
-contested-spec = tie.close (tie.spec beaten-requires returns returns-2)
+pub contested_spec : {M : Type 1} → statement M
+contested_spec = tie.close (tie.spec beaten-requires returns returns-2)

@@ -29,5 +29,5 @@ returns-4 c =
     let known = beside.before.before.before.before in
     rw (known.which.given.1, not-false known.before.before.args.c.joined beside.before.if1.false, beside.if2.false)
 
-pub counts-spec : {M : Type 1} → statement M
-counts-spec = tie.close (tie.spec enum_told enum-known-which returns returns-2 returns-3 returns-4)
+pub counts_spec : {M : Type 1} → statement M
+counts_spec = tie.close (tie.spec enum_told enum-known-which returns returns-2 returns-3 returns-4)

@@ -1,7 +1,7 @@
 -- `matcher::choose::held` meets its contract: each return by the tests before it, which come in another order than the definition's.
 use mathlib.Core.Path.{sym, ◌∙◌}
 use mathlib.Core.Bool.{and-false}
-use Rattle.geo.proofs.Literals.{literal-1}
+use Rattle.geo.proofs.Literals.{literal_1}
 use Rattle.matcher.specs.Choose.{held}
 use Rattle.matcher.proofs.choose.held.Statement.{statement}
 use Rattle.matcher.proofs.choose.held.Tie as tie
@@ -24,7 +24,7 @@ unfolding held
 returns-3 c =
     let apart = c.before.before.before in
     let other = apart.before in
-    rw (sym other.before.same-edge.ensures ∙ other.if1.false, apart.if2.false, ← literal-1, c.if3.true)
+    rw (sym other.before.same-edge.ensures ∙ other.if1.false, apart.if2.false, ← literal_1, c.if3.true)
 
 contested-requires : tie.Need-contested-requires
 contested-requires c κs = tt
@@ -39,7 +39,7 @@ returns-4 c =
       ← c.contested.ensures,
       sym other.before.same-edge.ensures ∙ other.if1.false,
       apart.if2.false,
-      ← literal-1,
+      ← literal_1,
       dearer.if3.false,
     )
 

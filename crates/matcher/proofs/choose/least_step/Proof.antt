@@ -23,5 +23,5 @@ returns-3 c =
     let kept = c.before in
     rw (lt-ltb _ _ kept.before.if1.false, sym kept.counts.ensures ∙ c.if2.false)
 
-pub least-step-spec : {M : Type 1} → statement M
-least-step-spec = tie.close (tie.spec returns counts-requires lesser-requires returns-2 returns-3)
+pub least_step_spec : {M : Type 1} → statement M
+least_step_spec = tie.close (tie.spec returns counts-requires lesser-requires returns-2 returns-3)

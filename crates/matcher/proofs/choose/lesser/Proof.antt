@@ -22,6 +22,6 @@ returns-2 c = rw c.enum_told.given.1
 returns-3 : tie.Need-returns-3
 returns-3 c = rw (c.before.before.enum-told2.given.1, sym c.before.is-less.ensures ∙ c.if1.false)
 
-pub lesser-spec : {M : Type 1} → statement M
-lesser-spec =
+pub lesser_spec : {M : Type 1} → statement M
+lesser_spec =
     tie.close (tie.spec enum_told enum-told-2 is-less-requires returns returns-2 returns-3)

@@ -3,13 +3,13 @@
 use mathlib.Core.Path.{sym, ◌∙◌}
 use borrow.Author.Rules.{rules}
 use borrow.Author.Tests.{not-true, not-false}
-use Rattle.matcher.specs.Choose.{pastNode}
-use Rattle.matcher.proofs.Literals.{literal-2}
+use Rattle.matcher.specs.Choose.{past_node}
+use Rattle.matcher.proofs.Literals.{literal_2}
 use Rattle.matcher.proofs.choose.past_node.Statement.{statement}
 use Rattle.matcher.proofs.choose.past_node.Tie as tie
 
 returns : tie.Need-returns
-unfolding pastNode
+unfolding past_node
 returns c = rw (not-true c.before.before.before.args.choice.chosen.at_node c.if1.true)
 
 least-of-requires : tie.Need-least-of-requires
@@ -25,33 +25,33 @@ candidate-in-requires : tie.Need-candidate-in-requires
 candidate-in-requires c κs = tt
 
 returns-2 : tie.Need-returns-2
-unfolding pastNode
+unfolding past_node
 returns-2 c =
     let call = c.before.before in
     let node = call.before.before in
     let start = node.before.before.before in
     rw (
-      ← literal-2,
+      ← literal_2,
       sym call.least-of.ensures ∙ c.enum_told.given.1,
       not-false start.args.choice.chosen.at_node node.if1.false,
     )
 
 returns-3 : tie.Need-returns-3
-unfolding pastNode
+unfolding past_node
 returns-3 c =
     let found = c.before.before in
     let call = found.before.before in
     let node = call.before.before in
     let start = node.before.before.before in
     rw (
-      ← literal-2,
+      ← literal_2,
       sym call.least-of.ensures ∙ found.i.given.1,
       not-false start.args.choice.chosen.at_node node.if1.false,
       c.candidate-in.ensures,
     )
 
-pub past-node-spec : {M : Type 1} → statement M
-past-node-spec =
+pub past_node_spec : {M : Type 1} → statement M
+past_node_spec =
     tie.close
     (tie.spec
     returns

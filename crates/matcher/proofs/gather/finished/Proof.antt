@@ -13,5 +13,5 @@ returns : tie.Need-returns
 unfolding finished
 returns c = rw (c.outcome.ensures, c.before.matched.ensures)
 
-pub finished-spec : {M : Type 1} → statement M
-finished-spec = tie.close (tie.spec matched-requires outcome-requires returns)
+pub finished_spec : {M : Type 1} → statement M
+finished_spec = tie.close (tie.spec matched-requires outcome-requires returns)

@@ -35,8 +35,8 @@ returns c =
     let second = third.before.before in
     rw (c.land4.ensures, third.land3.ensures, second.land2.ensures, second.before.before.land.ensures)
 
-pub landings-spec : {M : Type 1} → statement M
-landings-spec =
+pub landings_spec : {M : Type 1} → statement M
+landings_spec =
     tie.close
     (tie.spec
     element-copy-out-land

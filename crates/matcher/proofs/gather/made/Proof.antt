@@ -1,5 +1,5 @@
--- `matcher::gather::made` meets its contract: a match from what the lookups land on, and the ages of the tiles gone through (`made-by-cache`).
-use Rattle.matcher.proofs.GatherLaws.{searched-tiles, made-by-cache}
+-- `matcher::gather::made` meets its contract: a match from what the lookups land on, and the ages of the tiles gone through (`made_by_cache`).
+use Rattle.matcher.proofs.GatherLaws.{searched_tiles, made_by_cache}
 use Rattle.matcher.proofs.gather.made.Statement.{statement}
 use Rattle.matcher.proofs.gather.made.Tie as tie
 
@@ -16,7 +16,7 @@ searched-requires : tie.Need-searched-requires
 searched-requires c κs = tt
 
 uses-after-requires : tie.Need-uses-after-requires
-uses-after-requires c κs = rw c.searched.ensures (searched-tiles _ _ _ _ _ _ _)
+uses-after-requires c κs = rw c.searched.ensures (searched_tiles _ _ _ _ _ _ _)
 
 returns : tie.Need-returns
 returns c =
@@ -29,7 +29,7 @@ returns c =
       looked.landings.ensures,
       looked.before.Near-of.ensures,
     )
-    (made-by-cache _ _ _ _ _ _)
+    (made_by_cache _ _ _ _ _ _)
 
-pub made-spec : {M : Type 1} → statement M
-made-spec = tie.close (tie.spec near-of-requires landings-requires uses-of-requires searched-requires uses-after-requires returns)
+pub made_spec : {M : Type 1} → statement M
+made_spec = tie.close (tie.spec near-of-requires landings-requires uses-of-requires searched-requires uses-after-requires returns)

@@ -1,5 +1,5 @@
 -- `matcher::gather::match_around` meets its contract: the match leaves the cache as it was but for clock and ages.
-use Rattle.matcher.proofs.GatherLaws.{updated-uses}
+use Rattle.matcher.proofs.GatherLaws.{updated_uses}
 use Rattle.matcher.proofs.gather.match_around.Statement.{statement}
 use Rattle.matcher.proofs.gather.match_around.Tie as tie
 
@@ -15,8 +15,8 @@ returns c =
     rw (
       c.with-uses.ensures,
       c.before.before.made.ensures,
-      updated-uses args.m args.c args.arena.now args.header args.fix args.heading,
+      updated_uses args.m args.c args.arena.now args.header args.fix args.heading,
     )
 
-pub match-around-spec : {M : Type 1} → statement M
-match-around-spec = tie.close (tie.spec made-requires with-uses-requires returns)
+pub match_around_spec : {M : Type 1} → statement M
+match_around_spec = tie.close (tie.spec made-requires with-uses-requires returns)

@@ -15,5 +15,5 @@ returns c = search rules
 returns-2 : tie.Need-returns-2
 returns-2 c = rw c.before.current.given.1
 
-pub outcome-spec : {M : Type 1} → statement M
-outcome-spec = tie.close (tie.spec enum_told enum-known-current returns returns-2)
+pub outcome_spec : {M : Type 1} → statement M
+outcome_spec = tie.close (tie.spec enum_told enum-known-current returns returns-2)

@@ -10,5 +10,5 @@ returns : tie.Need-returns
 unfolding searched
 returns c = c.gather.ensures
 
-pub searched-spec : {M : Type 1} → statement M
-searched-spec = tie.close (tie.spec gather-requires returns)
+pub searched_spec : {M : Type 1} → statement M
+searched_spec = tie.close (tie.spec gather-requires returns)

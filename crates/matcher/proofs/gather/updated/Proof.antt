@@ -50,8 +50,8 @@ returns-3 c =
       c.match-around.ensures,
     )
 
-pub updated-spec : {M : Type 1} → statement M
-updated-spec =
+pub updated_spec : {M : Type 1} → statement M
+updated_spec =
     tie.close
     (tie.spec
     is-point-requires

@@ -30,5 +30,5 @@ returns-3 c = search rules
 returns-4 : tie.Need-returns-4
 returns-4 c = rw (c.used-at.ensures, c.before.before.lookup.given.1)
 
-pub used-by-spec : {M : Type 1} → statement M
-used-by-spec = tie.close (tie.spec enum_told enum-told-2 enum-told-3 enum-known-lookup used-at-requires returns returns-2 returns-3 returns-4)
+pub used_by_spec : {M : Type 1} → statement M
+used_by_spec = tie.close (tie.spec enum_told enum-told-2 enum-told-3 enum-known-lookup used-at-requires returns returns-2 returns-3 returns-4)

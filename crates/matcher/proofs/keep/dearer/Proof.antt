@@ -25,7 +25,7 @@ returns-2 c = rw (sym c.before.before.total_cmp.ensures ∙ c.enum-told2.given.1
 returns-3 : tie.Need-returns-3
 returns-3 c = rw (sym c.before.before.total_cmp.ensures ∙ c.enum-told3.given.1)
 
-pub dearer-spec : {M : Type 1} → statement M
-dearer-spec =
+pub dearer_spec : {M : Type 1} → statement M
+dearer_spec =
     tie.close
     (tie.spec total-cmp-requires enum_told enum-told-2 enum-told-3 returns returns-2 returns-3)

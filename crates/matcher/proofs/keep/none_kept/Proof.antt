@@ -8,5 +8,5 @@ no-candidate-requires c κs = tt
 returns : tie.Need-returns
 returns c = rw c.no-candidate.ensures
 
-pub none-kept-spec : {M : Type 1} → statement M
-none-kept-spec = tie.close (tie.spec no-candidate-requires returns)
+pub none_kept_spec : {M : Type 1} → statement M
+none_kept_spec = tie.close (tie.spec no-candidate-requires returns)

@@ -23,5 +23,5 @@ returns-3 c =
     let full = c.before.before.before in
     rw (le-ltb _ _ full.if1.false, ← c.before.before.dearest-of.ensures, c.if2.false)
 
-pub place-of-spec : {M : Type 1} → statement M
-place-of-spec = tie.close (tie.spec returns dearest-of-requires returns-2 returns-3)
+pub place_of_spec : {M : Type 1} → statement M
+place_of_spec = tie.close (tie.spec returns dearest-of-requires returns-2 returns-3)

@@ -17,8 +17,8 @@ use Rattle.matcher.proofs.near.around.Statement.{statement}
 use Rattle.matcher.proofs.near.around.Tie as tie
 
 -- a neighbour is one more or less at most
-side-small : (at from : ℤ) (size : ℕ) (reach : ℤ) → leb (nat_abs (side at from size reach)) 1 ≡ true
-side-small at from size reach = by (lt_z (at -ℤ from) reach) (lt_z (pos size -ℤ (at -ℤ from)) reach)
+side_small : (at from : ℤ) (size : ℕ) (reach : ℤ) → leb (nat_abs (side at from size reach)) 1 ≡ true
+side_small at from size reach = by (lt_z (at -ℤ from) reach) (lt_z (pos size -ℤ (at -ℤ from)) reach)
   where
     by : (t u : Bool) → leb (nat_abs (cond t (negsuc 0) (cond u (pos 1) (pos 0)))) 1 ≡ true
     by true u = refl
@@ -27,18 +27,18 @@ side-small at from size reach = by (lt_z (at -ℤ from) reach) (lt_z (pos size -
 
 -- a row or column and its neighbour, as the code reads both back
 module _ {n : ℕ} (h : Fits w16 n) where
-  n-is : to_z w64 n ≡ pos n
-  n-is = to_z_pos w64 {n = n} (omega arith)
+  n_is : to_z w64 n ≡ pos n
+  n_is = to_z_pos w64 {n = n} (omega arith)
 
   module _ (z : ℤ) (e : leb (nat_abs z) 1 ≡ true) where
-    z-is : to_z w64 (of_z w64 z) ≡ z
-    z-is = to_z-of_z (fits w64 z (omega (arith, leb-true (nat_abs z) 1 e, abs z)))
+    z_is : to_z w64 (of_z w64 z) ≡ z
+    z_is = to_z-of_z (fits w64 z (omega (arith, leb-true (nat_abs z) 1 e, abs z)))
 
     sum_fits : SFits w64 (to_z w64 n +ℤ to_z w64 (of_z w64 z))
-    sum_fits = rw (n-is, z-is) (fits w64 (pos n +ℤ z) (omega (arith, leb-true (nat_abs z) 1 e, abs z, add (pos n) z)))
+    sum_fits = rw (n_is, z_is) (fits w64 (pos n +ℤ z) (omega (arith, leb-true (nat_abs z) 1 e, abs z, add (pos n) z)))
 
     sum_is : to_z w64 (of_z w64 (to_z w64 n +ℤ to_z w64 (of_z w64 z))) ≡ pos n +ℤ z
-    sum_is = to_z-of_z sum_fits ∙ rw (n-is, z-is)
+    sum_is = to_z-of_z sum_fits ∙ rw (n_is, z_is)
 
 corner-of-requires : tie.Need-corner-of-requires
 corner-of-requires c κs = tt
@@ -65,7 +65,7 @@ add-add : tie.Need-overflow-add-add
 add-add c =
     let row = c.before.before.before in
     let down = row.before.before.before.before in
-    sum_fits row.struct_known.given.0 down.side.result (rw (down.side.ensures, side-small))
+    sum_fits row.struct_known.given.0 down.side.result (rw (down.side.ensures, side_small))
 
 add-requires-2 : tie.Need-add-requires-2
 add-requires-2 c κs = tt
@@ -74,7 +74,7 @@ add-add-2 : tie.Need-overflow-add-add-2
 add-add-2 c =
     let col = c.before.before.before in
     let across = col.before.before in
-    sum_fits col.struct-known2.given.1.0 across.side2.result (rw (across.side2.ensures, side-small))
+    sum_fits col.struct-known2.given.1.0 across.side2.result (rw (across.side2.ensures, side_small))
 
 add-requires-3 : tie.Need-add-requires-3
 add-requires-3 c κs = tt
@@ -83,13 +83,13 @@ add-add-3 : tie.Need-overflow-add-add-3
 add-add-3 c =
     let row = c.before.before.before.before.before in
     let down = row.before.before.before.before in
-    sum_fits row.struct_known.given.0 down.side.result (rw (down.side.ensures, side-small))
+    sum_fits row.struct_known.given.0 down.side.result (rw (down.side.ensures, side_small))
 
 add-add-4 : tie.Need-overflow-add-add-4
 add-add-4 c =
     let col = c.before.before.before.before in
     let across = col.before.before in
-    sum_fits col.struct-known2.given.1.0 across.side2.result (rw (across.side2.ensures, side-small))
+    sum_fits col.struct-known2.given.1.0 across.side2.result (rw (across.side2.ensures, side_small))
 
 add-requires-4 : tie.Need-add-requires-4
 add-requires-4 c κs = tt
@@ -108,10 +108,10 @@ returns c =
       c.before.before.add2.ensures,
       first.add.ensures,
       first.before.no_keys.ensures,
-      sum_is row.struct_known.given.0 down.side.result (rw (down.side.ensures, side-small)),
-      sum_is col.struct-known2.given.1.0 across.side2.result (rw (across.side2.ensures, side-small)),
-      n-is row.struct_known.given.0,
-      n-is col.struct-known2.given.1.0,
+      sum_is row.struct_known.given.0 down.side.result (rw (down.side.ensures, side_small)),
+      sum_is col.struct-known2.given.1.0 across.side2.result (rw (across.side2.ensures, side_small)),
+      n_is row.struct_known.given.0,
+      n_is col.struct-known2.given.1.0,
       down.side.ensures,
       across.side2.ensures,
       got w32 down.before.before.struct_told.given.0.1,
@@ -121,8 +121,8 @@ returns c =
       down.before.before.before.corner-of.ensures,
     )
 
-pub around-spec : {M : Type 1} → statement M
-around-spec =
+pub around_spec : {M : Type 1} → statement M
+around_spec =
     tie.close
     (tie.spec
     corner-of-requires

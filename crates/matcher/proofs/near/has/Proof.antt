@@ -6,7 +6,7 @@ use borrow.Author.Rules.{rules}
 use Rattle.cache.specs.declared.victim.Found.TheVariants as Found
 use Rattle.cache.specs.Keys.{holds}
 use Rattle.cache.specs.Search.{lowest}
-use Rattle.cache.proofs.SearchLaws.{lowest_start, lowest-hit, lowest-miss}
+use Rattle.cache.proofs.SearchLaws.{lowest_start, lowest_hit, lowest_miss}
 use Rattle.matcher.specs.Near.{key_at, has}
 use Rattle.matcher.proofs.near.has.Statement.{statement}
 use Rattle.matcher.proofs.near.has.Tie as tie
@@ -33,8 +33,8 @@ returns : tie.Need-returns invariant-loop decreases-loop
 unfolding has
 returns c =
     let turn = c.before.before.before in
-    let at-loop = turn.before.loop in
-    rw (lowest-hit _ at-loop.i 4 turn.loop-test.true at-loop.invariant.1 (sym c.before.holds.ensures ∙ c.if1.true))
+    let at_loop = turn.before.loop in
+    rw (lowest_hit _ at_loop.i 4 turn.loop-test.true at_loop.invariant.1 (sym c.before.holds.ensures ∙ c.if1.true))
 
 add-i : tie.Need-overflow-add-i invariant-loop decreases-loop
 add-i c = search rules
@@ -44,18 +44,18 @@ loop-less c = search rules
 
 loop-again : tie.Need-loop-preserved invariant-loop decreases-loop
 loop-again c =
-    let at-loop = c.before.before.before.before.loop in
-    (omega arith, lowest-miss _ at-loop.i at-loop.invariant.1 (sym c.before.holds.ensures ∙ c.if1.false))
+    let at_loop = c.before.before.before.before.loop in
+    (omega arith, lowest_miss _ at_loop.i at_loop.invariant.1 (sym c.before.holds.ensures ∙ c.if1.false))
 
 returns-2 : tie.Need-returns-2 invariant-loop decreases-loop
 unfolding has
 returns-2 c =
-    let at-loop = c.before.loop in
-    let end : at-loop.i ≡ 4 = omega arith in
-    rw (rw end at at-loop.invariant.1)
+    let at_loop = c.before.loop in
+    let end : at_loop.i ≡ 4 = omega arith in
+    rw (rw end at at_loop.invariant.1)
 
-pub has-spec : {M : Type 1} → statement M
-has-spec =
+pub has_spec : {M : Type 1} → statement M
+has_spec =
     tie.close
     (tie.spec
     invariant-loop

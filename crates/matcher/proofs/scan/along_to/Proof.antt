@@ -5,17 +5,17 @@ use native.Mathlib.Omega.{arith}
 use borrow.Author.Rules.{rules}
 use Rattle.matcher.specs.declared.scan.Along.{Along}
 use Rattle.num.specs.Fold.{up_to}
-use Rattle.matcher.specs.Scan.{point_of, alongStep, alongTo}
+use Rattle.matcher.specs.Scan.{point_of, along_step, along_to}
 use Rattle.num.proofs.FoldLaws.{up_start, up_turn}
 use Rattle.matcher.proofs.scan.along_to.Statement.{statement}
 use Rattle.matcher.proofs.scan.along_to.Tie as tie
 
 abbrev invariant-loop : tie.invariant-loop
-invariant-loop header bytes key edge lon-um into s₀ last i₀ s i =
-    (i ≤ last) × (s ≡ up_to (λ (x : Along) (j : ℕ). alongStep x (point_of header bytes key edge (j + 1)) lon-um) s₀ i)
+invariant-loop header bytes key edge lon_um into s₀ last i₀ s i =
+    (i ≤ last) × (s ≡ up_to (λ (x : Along) (j : ℕ). along_step x (point_of header bytes key edge (j + 1)) lon_um) s₀ i)
 
 abbrev decreases-loop : tie.decreases-loop
-decreases-loop header bytes key edge lon-um into s₀ last i₀ s i = last - i
+decreases-loop header bytes key edge lon_um into s₀ last i₀ s i = last - i
 
 length-requires : tie.Need-length-requires invariant-loop decreases-loop
 length-requires c κs = tt
@@ -48,15 +48,15 @@ loop-again : tie.Need-loop-preserved invariant-loop decreases-loop
 loop-again c = (omega arith, rw (up_turn, c.along-step.ensures, c.before.point-of2.ensures, c.before.before.before.loop.invariant.1))
 
 returns : tie.Need-returns invariant-loop decreases-loop
-unfolding alongTo
+unfolding along_to
 returns c =
-    let at-loop = c.before.loop in
+    let at_loop = c.before.loop in
     let part = c.before.before.before.before in
-    let end : at-loop.i ≡ part.before.before.before.before.before.before.before.before.args.n.segment = omega (arith, c.loop-test.false, at-loop.invariant.0) in
-    rw (at-loop.invariant.1, end, c.before.before.point-of.ensures, part.length.ensures)
+    let end : at_loop.i ≡ part.before.before.before.before.before.before.before.before.args.n.segment = omega (arith, c.loop-test.false, at_loop.invariant.0) in
+    rw (at_loop.invariant.1, end, c.before.before.point-of.ensures, part.length.ensures)
 
-pub along-to-spec : {M : Type 1} → statement M
-along-to-spec =
+pub along_to_spec : {M : Type 1} → statement M
+along_to_spec =
     tie.close
     (tie.spec
     invariant-loop

@@ -25,7 +25,7 @@ add-result-2 c = search rules
 returns-2 : tie.Need-returns-2
 returns-2 c = (rw (le-ltb _ _ c.before.if1.false), search rules)
 
-pub next-at-spec : {M : Type 1} → statement M
-next-at-spec =
+pub next_at_spec : {M : Type 1} → statement M
+next_at_spec =
     tie.close
     (tie.spec mul-result add-result returns cast-result mul-result-2 add-result-2 returns-2)

@@ -1,6 +1,6 @@
--- `matcher::scan::next_point` meets its contract: by the answers of the callees, and where the point stands (`next-is`).
+-- `matcher::scan::next_point` meets its contract: by the answers of the callees, and where the point stands (`next_is`).
 use borrow.Author.Rules.{rules}
-use Rattle.matcher.proofs.StandLaws.{next-is}
+use Rattle.matcher.proofs.StandLaws.{next_is}
 use Rattle.matcher.proofs.scan.next_point.Statement.{statement}
 use Rattle.matcher.proofs.scan.next_point.Tie as tie
 
@@ -18,7 +18,7 @@ returns c =
     let start = c.before.before.before.before in
     let args = start.args in
     rw (c.point.ensures, c.before.xy-at.ensures, c.before.before.next-at.ensures.0)
-    (next-is args.header args.bytes.now args.key args.edge args.base args.i start.requires.0)
+    (next_is args.header args.bytes.now args.key args.edge args.base args.i start.requires.0)
 
-pub next-point-spec : {M : Type 1} → statement M
-next-point-spec = tie.close (tie.spec next-at-requires xy-at-requires point-requires returns)
+pub next_point_spec : {M : Type 1} → statement M
+next_point_spec = tie.close (tie.spec next-at-requires xy-at-requires point-requires returns)

@@ -13,5 +13,5 @@ returns : tie.Need-returns
 unfolding point_of
 returns c = rw (c.point2.ensures, c.before.point.ensures)
 
-pub point-of-spec : {M : Type 1} → statement M
-point-of-spec = tie.close (tie.spec point-requires point-requires-2 returns)
+pub point_of_spec : {M : Type 1} → statement M
+point_of_spec = tie.close (tie.spec point-requires point-requires-2 returns)

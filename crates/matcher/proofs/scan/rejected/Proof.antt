@@ -2,25 +2,25 @@
 use mathlib.Core.Path.{◌≡◌}
 use mathlib.Core.Bool.{Bool, true, false, ◌&&◌}
 use mathlib.Core.Logic.{⊎_elim}
-use Rattle.matcher.proofs.ScoreLiterals.{literal-40}
+use Rattle.matcher.proofs.ScoreLiterals.{literal_40}
 use Rattle.matcher.proofs.scan.rejected.Statement.{statement}
 use Rattle.matcher.proofs.scan.rejected.Tie as tie
 
 -- a pair of tests fails by its second or by its first
-not-both : {p q : Bool} → p ≡ true → q ≡ false → (p && q) ≡ false
-not-both e f = rw (e, f)
+not_both : {p q : Bool} → p ≡ true → q ≡ false → (p && q) ≡ false
+not_both e f = rw (e, f)
 
 not_first : {p : Bool} (q : Bool) → p ≡ false → (p && q) ≡ false
 not_first q e = rw e
 
 returns : tie.Need-returns
-returns c = rw (← literal-40, c.before.before.if1.true, c.if2.true)
+returns c = rw (← literal_40, c.before.before.if1.true, c.if2.true)
 
 returns-2 : tie.Need-returns-2
 returns-2 c =
     rw (
-      ← literal-40,
-      ⊎_elim (λ w. not-both w.0.taken w.2.left) (λ w. not_first _ w.left) c.before.before.before.before.if1.branch,
+      ← literal_40,
+      ⊎_elim (λ w. not_both w.0.taken w.2.left) (λ w. not_first _ w.left) c.before.before.before.before.if1.branch,
       c.before.before.if3.true,
       c.if4.true,
     )
@@ -29,9 +29,9 @@ returns-3 : tie.Need-returns-3
 returns-3 c =
     let west = c.before.before.before.before in
     rw (
-      ← literal-40,
-      ⊎_elim (λ w. not-both w.0.taken w.2.left) (λ w. not_first _ w.left) west.before.before.if1.branch,
-      ⊎_elim (λ w. not-both w.0.taken w.2.left) (λ w. not_first _ w.left) west.if3.branch,
+      ← literal_40,
+      ⊎_elim (λ w. not_both w.0.taken w.2.left) (λ w. not_first _ w.left) west.before.before.if1.branch,
+      ⊎_elim (λ w. not_both w.0.taken w.2.left) (λ w. not_first _ w.left) west.if3.branch,
       c.before.before.if5.true,
       c.if6.true,
     )
@@ -40,10 +40,10 @@ returns-4 : tie.Need-returns-4
 returns-4 c =
     let north = c.before.before.before in
     rw (
-      ← literal-40,
-      ⊎_elim (λ w. not-both w.0.taken w.2.left) (λ w. not_first _ w.left) north.before.before.before.before.if1.branch,
-      ⊎_elim (λ w. not-both w.0.taken w.2.left) (λ w. not_first _ w.left) north.before.before.if3.branch,
-      ⊎_elim (λ w. not-both w.0.taken w.2.left) (λ w. not_first _ w.left) north.if5.branch,
+      ← literal_40,
+      ⊎_elim (λ w. not_both w.0.taken w.2.left) (λ w. not_first _ w.left) north.before.before.before.before.if1.branch,
+      ⊎_elim (λ w. not_both w.0.taken w.2.left) (λ w. not_first _ w.left) north.before.before.if3.branch,
+      ⊎_elim (λ w. not_both w.0.taken w.2.left) (λ w. not_first _ w.left) north.if5.branch,
       c.before.if7.true,
     )
 
@@ -51,12 +51,12 @@ returns-5 : tie.Need-returns-5
 returns-5 c =
     let north = c.before.before in
     rw (
-      ← literal-40,
-      ⊎_elim (λ w. not-both w.0.taken w.2.left) (λ w. not_first _ w.left) north.before.before.before.before.if1.branch,
-      ⊎_elim (λ w. not-both w.0.taken w.2.left) (λ w. not_first _ w.left) north.before.before.if3.branch,
-      ⊎_elim (λ w. not-both w.0.taken w.2.left) (λ w. not_first _ w.left) north.if5.branch,
+      ← literal_40,
+      ⊎_elim (λ w. not_both w.0.taken w.2.left) (λ w. not_first _ w.left) north.before.before.before.before.if1.branch,
+      ⊎_elim (λ w. not_both w.0.taken w.2.left) (λ w. not_first _ w.left) north.before.before.if3.branch,
+      ⊎_elim (λ w. not_both w.0.taken w.2.left) (λ w. not_first _ w.left) north.if5.branch,
       c.if7.false,
     )
 
-pub rejected-spec : {M : Type 1} → statement M
-rejected-spec = tie.close (tie.spec returns returns-2 returns-3 returns-4 returns-5)
+pub rejected_spec : {M : Type 1} → statement M
+rejected_spec = tie.close (tie.spec returns returns-2 returns-3 returns-4 returns-5)

@@ -9,34 +9,34 @@ use Rattle.pack.specs.declared.Header.{Header}
 use Rattle.pack.specs.declared.TileKey.{TileKey}
 use Rattle.tile.specs.declared.Edge.{Edge}
 use Rattle.geo.specs.declared.Point.{Point}
-use Rattle.geo.specs.Flat.{metresOf}
+use Rattle.geo.specs.Flat.{metres_of}
 use Rattle.matcher.specs.declared.scan.MaybeNearest.TheVariants as MaybeNearest
 use Rattle.matcher.specs.declared.scan.Scanned.{Scanned}
-use Rattle.matcher.specs.Scan.{point_of, segmentStep, scanned, scan}
+use Rattle.matcher.specs.Scan.{point_of, segment_step, scanned, scan}
 use Rattle.num.proofs.FoldLaws.{up_start, up_turn}
 use Rattle.matcher.proofs.scan.scan.Statement.{statement}
 use Rattle.matcher.proofs.scan.scan.Tie as tie
 
 -- the definition's start, one turn of it, and the scan after the last
-module _ (h : Header) (bs : List ℕ) (key : TileKey) (e : Edge) (fix : Point) (lonUm : ℕ) where
-  scan-start : scanned h bs key e fix lonUm 0 ≡ record { at = metresOf (point_of h bs key e 0) fix lonUm; nearest = MaybeNearest.Nothing }
+module _ (h : Header) (bs : List ℕ) (key : TileKey) (e : Edge) (fix : Point) (lon_um : ℕ) where
+  scan_start : scanned h bs key e fix lon_um 0 ≡ record { at = metres_of (point_of h bs key e 0) fix lon_um; nearest = MaybeNearest.Nothing }
   unfolding scanned
-  scan-start = up_start _ _
+  scan_start = up_start _ _
 
-  scan-turn : (i : ℕ)
-      → scanned h bs key e fix lonUm (i + 1)
-      ≡ segmentStep (scanned h bs key e fix lonUm i) (metresOf (point_of h bs key e (i + 1)) fix lonUm) i
+  scan_turn : (i : ℕ)
+      → scanned h bs key e fix lon_um (i + 1)
+      ≡ segment_step (scanned h bs key e fix lon_um i) (metres_of (point_of h bs key e (i + 1)) fix lon_um) i
   unfolding scanned
-  scan-turn i = up_turn _ _ i
+  scan_turn i = up_turn _ _ i
 
-  scan-end : (i : ℕ) (s : Scanned) → i ≡ e.vertices → s ≡ scanned h bs key e fix lonUm (i + 1) → s.nearest ≡ scan h bs key e fix lonUm
-  scan-end i s end so_far = ap (λ (x : Scanned). x.nearest) (so_far ∙ ap (λ (n : ℕ). scanned h bs key e fix lonUm (n + 1)) end)
+  scan_end : (i : ℕ) (s : Scanned) → i ≡ e.vertices → s ≡ scanned h bs key e fix lon_um (i + 1) → s.nearest ≡ scan h bs key e fix lon_um
+  scan_end i s end so_far = ap (λ (x : Scanned). x.nearest) (so_far ∙ ap (λ (n : ℕ). scanned h bs key e fix lon_um (n + 1)) end)
 
 abbrev invariant-loop : tie.invariant-loop
-invariant-loop header bytes key edge fix lon-um s₀ last base i₀ s i = (i ≤ last) × (s ≡ scanned header bytes key edge fix lon-um i)
+invariant-loop header bytes key edge fix lon_um s₀ last base i₀ s i = (i ≤ last) × (s ≡ scanned header bytes key edge fix lon_um i)
 
 abbrev decreases-loop : tie.decreases-loop
-decreases-loop header bytes key edge fix lon-um s₀ last base i₀ s i = last - i
+decreases-loop header bytes key edge fix lon_um s₀ last base i₀ s i = last - i
 
 point-of-requires : tie.Need-point-of-requires invariant-loop decreases-loop
 point-of-requires c κs = tt
@@ -48,7 +48,7 @@ vertices-at-requires : tie.Need-vertices-at-requires invariant-loop decreases-lo
 vertices-at-requires c κs = tt
 
 loop-holds : tie.Need-loop-init invariant-loop decreases-loop
-loop-holds c = (search rules, rw (scan-start, c.before.metres.ensures, c.before.before.point-of.ensures))
+loop-holds c = (search rules, rw (scan_start, c.before.metres.ensures, c.before.before.point-of.ensures))
 
 next-point-requires : tie.Need-next-point-requires invariant-loop decreases-loop
 next-point-requires c κs = (c.before.vertices-at.ensures.0, c.before.vertices-at.ensures.1)
@@ -69,7 +69,7 @@ loop-again : tie.Need-loop-preserved invariant-loop decreases-loop
 loop-again c = (
   omega (arith, c.if1.false),
   rw (
-    scan-turn,
+    scan_turn,
     c.before.segment-step.ensures,
     c.before.before.metres2.ensures,
     c.before.before.before.next-point.ensures,
@@ -79,20 +79,20 @@ loop-again c = (
 
 returns : tie.Need-returns invariant-loop decreases-loop
 returns c =
-    let at-loop = c.before.before.before.before.loop in
+    let at_loop = c.before.before.before.before.loop in
     let args = c.before.before.before.before.before.before.before.before.before.args in
-    scan-end args.header args.bytes.now args.key args.edge args.fix args.lon-um at-loop.i
+    scan_end args.header args.bytes.now args.key args.edge args.fix args.lon-um at_loop.i
     c.before.segment-step.result c.if1.true
     (rw (
-      scan-turn,
+      scan_turn,
       c.before.segment-step.ensures,
       c.before.before.metres2.ensures,
       c.before.before.before.next-point.ensures,
-      at-loop.invariant.1,
+      at_loop.invariant.1,
     ))
 
-pub scan-spec : {M : Type 1} → statement M
-scan-spec =
+pub scan_spec : {M : Type 1} → statement M
+scan_spec =
     tie.close
     (tie.spec
     invariant-loop

@@ -1,8 +1,8 @@
--- `matcher::scan::xy_at` meets its contract: a number read out of a slice is the one that stands where the slice does (`u16-slice`).
+-- `matcher::scan::xy_at` meets its contract: a number read out of a slice is the one that stands where the slice does (`u16_slice`).
 use Prim.Native.Nat.{ℕ, ◌+◌, ◌-◌}
 use native.Mathlib.Omega.{arith}
 use borrow.Author.Rules.{rules}
-use Rattle.pack.proofs.Laws.{u16-slice}
+use Rattle.pack.proofs.Laws.{u16_slice}
 use Rattle.matcher.proofs.scan.xy_at.Statement.{statement}
 use Rattle.matcher.proofs.scan.xy_at.Tie as tie
 
@@ -46,12 +46,12 @@ returns-2 c =
     rw (
       c.before.u16-at3.ensures,
       c.u16-at4.ensures,
-      u16-slice args.bytes.now args.at n 0 args.at (omega arith) (omega arith),
-      u16-slice args.bytes.now args.at n 2 (args.at + 2) (omega arith) (omega arith),
+      u16_slice args.bytes.now args.at n 0 args.at (omega arith) (omega arith),
+      u16_slice args.bytes.now args.at n 2 (args.at + 2) (omega arith) (omega arith),
     )
 
-pub xy-at-spec : {M : Type 1} → statement M
-xy-at-spec =
+pub xy_at_spec : {M : Type 1} → statement M
+xy_at_spec =
     tie.close
     (tie.spec
     add-if1

@@ -18,5 +18,5 @@ returns c = rw c.enum_told.given.1
 returns-2 : tie.Need-returns-2
 returns-2 c = rw (c.aimed.ensures, c.before.before.heading.given.1)
 
-pub aim-spec : {M : Type 1} → statement M
-aim-spec = tie.close (tie.spec enum_told enum-known-heading aimed-requires returns returns-2)
+pub aim_spec : {M : Type 1} → statement M
+aim_spec = tie.close (tie.spec enum_told enum-known-heading aimed-requires returns returns-2)

@@ -1,6 +1,6 @@
 -- `matcher::score::aim_at` meets its contract: by the answers of the callees.
-use Rattle.matcher.proofs.ScoreLiterals.{literal-15}
-use Rattle.matcher.specs.Score.{aimAt}
+use Rattle.matcher.proofs.ScoreLiterals.{literal_15}
+use Rattle.matcher.specs.Score.{aim_at}
 use Rattle.matcher.proofs.score.aim_at.Statement.{statement}
 use Rattle.matcher.proofs.score.aim_at.Tie as tie
 
@@ -17,16 +17,16 @@ aim-requires : tie.Need-aim-requires
 aim-requires c κs = tt
 
 returns : tie.Need-returns
-unfolding aimAt
+unfolding aim_at
 returns c =
     rw (
       c.aim.ensures,
       c.before.has.ensures,
       c.before.before.held_on.ensures,
       c.before.before.before.before.before.bearing.ensures,
-      literal-15,
+      literal_15,
     )
 
-pub aim-at-spec : {M : Type 1} → statement M
-aim-at-spec =
+pub aim_at_spec : {M : Type 1} → statement M
+aim_at_spec =
     tie.close (tie.spec bearing-requires held-on-requires has-requires aim-requires returns)

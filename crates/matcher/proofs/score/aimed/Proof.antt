@@ -2,7 +2,7 @@
 use mathlib.Core.Path.{◌≡◌}
 use mathlib.Core.Bool.{true, ◌||◌}
 use mathlib.Core.Logic.{⊎_elim}
-use Rattle.geo.proofs.Literals.{literal-0, literal-180}
+use Rattle.geo.proofs.Literals.{literal_0, literal_180}
 use Rattle.matcher.specs.Score.{aimed}
 use Rattle.matcher.proofs.score.aimed.Statement.{statement}
 use Rattle.matcher.proofs.score.aimed.Tie as tie
@@ -36,7 +36,7 @@ returns c =
       c.heading-cost.ensures,
       c.before.penalty.ensures,
       c.before.before.limited.ensures,
-      ← literal-180,
+      ← literal_180,
       ← keeps.before.before.turn.ensures,
       ← keeps.before.fabsf.ensures,
       ← keeps.keeps-forward.ensures,
@@ -57,8 +57,8 @@ returns-2 c =
     rw (
       c.heading-cost2.ensures,
       c.before.limited2.ensures,
-      literal-0,
-      ← literal-180,
+      literal_0,
+      ← literal_180,
       ← keeps.before.before.turn.ensures,
       ← keeps.before.fabsf.ensures,
       ← keeps.keeps-forward.ensures,
@@ -66,8 +66,8 @@ returns-2 c =
       oneway.if2.false,
     )
 
-pub aimed-spec : {M : Type 1} → statement M
-aimed-spec =
+pub aimed_spec : {M : Type 1} → statement M
+aimed_spec =
     tie.close
     (tie.spec
     turn-requires

@@ -18,5 +18,5 @@ returns c = rw c.enum_told.given.1
 returns-2 : tie.Need-returns-2
 returns-2 c = rw (c.bonus-of.ensures, c.before.before.current.given.1)
 
-pub bonus-spec : {M : Type 1} → statement M
-bonus-spec = tie.close (tie.spec enum_told enum-known-current bonus-of-requires returns returns-2)
+pub bonus_spec : {M : Type 1} → statement M
+bonus_spec = tie.close (tie.spec enum_told enum-known-current bonus-of-requires returns returns-2)

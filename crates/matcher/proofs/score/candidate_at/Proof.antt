@@ -1,7 +1,7 @@
 -- `matcher::score::candidate_at` meets its contract: by the answers of the callees.
 use mir.Syntax.{w32}
 use Rattle.pack.proofs.Signed.{got}
-use Rattle.matcher.specs.Score.{candidateAt}
+use Rattle.matcher.specs.Score.{candidate_at}
 use Rattle.matcher.proofs.score.candidate_at.Statement.{statement}
 use Rattle.matcher.proofs.score.candidate_at.Tie as tie
 
@@ -27,7 +27,7 @@ at-node-requires : tie.Need-at-node-requires
 at-node-requires c κs = tt
 
 returns : tie.Need-returns
-unfolding candidateAt
+unfolding candidate_at
 returns c =
     let height = c.before.before in
     let aimed = height.before.before in
@@ -42,8 +42,8 @@ returns c =
       aimed.before.before.before.edge.ensures,
     )
 
-pub candidate-at-spec : {M : Type 1} → statement M
-candidate-at-spec =
+pub candidate_at_spec : {M : Type 1} → statement M
+candidate_at_spec =
     tie.close
     (tie.spec
     edge-requires

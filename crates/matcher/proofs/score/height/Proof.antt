@@ -7,18 +7,18 @@ use lib.Signed.{lt_z}
 use mir.Facts.{to_z-of_z}
 use mir.Syntax.{w32, w64}
 use mir.Val.{SFits, to_z, of_z}
-use Rattle.pack.proofs.Signed.{range, fits, add, sub, sf, wide, widens, lt-false}
+use Rattle.pack.proofs.Signed.{range, fits, add, sub, sf, wide, widens, lt_false}
 use Rattle.matcher.specs.Score.{height}
 use Rattle.matcher.proofs.score.height.Statement.{statement}
 use Rattle.matcher.proofs.score.height.Tie as tie
 
 -- the difference and the sum of two i32 in 64 bits, and as the code reads them back
 module _ {a b : ℤ} (f : SFits w32 a) (g : SFits w32 b) where
-  gap-fits : SFits w64 (to_z w64 (of_z w64 (to_z w32 (of_z w32 a))) -ℤ to_z w64 (of_z w64 (to_z w32 (of_z w32 b))))
-  gap-fits = rw (wide f, wide g) (fits w64 (a -ℤ b) (omega (arith, range f, range g, sub a b)))
+  gap_fits : SFits w64 (to_z w64 (of_z w64 (to_z w32 (of_z w32 a))) -ℤ to_z w64 (of_z w64 (to_z w32 (of_z w32 b))))
+  gap_fits = rw (wide f, wide g) (fits w64 (a -ℤ b) (omega (arith, range f, range g, sub a b)))
 
   gap_is : to_z w64 (of_z w64 (to_z w64 (of_z w64 (to_z w32 (of_z w32 a))) -ℤ to_z w64 (of_z w64 (to_z w32 (of_z w32 b))))) ≡ a -ℤ b
-  gap_is = rw (to_z-of_z gap-fits, wide f, wide g)
+  gap_is = rw (to_z-of_z gap_fits, wide f, wide g)
 
   sum_fits : SFits w64 (to_z w64 (of_z w64 (to_z w32 (of_z w32 a))) +ℤ to_z w64 (of_z w64 (to_z w32 (of_z w32 b))))
   sum_fits = rw (wide f, wide g) (fits w64 (a +ℤ b) (omega (arith, range f, range g, add a b)))
@@ -28,7 +28,7 @@ module _ {a b : ℤ} (f : SFits w32 a) (g : SFits w32 b) where
 
 -- what passed both tests fits 32 bits
 held_fits : (z : ℤ) → lt_z z (negsuc 999999) ≡ false → lt_z (pos 1000000) z ≡ false → SFits w32 z
-held_fits z low high = fits w32 z (omega (arith, lt-false z (negsuc 999999) low, lt-false (pos 1000000) z high))
+held_fits z low high = fits w32 z (omega (arith, lt_false z (negsuc 999999) low, lt_false (pos 1000000) z high))
 
 cast-f32-of-i64 : tie.Need-overflow-cast-f32-of-i64
 cast-f32-of-i64 c = widens c.ranges.zb
@@ -37,7 +37,7 @@ cast-f32-of-i64-2 : tie.Need-overflow-cast-f32-of-i64-2
 cast-f32-of-i64-2 c = widens c.ranges.za
 
 sub-f32-of-i64 : tie.Need-overflow-sub-f32-of-i64
-sub-f32-of-i64 c = gap-fits c.ranges.zb c.ranges.za
+sub-f32-of-i64 c = gap_fits c.ranges.zb c.ranges.za
 
 f32-of-i64-requires : tie.Need-f32-of-i64-requires
 f32-of-i64-requires c κs = tt

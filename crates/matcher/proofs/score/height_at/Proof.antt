@@ -41,8 +41,8 @@ returns c =
       low.before.before.point.ensures,
     )
 
-pub height-at-spec : {M : Type 1} → statement M
-height-at-spec =
+pub height_at_spec : {M : Type 1} → statement M
+height_at_spec =
     tie.close
     (tie.spec
     cast-from

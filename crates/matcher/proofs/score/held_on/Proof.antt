@@ -22,6 +22,6 @@ returns-2 c = search rules
 returns-3 : tie.Need-returns-3
 returns-3 c = rw (c.before.before.before.current.given.1, sym c.before.is-on.ensures ∙ c.if1.false)
 
-pub held-on-spec : {M : Type 1} → statement M
-held-on-spec =
+pub held_on_spec : {M : Type 1} → statement M
+held_on_spec =
     tie.close (tie.spec enum_told enum-known-current is-on-requires returns returns-2 returns-3)

@@ -12,5 +12,5 @@ returns c = rw (sym c.before.before.same_id.ensures ∙ c.before.if1.true)
 returns-2 : tie.Need-returns-2
 returns-2 c = rw (sym c.before.same_id.ensures ∙ c.if1.false)
 
-pub is-on-spec : {M : Type 1} → statement M
-is-on-spec = tie.close (tie.spec same-id-requires returns returns-2)
+pub is_on_spec : {M : Type 1} → statement M
+is_on_spec = tie.close (tie.spec same-id-requires returns returns-2)

@@ -20,5 +20,5 @@ returns-3 c =
     let key = c.before.before.before in
     rw (sym key.before.same_key.ensures ∙ not-false _ key.if1.false, ne_eqb _ _ c.if2.false)
 
-pub same-id-spec : {M : Type 1} → statement M
-same-id-spec = tie.close (tie.spec same-key-requires returns returns-2 returns-3)
+pub same_id_spec : {M : Type 1} → statement M
+same_id_spec = tie.close (tie.spec same-key-requires returns returns-2 returns-3)

@@ -20,5 +20,5 @@ returns-4 c =
     let second = third.before.before.before in
     rw (ne_eqb _ _ second.before.before.before.if1.false, ne_eqb _ _ second.if2.false, ne_eqb _ _ third.if3.false)
 
-pub shares-node-spec : {M : Type 1} → statement M
-shares-node-spec = tie.close (tie.spec returns returns-2 returns-3 returns-4)
+pub shares_node_spec : {M : Type 1} → statement M
+shares_node_spec = tie.close (tie.spec returns returns-2 returns-3 returns-4)

@@ -1,8 +1,8 @@
 -- `matcher::settle::confidence` meets its contract: by the answers of the callees, with the literals read as whole numbers.
-use Rattle.geo.proofs.Literals.{literal-0, literal-1}
-use Rattle.matcher.proofs.ScoreLiterals.{literal-40}
+use Rattle.geo.proofs.Literals.{literal_0, literal_1}
+use Rattle.matcher.proofs.ScoreLiterals.{literal_40}
 use Rattle.matcher.specs.Settle.{confidence}
-use Rattle.matcher.proofs.Literals.{literal-2, literal-100}
+use Rattle.matcher.proofs.Literals.{literal_2, literal_100}
 use Rattle.matcher.proofs.settle.confidence.Statement.{statement}
 use Rattle.matcher.proofs.settle.confidence.Tie as tie
 
@@ -26,14 +26,14 @@ returns c =
       c.before.steadiness.ensures,
       c.before.before.clamp2.ensures,
       c.before.before.before.clamp.ensures,
-      literal-0,
-      literal-1,
-      literal-2,
-      literal-40,
-      literal-100,
+      literal_0,
+      literal_1,
+      literal_2,
+      literal_40,
+      literal_100,
     )
 
-pub confidence-spec : {M : Type 1} → statement M
-confidence-spec =
+pub confidence_spec : {M : Type 1} → statement M
+confidence_spec =
     tie.close
     (tie.spec clamp-requires clamp-requires-2 steadiness-requires u8-of-f32-requires returns)

@@ -43,8 +43,8 @@ returns-4 c =
       sym c.before.is-on.ensures ∙ c.if1.false,
     )
 
-pub direction-spec : {M : Type 1} → statement M
-direction-spec =
+pub direction_spec : {M : Type 1} → statement M
+direction_spec =
     tie.close
     (tie.spec
     enum-known-forward

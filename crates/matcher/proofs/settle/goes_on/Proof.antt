@@ -2,7 +2,7 @@
 use mathlib.Core.Path.{◌≡◌, refl}
 use mathlib.Core.Bool.{Bool, true, false, beq}
 use borrow.Author.Rules.{rules}
-use Rattle.matcher.specs.Settle.{sameBool}
+use Rattle.matcher.specs.Settle.{same_bool}
 use Rattle.matcher.proofs.settle.goes_on.Statement.{statement}
 use Rattle.matcher.proofs.settle.goes_on.Tie as tie
 
@@ -24,7 +24,7 @@ returns c = search rules
 returns-2 : tie.Need-returns-2
 returns-2 c = search rules
 
-same : (a b : Bool) → beq a b ≡ sameBool a b
+same : (a b : Bool) → beq a b ≡ same_bool a b
 same true true = refl
 same true false = refl
 same false true = refl
@@ -36,7 +36,7 @@ returns-3 c =
     let now = c.before.forward.given in
     rw (was.1, now.1) (same was.0.0 now.0.0)
 
-pub goes-on-spec : {M : Type 1} → statement M
-goes-on-spec =
+pub goes_on_spec : {M : Type 1} → statement M
+goes_on_spec =
     tie.close
     (tie.spec enum_told enum-known-was enum-told-2 enum-known-forward returns returns-2 returns-3)

@@ -1,7 +1,7 @@
 -- `matcher::settle::is_rival` meets its contract: each return by the tests before it.
 use mathlib.Core.Path.{sym, ap, ◌∙◌}
 use mathlib.Core.Bool.{Bool, ◌&&◌, not}
-use Rattle.matcher.specs.Settle.{notLeft}
+use Rattle.matcher.specs.Settle.{not_left}
 use Rattle.matcher.proofs.settle.is_rival.Statement.{statement}
 use Rattle.matcher.proofs.settle.is_rival.Tie as tie
 
@@ -22,8 +22,8 @@ returns-3 c =
     let other = c.before.before in
     let args = other.before.before.args in
     rw (sym other.before.same-edge.ensures ∙ other.if1.false)
-    (c.not_left.ensures ∙ ap (λ (b : Bool). not b && notLeft args.left args.c) (sym c.before.if2.false))
+    (c.not_left.ensures ∙ ap (λ (b : Bool). not b && not_left args.left args.c) (sym c.before.if2.false))
 
-pub is-rival-spec : {M : Type 1} → statement M
-is-rival-spec =
+pub is_rival_spec : {M : Type 1} → statement M
+is_rival_spec =
     tie.close (tie.spec same-edge-requires returns returns-2 not-left-requires returns-3)

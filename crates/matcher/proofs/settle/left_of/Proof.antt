@@ -42,8 +42,8 @@ returns-4 c =
       sym c.before.same-edge.ensures ∙ c.if2.false,
     )
 
-pub left-of-spec : {M : Type 1} → statement M
-left-of-spec =
+pub left_of_spec : {M : Type 1} → statement M
+left_of_spec =
     tie.close
     (tie.spec
     enum_told

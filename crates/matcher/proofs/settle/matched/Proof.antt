@@ -46,8 +46,8 @@ returns-2 c =
       top.candidate-in.ensures,
     )
 
-pub matched-spec : {M : Type 1} → statement M
-matched-spec =
+pub matched_spec : {M : Type 1} → statement M
+matched_spec =
     tie.close
     (tie.spec
     least-of-requires

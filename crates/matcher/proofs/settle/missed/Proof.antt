@@ -25,5 +25,5 @@ returns-2 : tie.Need-returns-2
 unfolding missed
 returns-2 c = rw (← one_more c.before, le-ltb _ _ c.if2.false)
 
-pub missed-spec : {M : Type 1} → statement M
-missed-spec = tie.close (tie.spec add-misses returns returns-2)
+pub missed_spec : {M : Type 1} → statement M
+missed_spec = tie.close (tie.spec add-misses returns returns-2)

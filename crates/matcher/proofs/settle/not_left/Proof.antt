@@ -18,5 +18,5 @@ returns c = rw c.enum_told.given.1
 returns-2 : tie.Need-returns-2
 returns-2 c = rw (c.before.before.left.given.1, c.same-edge.ensures)
 
-pub not-left-spec : {M : Type 1} → statement M
-not-left-spec = tie.close (tie.spec enum_told enum-known-left same-edge-requires returns returns-2)
+pub not_left_spec : {M : Type 1} → statement M
+not_left_spec = tie.close (tie.spec enum_told enum-known-left same-edge-requires returns returns-2)

@@ -21,5 +21,5 @@ returns-2 c =
 returns-3 : tie.Need-returns-3
 returns-3 c = rw (lt-ltb _ _ c.before.before.if1.false, sym c.before.is-rival.ensures ∙ c.if2.false)
 
-pub rival-step-spec : {M : Type 1} → statement M
-rival-step-spec = tie.close (tie.spec returns is-rival-requires min-requires returns-2 returns-3)
+pub rival_step_spec : {M : Type 1} → statement M
+rival_step_spec = tie.close (tie.spec returns is-rival-requires min-requires returns-2 returns-3)

@@ -12,5 +12,5 @@ returns c = rw (sym c.before.same-run.ensures ∙ c.if1.true)
 returns-2 : tie.Need-returns-2
 returns-2 c = rw (sym c.before.same-run.ensures ∙ c.if1.false)
 
-pub run-from-spec : {M : Type 1} → statement M
-run-from-spec = tie.close (tie.spec same-run-requires returns returns-2)
+pub run_from_spec : {M : Type 1} → statement M
+run_from_spec = tie.close (tie.spec same-run-requires returns returns-2)

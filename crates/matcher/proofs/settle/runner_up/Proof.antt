@@ -4,9 +4,9 @@ use mathlib.Core.Path.{◌≡◌, sym, ◌∙◌}
 use native.Mathlib.Omega.{arith}
 use lib.ListN.{length, length-map}
 use borrow.Author.Rules.{rules}
-use Rattle.matcher.specs.Settle.{runnerTo}
+use Rattle.matcher.specs.Settle.{runner_to}
 use Rattle.matcher.proofs.Literals.{infinite}
-use Rattle.matcher.proofs.PlaceLaws.{runner-start, runner-next}
+use Rattle.matcher.proofs.PlaceLaws.{runner_start, runner_next}
 use Rattle.matcher.proofs.settle.runner_up.Statement.{statement}
 use Rattle.matcher.proofs.settle.runner_up.Tie as tie
 
@@ -72,18 +72,18 @@ returns c =
     let chosen = start.args.chosen in
     let left = start.args.left in
     let size : length k.v ≡ 8 = sym (length-map k.v _) ∙ start.well-formed.0.1.1.0.1.0.1 in
-    let s1 : first.rival-step.result ≡ runnerTo k chosen left 1 = runner-next k chosen left 0 _ _ _ (omega (arith, size)) first.rival-step.ensures (runner-start k chosen left _ infinite) in
-    let s2 : second.rival-step2.result ≡ runnerTo k chosen left 2 = runner-next k chosen left 1 _ _ _ (omega (arith, size)) second.rival-step2.ensures s1 in
-    let s3 : third.rival-step3.result ≡ runnerTo k chosen left 3 = runner-next k chosen left 2 _ _ _ (omega (arith, size)) third.rival-step3.ensures s2 in
-    let s4 : fourth.rival-step4.result ≡ runnerTo k chosen left 4 = runner-next k chosen left 3 _ _ _ (omega (arith, size)) fourth.rival-step4.ensures s3 in
-    let s5 : fifth.rival-step5.result ≡ runnerTo k chosen left 5 = runner-next k chosen left 4 _ _ _ (omega (arith, size)) fifth.rival-step5.ensures s4 in
-    let s6 : sixth.rival-step6.result ≡ runnerTo k chosen left 6 = runner-next k chosen left 5 _ _ _ (omega (arith, size)) sixth.rival-step6.ensures s5 in
-    let s7 : seventh.rival-step7.result ≡ runnerTo k chosen left 7 = runner-next k chosen left 6 _ _ _ (omega (arith, size)) seventh.rival-step7.ensures s6 in
-    let s8 : c.rival-step8.result ≡ runnerTo k chosen left 8 = runner-next k chosen left 7 _ _ _ (omega (arith, size)) c.rival-step8.ensures s7 in
+    let s1 : first.rival-step.result ≡ runner_to k chosen left 1 = runner_next k chosen left 0 _ _ _ (omega (arith, size)) first.rival-step.ensures (runner_start k chosen left _ infinite) in
+    let s2 : second.rival-step2.result ≡ runner_to k chosen left 2 = runner_next k chosen left 1 _ _ _ (omega (arith, size)) second.rival-step2.ensures s1 in
+    let s3 : third.rival-step3.result ≡ runner_to k chosen left 3 = runner_next k chosen left 2 _ _ _ (omega (arith, size)) third.rival-step3.ensures s2 in
+    let s4 : fourth.rival-step4.result ≡ runner_to k chosen left 4 = runner_next k chosen left 3 _ _ _ (omega (arith, size)) fourth.rival-step4.ensures s3 in
+    let s5 : fifth.rival-step5.result ≡ runner_to k chosen left 5 = runner_next k chosen left 4 _ _ _ (omega (arith, size)) fifth.rival-step5.ensures s4 in
+    let s6 : sixth.rival-step6.result ≡ runner_to k chosen left 6 = runner_next k chosen left 5 _ _ _ (omega (arith, size)) sixth.rival-step6.ensures s5 in
+    let s7 : seventh.rival-step7.result ≡ runner_to k chosen left 7 = runner_next k chosen left 6 _ _ _ (omega (arith, size)) seventh.rival-step7.ensures s6 in
+    let s8 : c.rival-step8.result ≡ runner_to k chosen left 8 = runner_next k chosen left 7 _ _ _ (omega (arith, size)) c.rival-step8.ensures s7 in
     rw s8
 
-pub runner-up-spec : {M : Type 1} → statement M
-runner-up-spec =
+pub runner_up_spec : {M : Type 1} → statement M
+runner_up_spec =
     tie.close
     (tie.spec
     element-copy-out-rival-step

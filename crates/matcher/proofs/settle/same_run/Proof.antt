@@ -27,8 +27,8 @@ returns-2 c = rw c.enum_told.given.1
 returns-3 : tie.Need-returns-3
 returns-3 c = rw (c.before.before.before.previous.given.1, sym c.before.is-on.ensures ∙ c.if1.false)
 
-pub same-run-spec : {M : Type 1} → statement M
-same-run-spec =
+pub same_run_spec : {M : Type 1} → statement M
+same_run_spec =
     tie.close
     (tie.spec
     enum_told

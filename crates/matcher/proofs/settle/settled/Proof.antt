@@ -40,8 +40,8 @@ returns c =
       runner.before.left-of.ensures,
     )
 
-pub settled-spec : {M : Type 1} → statement M
-settled-spec =
+pub settled_spec : {M : Type 1} → statement M
+settled_spec =
     tie.close
     (tie.spec
     left-of-requires

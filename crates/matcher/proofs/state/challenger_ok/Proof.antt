@@ -19,6 +19,6 @@ returns-2 c = search rules
 returns-3 : tie.Need-returns-3
 returns-3 c = rw (c.before.before.before.challenger.given.1, le-leb _ _ c.before.if1.false)
 
-pub challenger-ok-spec : {M : Type 1} → statement M
-challenger-ok-spec =
+pub challenger_ok_spec : {M : Type 1} → statement M
+challenger_ok_spec =
     tie.close (tie.spec enum_told enum-known-challenger returns returns-2 returns-3)

@@ -18,5 +18,5 @@ returns-2 c =
     let edge = c.before in
     rw (sym edge.before.edge-ok.ensures ∙ not-false _ edge.if1.false) c.challenger-ok.ensures
 
-pub counts-ok-spec : {M : Type 1} → statement M
-counts-ok-spec = tie.close (tie.spec edge-ok-requires returns challenger-ok-requires returns-2)
+pub counts_ok_spec : {M : Type 1} → statement M
+counts_ok_spec = tie.close (tie.spec edge-ok-requires returns challenger-ok-requires returns-2)

@@ -15,5 +15,5 @@ returns c = search rules
 returns-2 : tie.Need-returns-2
 returns-2 c = rw c.before.before.before.before.current.given.1
 
-pub edge-ok-spec : {M : Type 1} → statement M
-edge-ok-spec = tie.close (tie.spec enum_told enum-known-current returns returns-2)
+pub edge_ok_spec : {M : Type 1} → statement M
+edge_ok_spec = tie.close (tie.spec enum_told enum-known-current returns returns-2)

@@ -18,6 +18,6 @@ returns c = search rules
 returns-2 : tie.Need-returns-2
 returns-2 c = rw c.before.before.heading.given.1 c.is-heading.ensures
 
-pub heading-ok-spec : {M : Type 1} → statement M
-heading-ok-spec =
+pub heading_ok_spec : {M : Type 1} → statement M
+heading_ok_spec =
     tie.close (tie.spec enum_told enum-known-heading is-heading-requires returns returns-2)

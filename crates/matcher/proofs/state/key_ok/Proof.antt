@@ -18,5 +18,5 @@ returns c = search rules
 returns-2 : tie.Need-returns-2
 returns-2 c = rw c.before.before.before.current.given.1 c.in-grid.ensures
 
-pub key-ok-spec : {M : Type 1} → statement M
-key-ok-spec = tie.close (tie.spec enum_told enum-known-current in-grid-requires returns returns-2)
+pub key_ok_spec : {M : Type 1} → statement M
+key_ok_spec = tie.close (tie.spec enum_told enum-known-current in-grid-requires returns returns-2)

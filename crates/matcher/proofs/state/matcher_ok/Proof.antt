@@ -18,5 +18,5 @@ returns-2 c =
     let counts = c.before in
     rw (sym counts.before.counts-ok.ensures ∙ not-false _ counts.if1.false) c.key-ok.ensures
 
-pub matcher-ok-spec : {M : Type 1} → statement M
-matcher-ok-spec = tie.close (tie.spec counts-ok-requires returns key-ok-requires returns-2)
+pub matcher_ok_spec : {M : Type 1} → statement M
+matcher_ok_spec = tie.close (tie.spec counts-ok-requires returns key-ok-requires returns-2)

@@ -2,8 +2,8 @@
 use Rattle.std.proofs.Common.{T, sym, ◌∙◌, subst, arith, to_z-of_z, w32, w64, SFits, rules}
 use lib.Ieee.{of_bits, neg}
 use mir.Facts.{sfits_widen}
-use Rattle.num.proofs.CastLaws.{signed_above, signed_below, signed-none}
-use Rattle.num.proofs.WholeLaws.{Near, near-cast}
+use Rattle.num.proofs.CastLaws.{signed_above, signed_below, signed_none}
+use Rattle.num.proofs.WholeLaws.{Near, near_cast}
 use Rattle.num.proofs.cast.i64_of_f32.Statement.{statement}
 use Rattle.num.proofs.cast.i64_of_f32.Tie as tie
 
@@ -23,7 +23,7 @@ cast-result c = rw (to_z-of_z (fits c)) (sfits_widen tt (fits c))
 returns : tie.Need-returns
 returns c =
     rw (to_z-of_z (fits c), to_z-of_z {w = w64} (sfits_widen tt (fits c)))
-    (c.whole_part.ensures ∙ near-cast 31 63 (omega arith) (omega arith) c.before.before.before.args.x (near c.before))
+    (c.whole_part.ensures ∙ near_cast 31 63 (omega arith) (omega arith) c.before.before.before.args.x (near c.before))
 
 truncating-f32-to-i64-requires : tie.Need-truncating-f32-to-i64-requires
 unfolding of_bits neg
@@ -42,7 +42,7 @@ returns-4 c = signed_below 63 _ c.before.if3.false c.if5.true
 
 returns-5 : tie.Need-returns-5
 unfolding of_bits neg
-returns-5 c = signed-none 63 _ c.before.if3.false c.if5.false
+returns-5 c = signed_none 63 _ c.before.if3.false c.if5.false
 
-pub i64-of-f32-spec : {M : Type 1} → statement M
-i64-of-f32-spec = tie.close (tie.spec whole-part-requires cast-result returns truncating-f32-to-i64-requires returns-2 returns-3 returns-4 returns-5)
+pub i64_of_f32_spec : {M : Type 1} → statement M
+i64_of_f32_spec = tie.close (tie.spec whole-part-requires cast-result returns truncating-f32-to-i64-requires returns-2 returns-3 returns-4 returns-5)

@@ -4,15 +4,15 @@ use Rattle.num.specs.Cast.{bits32, low_bits}
 use Rattle.num.proofs.cast.low_bits.Statement.{statement}
 use Rattle.num.proofs.cast.low_bits.Tie as tie
 
-low-of-bits : (z : ℤ) → SFits w32 z → bits32 z % 65536 ≡ low_bits z
-low-of-bits (pos n) f = refl
-low-of-bits (negsuc n) f = omega (arith, f.sfits)
+low_of_bits : (z : ℤ) → SFits w32 z → bits32 z % 65536 ≡ low_bits z
+low_of_bits (pos n) f = refl
+low_of_bits (negsuc n) f = omega (arith, f.sfits)
 
 u32-of-i32-requires : tie.Need-u32-of-i32-requires
 u32-of-i32-requires c κs = tt
 
 returns : tie.Need-returns
-returns c = rw (rw (to_z-of_z c.before.ranges.z) at c.u32-of-i32.ensures) (low-of-bits c.before.args.z c.before.ranges.z)
+returns c = rw (rw (to_z-of_z c.before.ranges.z) at c.u32-of-i32.ensures) (low_of_bits c.before.args.z c.before.ranges.z)
 
-pub low-bits-spec : {M : Type 1} → statement M
-low-bits-spec = tie.close (tie.spec u32-of-i32-requires returns)
+pub low_bits_spec : {M : Type 1} → statement M
+low_bits_spec = tie.close (tie.spec u32-of-i32-requires returns)

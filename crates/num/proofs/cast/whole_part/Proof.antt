@@ -4,18 +4,18 @@ use lib.IntN.{+ℤ_idl}
 use lib.Ieee.{binary32, to_bits}
 use mir.Facts.{to_z_pos}
 use borrow.Author.Tests.{lt-leb}
-use Rattle.num.proofs.WholeLaws.{near-number, left, left_lt, field-le, whole_part}
+use Rattle.num.proofs.WholeLaws.{near_number, left, left_lt, field_le, whole_part}
 use Rattle.num.proofs.cast.whole_part.Statement.{statement}
 use Rattle.num.proofs.cast.whole_part.Tie as tie
 
 float-to-bits-bits : tie.Need-float-to-bits-bits
-float-to-bits-bits c = near-number c.args.x c.requires
+float-to-bits-bits c = near_number c.args.x c.requires
 
 add-digits : tie.Need-overflow-add-digits
 add-digits c = search rules
 
 sub-cut : tie.Need-overflow-sub-cut
-sub-cut c = field-le c.args.x (search rules) c.requires
+sub-cut c = field_le c.args.x (search rules) c.requires
 
 cut-requires : tie.Need-cut-requires
 cut-requires c κs = search rules
@@ -64,8 +64,8 @@ returns-2 c =
     rw (c.before.cut.ensures, plain (rest s) (rest_lt s), +ℤ_idl (neg_ℤ (pos (rest s))), to_z-of_z (negated_fits (rest s) (rest_lt s)))
     (rw (le-leb (2 ^ 31) (to_bits binary32 s.args.x) c.if1.false) at (whole_part s.args.x (search rules) s.requires))
 
-pub whole-part-spec : {M : Type 1} → statement M
-whole-part-spec =
+pub whole_part_spec : {M : Type 1} → statement M
+whole_part_spec =
     tie.close
     (tie.spec
     float-to-bits-bits

@@ -17,5 +17,5 @@ returns c =
     let start = c.before in
     rw (to_z-of_z start.ranges.z, to_z-of_z (wide start.args.z start.ranges.z)) at c.f32-of-i64.ensures
 
-pub f32-of-i32-spec : {M : Type 1} → statement M
-f32-of-i32-spec = tie.close (tie.spec cast-f32-of-i64 f32-of-i64-requires returns)
+pub f32_of_i32_spec : {M : Type 1} → statement M
+f32_of_i32_spec = tie.close (tie.spec cast-f32-of-i64 f32-of-i64-requires returns)

@@ -32,5 +32,5 @@ int-to-float-result c =
 returns-3 : tie.Need-returns-3
 returns-3 c = search rules
 
-pub f32-of-i64-spec : {M : Type 1} → statement M
-f32-of-i64-spec = tie.close (tie.spec rounded-i64-requires returns rounded-i64-requires-2 returns-2 int-to-float-result returns-3)
+pub f32_of_i64_spec : {M : Type 1} → statement M
+f32_of_i64_spec = tie.close (tie.spec rounded-i64-requires returns rounded-i64-requires-2 returns-2 int-to-float-result returns-3)

@@ -1,7 +1,7 @@
 -- `num::convert::f32_of_usize` meets its contract: to 2 ^ 24 the language's own cast loses nothing; beyond, a whole number is 2 ^ 1074 times as many of the smallest doubles.
 use Rattle.std.proofs.Common.{◌∙◌, le→leb, rules}
 use lib.Ieee.{in_float}
-use Rattle.num.proofs.Nearest.{nearest-whole}
+use Rattle.num.proofs.Nearest.{nearest_whole}
 use Rattle.num.proofs.convert.f32_of_usize.Statement.{statement}
 use Rattle.num.proofs.convert.f32_of_usize.Tie as tie
 
@@ -16,7 +16,7 @@ nearest-requires : tie.Need-nearest-requires
 nearest-requires c κs = search rules
 
 returns-2 : tie.Need-returns-2
-returns-2 c = c.nearest.ensures ∙ nearest-whole c.before.before.args.n
+returns-2 c = c.nearest.ensures ∙ nearest_whole c.before.before.args.n
 
-pub f32-of-usize-spec : {M : Type 1} → statement M
-f32-of-usize-spec = tie.close (tie.spec int-to-float-result returns nearest-requires returns-2)
+pub f32_of_usize_spec : {M : Type 1} → statement M
+f32_of_usize_spec = tie.close (tie.spec int-to-float-result returns nearest-requires returns-2)

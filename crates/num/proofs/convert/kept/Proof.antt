@@ -2,7 +2,7 @@
 -- `more << (cut - 1)` loses nothing, so it is m without that.
 use Rattle.std.proofs.Common.{◌≡◌, ℕ, ◌+◌, ◌-◌, ◌*◌, ◌/◌, ◌%◌, ◌^◌, ◌<◌, ap, ◌∙◌, mod-eq_of_lt, arith, rules}
 use lib.Pow.{split, shr_le}
-use Rattle.num.proofs.Closest.{closest-below, closest-above, closest-tie}
+use Rattle.num.proofs.Closest.{closest_below, closest_above, closest_tie}
 use Rattle.num.proofs.convert.kept.Statement.{statement}
 use Rattle.num.proofs.convert.kept.Tie as tie
 
@@ -20,7 +20,7 @@ shr-more c = search rules
 returns : tie.Need-returns
 returns c =
     let cut : ℕ = c.before.args.cut in
-    closest-below c.before.args.m (cut - 1) cut (omega (arith, c.before.requires)) c.if1.true
+    closest_below c.before.args.m (cut - 1) cut (omega (arith, c.before.requires)) c.if1.true
 
 sub-if2 : tie.Need-overflow-sub-if2
 sub-if2 c = search rules
@@ -36,7 +36,7 @@ returns-2 c =
     let at = c.before.before in
     let m : ℕ = at.args.m in
     let cut : ℕ = at.args.cut in
-    closest-above m (cut - 1) cut (omega (arith, at.requires)) (omega (arith, c.before.if1.false)) (omega (arith, c.if2.true, back m (cut - 1) at.ranges.m.fits))
+    closest_above m (cut - 1) cut (omega (arith, at.requires)) (omega (arith, c.before.if1.false)) (omega (arith, c.if2.true, back m (cut - 1) at.ranges.m.fits))
 
 add-result-2 : tie.Need-overflow-add-result-2
 add-result-2 c = omega (arith, shr_le c.before.before.args.m (c.before.before.args.cut - 1))
@@ -46,10 +46,10 @@ returns-3 c =
     let at = c.before.before in
     let m : ℕ = at.args.m in
     let cut : ℕ = at.args.cut in
-    closest-tie m (cut - 1) cut (omega (arith, at.requires)) (omega (arith, c.before.if1.false)) (omega (arith, c.if2.false, back m (cut - 1) at.ranges.m.fits))
+    closest_tie m (cut - 1) cut (omega (arith, at.requires)) (omega (arith, c.before.if1.false)) (omega (arith, c.if2.false, back m (cut - 1) at.ranges.m.fits))
 
-pub kept-spec : {M : Type 1} → statement M
-kept-spec =
+pub kept_spec : {M : Type 1} → statement M
+kept_spec =
     tie.close
     (tie.spec
     sub_more

@@ -1,6 +1,6 @@
 -- `num::convert::narrow_bits` meets its contract: by the pattern's two fields.
 use Rattle.std.proofs.Common.{◌≡◌, ℕ, suc, ◌-◌, ◌/◌, sym, ◌∙◌, arith, rules}
-use Rattle.num.proofs.Narrow.{narrow-small, narrow-normal}
+use Rattle.num.proofs.Narrow.{narrow_small, narrow_normal}
 use Rattle.num.proofs.convert.narrow_bits.Statement.{statement}
 use Rattle.num.proofs.convert.narrow_bits.Tie as tie
 
@@ -8,7 +8,7 @@ nearest-requires : tie.Need-nearest-requires
 nearest-requires c κs = search rules
 
 returns : tie.Need-returns
-returns c = c.nearest.ensures ∙ sym (narrow-small c.before.before.args.b c.before.before.requires c.before.if1.true)
+returns c = c.nearest.ensures ∙ sym (narrow_small c.before.before.args.b c.before.before.requires c.before.if1.true)
 
 add-nearest : tie.Need-overflow-add-nearest
 add-nearest c = search rules
@@ -26,10 +26,10 @@ returns-2 : tie.Need-returns-2
 returns-2 c =
     let b : ℕ = c.before.before.args.b in
     let e : b / 4503599627370496 ≡ suc (b / 4503599627370496 - 1) = omega (arith, c.before.if1.false) in
-    c.nearest2.ensures ∙ sym (narrow-normal b c.before.before.requires (b / 4503599627370496 - 1) e)
+    c.nearest2.ensures ∙ sym (narrow_normal b c.before.before.requires (b / 4503599627370496 - 1) e)
 
-pub narrow-bits-spec : {M : Type 1} → statement M
-narrow-bits-spec =
+pub narrow_bits_spec : {M : Type 1} → statement M
+narrow_bits_spec =
     tie.close
     (tie.spec
     nearest-requires

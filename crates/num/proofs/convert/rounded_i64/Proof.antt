@@ -3,17 +3,17 @@ use Rattle.std.proofs.Common.{◌≡◌, ℕ, zero, suc, ◌+◌, ◌^◌, ◌<�
 use lib.IntN.{suc_ℤ, +ℤ_one, +ℤ_idl, neg_ℤ-suc_ℤ}
 use lib.Signed.{mag, le_z}
 use lib.Ieee.{binary32, neg, of_int}
-use Rattle.num.specs.Convert.{nearestTo}
-use Rattle.num.proofs.CastLaws.{as-pos, as-neg}
-use Rattle.num.proofs.Nearest.{nearest-whole, nearest_negative}
+use Rattle.num.specs.Convert.{nearest_to}
+use Rattle.num.proofs.CastLaws.{as_pos, as_neg}
+use Rattle.num.proofs.Nearest.{nearest_whole, nearest_negative}
 use Rattle.num.proofs.convert.rounded_i64.Statement.{statement}
 use Rattle.num.proofs.convert.rounded_i64.Tie as tie
 
 abbrev read : ℤ → ℤ
 read z = to_z w64 (of_z w64 z)
 
-count-up : (z : ℤ) → SFits w64 z → le_z (pos 0) (read z) ≡ true → read z ≡ pos (mag z)
-count-up z f e = to_z-of_z f ∙ as-pos z (rw (to_z-of_z f) at e)
+count_up : (z : ℤ) → SFits w64 z → le_z (pos 0) (read z) ≡ true → read z ≡ pos (mag z)
+count_up z f e = to_z-of_z f ∙ as_pos z (rw (to_z-of_z f) at e)
 
 -- -(k + 1) and one, and that negated
 up_fits : (k : ℕ) → k < 2 ^ 63 → SFits w64 (negsuc k +ℤ pos 1)
@@ -28,7 +28,7 @@ down k = ap (λ (z : ℤ). pos 0 -ℤ z) (+ℤ_one (negsuc k)) ∙ +ℤ_idl (neg
 
 module _ (z : ℤ) (f : SFits w64 z) (e : le_z (pos 0) (read z) ≡ false) where
   is : read z ≡ negsuc (mag z)
-  is = to_z-of_z f ∙ as-neg z (rw (to_z-of_z f) at e)
+  is = to_z-of_z f ∙ as_neg z (rw (to_z-of_z f) at e)
 
   next_fits : SFits w64 (read z +ℤ pos 1)
   next_fits = rw is (up_fits (mag z) f.sfits)
@@ -45,7 +45,7 @@ module _ (z : ℤ) (f : SFits w64 z) (e : le_z (pos 0) (read z) ≡ false) where
 cast-nearest : tie.Need-overflow-cast-nearest
 cast-nearest c =
     let z : ℤ = c.before.args.z in
-    rw (count-up z c.before.ranges.z c.if1.true) (tt, omega (arith, c.before.ranges.z.sfits))
+    rw (count_up z c.before.ranges.z c.if1.true) (tt, omega (arith, c.before.ranges.z.sfits))
 
 nearest-requires : tie.Need-nearest-requires
 nearest-requires c κs = search rules
@@ -54,8 +54,8 @@ returns : tie.Need-returns
 returns c =
     let at = c.before.before in
     let z : ℤ = at.args.z in
-    let e : read z ≡ pos (mag z) = count-up z at.ranges.z c.before.if1.true in
-    c.nearest.ensures ∙ ap (λ (x : ℤ). nearestTo (nat_abs x) 1074) e ∙ nearest-whole (mag z) ∙ ap (of_int binary32) (sym e ∙ to_z-of_z at.ranges.z)
+    let e : read z ≡ pos (mag z) = count_up z at.ranges.z c.before.if1.true in
+    c.nearest.ensures ∙ ap (λ (x : ℤ). nearest_to (nat_abs x) 1074) e ∙ nearest_whole (mag z) ∙ ap (of_int binary32) (sym e ∙ to_z-of_z at.ranges.z)
 
 add-nearest : tie.Need-overflow-add-nearest
 add-nearest c = next_fits c.before.args.z c.before.ranges.z c.if1.false
@@ -78,12 +78,12 @@ returns-2 c =
     let z : ℤ = at.args.z in
     let f : SFits w64 z = at.ranges.z in
     let e = c.before.if1.false in
-    ap neg (c.nearest2.ensures ∙ ap (λ (x : ℤ). nearestTo (nat_abs x + 1) 1074) (count z f e))
+    ap neg (c.nearest2.ensures ∙ ap (λ (x : ℤ). nearest_to (nat_abs x + 1) 1074) (count z f e))
     ∙ nearest_negative (mag z)
     ∙ ap (of_int binary32) (sym (is z f e) ∙ to_z-of_z f)
 
-pub rounded-i64-spec : {M : Type 1} → statement M
-rounded-i64-spec =
+pub rounded_i64_spec : {M : Type 1} → statement M
+rounded_i64_spec =
     tie.close
     (tie.spec
     cast-nearest

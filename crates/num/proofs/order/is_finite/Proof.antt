@@ -1,18 +1,18 @@
--- `order::is_finite` meets its contract: the test of the pattern is `finite-bits`'s.
+-- `order::is_finite` meets its contract: the test of the pattern is `finite_bits`'s.
 use Rattle.std.proofs.Common.{sym, rules}
 use lib.Ieee.{binary32}
-use Rattle.num.proofs.OrderLaws.{differs, is-nan, finite-bits}
+use Rattle.num.proofs.OrderLaws.{differs, is_nan_lem, finite_bits}
 use Rattle.num.proofs.order.is_finite.Statement.{statement}
 use Rattle.num.proofs.order.is_finite.Tie as tie
 
 returns : tie.Need-returns
-returns c = rw (is-nan _ c.if1.true)
+returns c = rw (is_nan_lem _ c.if1.true)
 
 float-to-bits-result : tie.Need-float-to-bits-result
 float-to-bits-result c = rw (← differs, c.if1.false) tt
 
 returns-2 : tie.Need-returns-2
-returns-2 c = sym (finite-bits binary32 c.before.args.x (search rules))
+returns-2 c = sym (finite_bits binary32 c.before.args.x (search rules))
 
-pub is-finite-spec : {M : Type 1} → statement M
-is-finite-spec = tie.close (tie.spec returns float-to-bits-result returns-2)
+pub is_finite_spec : {M : Type 1} → statement M
+is_finite_spec = tie.close (tie.spec returns float-to-bits-result returns-2)

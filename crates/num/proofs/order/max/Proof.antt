@@ -12,5 +12,5 @@ returns-2 c = rw (← differs, c.before.if1.false, c.if2.true)
 returns-3 : tie.Need-returns-3
 returns-3 c = rw (← differs, c.before.if1.false, c.if2.false)
 
-pub max-spec : {M : Type 1} → statement M
-max-spec = tie.close (tie.spec returns returns-2 returns-3)
+pub max_spec : {M : Type 1} → statement M
+max_spec = tie.close (tie.spec returns returns-2 returns-3)

@@ -24,6 +24,6 @@ returns-5 c = rw (c.before.before.before.before.if1.false, c.before.before.befor
 returns-6 : tie.Need-returns-6
 returns-6 c = rw (c.before.before.before.before.if1.false, c.before.before.before.if2.false, c.before.before.if3.false, unequal _ c.before.if4.false, unequal _ c.if5.false)
 
-pub total-cmp-spec : {M : Type 1} → statement M
-total-cmp-spec =
+pub total_cmp_spec : {M : Type 1} → statement M
+total_cmp_spec =
     tie.close (tie.spec returns returns-2 by-sign-requires returns-3 returns-4 returns-5 returns-6)

@@ -9,5 +9,5 @@ returns c = inl (c.if1.true, refl)
 returns-2 : tie.Need-returns-2
 returns-2 c = inr (c.if1.false, refl)
 
-pub below-spec : {M : Type 1} → statement M
-below-spec = tie.close (tie.spec returns returns-2)
+pub below_spec : {M : Type 1} → statement M
+below_spec = tie.close (tie.spec returns returns-2)

@@ -1,14 +1,14 @@
 -- `root::longer` meets its contract: the remainder with the number's next digits, divided by twice the root, and one taken back where it is one too many.
 use Rattle.std.proofs.Common.{ℕ, ◌+◌, ◌*◌, ◌/◌, ◌%◌, ◌<◌, mod-lt, arith, rules}
 use native.Mathlib.Nat.{div-add-mod}
-use Rattle.num.proofs.RootLaws.{Bounds, bounds, Below, Longer, longer-is}
+use Rattle.num.proofs.RootLaws.{Bounds, bounds, Below, Longer, longer_is}
 use Rattle.num.proofs.root.longer.Statement.{statement}
 use Rattle.num.proofs.root.longer.Tie as tie
 use Rattle.num.proofs.root.longer.Reads as reads
 use Rattle.num.proofs.root.longer.Lts as lts
-use Rattle.num.proofs.root.below.Reads as below-reads
+use Rattle.num.proofs.root.below.Reads as below_reads
 
-module _ (at : lts.Start (below-reads.Asked, below-reads.Learnt) reads.Pre reads.Post) where
+module _ (at : lts.Start (below_reads.Asked, below_reads.Learnt) reads.Pre reads.Post) where
   abbrev r : ℕ
   r = at.args.p.whole
 
@@ -27,7 +27,7 @@ module _ (at : lts.Start (below-reads.Asked, below-reads.Learnt) reads.Pre reads
 
   found : (d : ℕ) → Below (part % (r * 2) * b + at.args.low) (part / (r * 2) * (part / (r * 2))) d
       → Longer r at.args.p.rest b at.args.high at.args.low (part / (r * 2)) (part % (r * 2)) d
-  found = longer-is r at.args.p.rest b at.args.high at.args.low (part / (r * 2)) (part % (r * 2)) at.pre (div-add-mod part (r * 2)) (mod-lt part some)
+  found = longer_is r at.args.p.rest b at.args.high at.args.low (part / (r * 2)) (part % (r * 2)) at.pre (div-add-mod part (r * 2)) (mod-lt part some)
 
 mul-twice : tie.Need-overflow-mul-twice
 mul-twice c = search rules
@@ -83,8 +83,8 @@ sub-t17 c = (found c.before.before.before.before c.below.result c.below.ensures)
 returns : tie.Need-returns
 returns c = (found c.before.before.before.before c.below.result c.below.ensures).digits
 
-pub longer-spec : {M : Type 1} → statement M
-longer-spec =
+pub longer_spec : {M : Type 1} → statement M
+longer_spec =
     tie.close
     (tie.spec
     mul-twice

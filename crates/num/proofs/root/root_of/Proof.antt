@@ -1,12 +1,12 @@
 -- `root::root_of` meets its contract: root and remainder of the leading 7 or 8 digits, of 13 or 14, of 25 or 26, and of all of them.
 use Rattle.std.proofs.Common.{◌≡◌, ℕ, ◌+◌, ◌*◌, ◌/◌, ◌%◌, ◌≤◌, ap, ◌∙◌, arith, rules}
-use Rattle.num.proofs.RootLaws.{Digits, grown, digits-root, digits_in}
+use Rattle.num.proofs.RootLaws.{Digits, grown, digits_root, digits_in}
 use Rattle.num.proofs.root.root_of.Statement.{statement}
 use Rattle.num.proofs.root.root_of.Tie as tie
 use Rattle.num.proofs.root.root_of.Reads as reads
 use Rattle.num.proofs.root.root_of.Lts as lts
 use Rattle.num.proofs.root.first.Reads as first_reads
-use Rattle.num.proofs.root.longer.Reads as longer-reads
+use Rattle.num.proofs.root.longer.Reads as longer_reads
 
 -- what `longer` ensures of n's root, for the number y that n is with its further digits
 on : (n r m b h l r' m' y : ℕ) → Digits n r m → Digits (grown r m b h l) r' m' → n * (b * b) + h * b + l ≡ y → Digits y r' m'
@@ -21,7 +21,7 @@ longer-requires c κs =
     let d : (8 ≤ p.whole) × (p.whole ≤ 15) = digits_in (c.before.args.x / 262144) p.whole p.rest 8 15 c.first.ensures (omega arith) (omega arith) in
     (c.first.ensures.1, search rules)
 
-module _ (c : lts.After-longer (first_reads.Asked, first_reads.Learnt, longer-reads.Asked, longer-reads.Learnt) reads.Pre reads.Post) where
+module _ (c : lts.After-longer (first_reads.Asked, first_reads.Learnt, longer_reads.Asked, longer_reads.Learnt) reads.Pre reads.Post) where
   seven : Digits (c.before.before.args.x / 4096) c.longer.result.whole c.longer.result.rest
   seven =
       let x : ℕ = c.before.before.args.x in
@@ -34,7 +34,7 @@ longer-requires-2 c κs =
     let d : (64 ≤ p.whole) × (p.whole ≤ 127) = digits_in (c.before.before.args.x / 4096) p.whole p.rest 64 127 (seven c) (omega arith) (omega arith) in
     ((seven c).1, search rules)
 
-module _ (c : lts.After-longer2 (first_reads.Asked, first_reads.Learnt, longer-reads.Asked, longer-reads.Learnt) reads.Pre reads.Post) where
+module _ (c : lts.After-longer2 (first_reads.Asked, first_reads.Learnt, longer_reads.Asked, longer_reads.Learnt) reads.Pre reads.Post) where
   thirteen : Digits c.before.before.before.args.x c.longer2.result.whole c.longer2.result.rest
   thirteen =
       let x : ℕ = c.before.before.before.args.x in
@@ -52,11 +52,11 @@ returns c =
     let x : ℕ = c.before.before.before.before.args.x in
     let p = c.before.longer2.result in
     let all = c.longer3.result in
-    digits-root (x * 16777216) all.whole all.rest
+    digits_root (x * 16777216) all.whole all.rest
     (on x p.whole p.rest 4096 0 0 all.whole all.rest (x * 16777216) (thirteen c.before) c.longer3.ensures (omega arith))
 
-pub root-of-spec : {M : Type 1} → statement M
-root-of-spec =
+pub root_of_spec : {M : Type 1} → statement M
+root_of_spec =
     tie.close
     (tie.spec
     first-requires

@@ -2,32 +2,32 @@
 use Rattle.std.proofs.Common.{◌≡◌, ℕ, ◌+◌, ◌*◌, ◌/◌, ◌%◌, ◌^◌, ◌<◌, ◌≤◌, ap, ◌∙◌, mod-eq_of_lt, arith, rules}
 use lib.Count.{leading_le}
 use lib.Ieee.{binary32, of_bits}
-use Rattle.num.specs.Root.{wholeRoot}
-use Rattle.num.proofs.RootRounded.{digitsOf, digits_are, wide_of, wide_is, top_of, top-is, wide-top, root-bounds, rounded-is}
+use Rattle.num.specs.Root.{whole_root}
+use Rattle.num.proofs.RootRounded.{digits_of, digits_are, wide_of, wide_is, top_of, top_is, wide_top, root_bounds, rounded_is}
 use Rattle.num.proofs.root.rounded.Statement.{statement}
 use Rattle.num.proofs.root.rounded.Tie as tie
 
 abbrev wide : ℕ → ℕ → ℕ
-wide m s = wide_of m (digitsOf m) (s + digitsOf m)
+wide m s = wide_of m (digits_of m) (s + digits_of m)
 
 abbrev top : ℕ → ℕ → ℕ
-top m s = top_of m (digitsOf m) (s + digitsOf m)
+top m s = top_of m (digits_of m) (s + digits_of m)
 
 module _ (m s : ℕ) (g : 0 < m) (h : m < 16777216) where
   -- the shift loses nothing
   whole : (top m s % 2 ^ 32 ≡ top m s) × ((2 ^ 24 ≤ top m s) × (top m s < 2 ^ 26))
   whole =
-      let d : (digitsOf m ≤ 24) × ((m < 2 ^ digitsOf m) × (2 ^ digitsOf m ≤ 2 * m + 1)) = digits_are m h in
-      let t : (2 ^ 24 ≤ top m s) × (top m s < 2 ^ 26) = top-is m (digitsOf m) (s + digitsOf m) g d.0 d.1.0 d.1.1 in
+      let d : (digits_of m ≤ 24) × ((m < 2 ^ digits_of m) × (2 ^ digits_of m ≤ 2 * m + 1)) = digits_are m h in
+      let t : (2 ^ 24 ≤ top m s) × (top m s < 2 ^ 26) = top_is m (digits_of m) (s + digits_of m) g d.0 d.1.0 d.1.1 in
       (mod-eq_of_lt (omega (arith, t.1)), t)
 
   -- and the root has 25 digits
-  found : (r : ℕ) → r ≡ wholeRoot (top m s % 2 ^ 32 * 16777216) → (r ≡ wholeRoot (wide m s)) × (r < 33554432)
+  found : (r : ℕ) → r ≡ whole_root (top m s % 2 ^ 32 * 16777216) → (r ≡ whole_root (wide m s)) × (r < 33554432)
   found r e =
-      let d : (digitsOf m ≤ 24) × ((m < 2 ^ digitsOf m) × (2 ^ digitsOf m ≤ 2 * m + 1)) = digits_are m h in
-      let w : (2 ^ 48 ≤ wide m s) × ((wide m s + 2 ^ 26 ≤ 2 ^ 50) × (wide m s % 2 ≡ 0)) = wide_is m (digitsOf m) (s + digitsOf m) g d.0 d.1.0 d.1.1 in
-      let v : r ≡ wholeRoot (wide m s) = e ∙ ap (λ (x : ℕ). wholeRoot (x * 16777216)) whole.0 ∙ ap wholeRoot (wide-top m (digitsOf m) (s + digitsOf m) d.0) in
-      (v, omega (arith, v, (root-bounds (wide m s) w.0 (omega (arith, w.1.0))).1))
+      let d : (digits_of m ≤ 24) × ((m < 2 ^ digits_of m) × (2 ^ digits_of m ≤ 2 * m + 1)) = digits_are m h in
+      let w : (2 ^ 48 ≤ wide m s) × ((wide m s + 2 ^ 26 ≤ 2 ^ 50) × (wide m s % 2 ≡ 0)) = wide_is m (digits_of m) (s + digits_of m) g d.0 d.1.0 d.1.1 in
+      let v : r ≡ whole_root (wide m s) = e ∙ ap (λ (x : ℕ). whole_root (x * 16777216)) whole.0 ∙ ap whole_root (wide_top m (digits_of m) (s + digits_of m) d.0) in
+      (v, omega (arith, v, (root_bounds (wide m s) w.0 (omega (arith, w.1.0))).1))
 
 sub-digits : tie.Need-overflow-sub-digits
 sub-digits c = leading_le 32 c.args.m
@@ -70,15 +70,15 @@ returns c =
     let m : ℕ = c.before.args.m in
     let s : ℕ = c.before.args.s in
     let pre = c.before.requires in
-    let d : (digitsOf m ≤ 24) × ((m < 2 ^ digitsOf m) × (2 ^ digitsOf m ≤ 2 * m + 1)) = digits_are m pre.1.0 in
-    let r : (c.root-of.result ≡ wholeRoot (wide m s)) × (c.root-of.result < 33554432) = found m s pre.0 pre.1.0 c.root-of.result c.root-of.ensures in (
-      ap (λ (x : ℕ). of_bits binary32 (((s + digitsOf m) / 2 + 51) * 8388608 + (x + 1) / 2)) r.0
-          ∙ rounded-is m s (digitsOf m) pre.0 d.0 d.1.0 d.1.1 pre.1.1,
+    let d : (digits_of m ≤ 24) × ((m < 2 ^ digits_of m) × (2 ^ digits_of m ≤ 2 * m + 1)) = digits_are m pre.1.0 in
+    let r : (c.root-of.result ≡ whole_root (wide m s)) × (c.root-of.result < 33554432) = found m s pre.0 pre.1.0 c.root-of.result c.root-of.ensures in (
+      ap (λ (x : ℕ). of_bits binary32 (((s + digits_of m) / 2 + 51) * 8388608 + (x + 1) / 2)) r.0
+          ∙ rounded_is m s (digits_of m) pre.0 d.0 d.1.0 d.1.1 pre.1.1,
       omega (arith, d.0, r.1),
     )
 
-pub rounded-spec : {M : Type 1} → statement M
-rounded-spec =
+pub rounded_spec : {M : Type 1} → statement M
+rounded_spec =
     tie.close
     (tie.spec
     sub-digits

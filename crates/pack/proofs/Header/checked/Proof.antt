@@ -26,5 +26,5 @@ returns-2 c =
       to_z-of_z c.before.before.before.ranges.col,
     )
 
-pub checked-spec : {M : Type 1} → statement M
-checked-spec = tie.close (tie.spec rules-requires returns checked-of-requires returns-2)
+pub checked_spec : {M : Type 1} → statement M
+checked_spec = tie.close (tie.spec rules-requires returns checked-of-requires returns-2)

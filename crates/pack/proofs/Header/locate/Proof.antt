@@ -19,5 +19,5 @@ returns-2 : tie.Need-returns-2
 unfolding locate
 returns-2 c = rw (c.locate-of.ensures, sym c.before.before.rules.ensures ∙ not-false _ c.before.if1.false)
 
-pub locate-spec : {M : Type 1} → statement M
-locate-spec = tie.close (tie.spec rules-requires returns locate-of-requires returns-2)
+pub locate_spec : {M : Type 1} → statement M
+locate_spec = tie.close (tie.spec rules-requires returns locate-of-requires returns-2)

@@ -39,7 +39,7 @@ returns-3 c =
       sym tested.in-grid.ensures ∙ not-false _ inside.if2.false,
     )
 
-pub origin-spec : {M : Type 1} → statement M
-origin-spec =
+pub origin_spec : {M : Type 1} → statement M
+origin_spec =
     tie.close
     (tie.spec rules-requires returns in-grid-requires returns-2 corner-of-requires returns-3)

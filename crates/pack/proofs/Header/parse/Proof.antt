@@ -24,14 +24,14 @@ refused-requires-2 c κs = tt
 returns-2 : tie.Need-returns-2
 unfolding parse
 returns-2 c =
-    let if-magic = c.before in
-    let magic = if-magic.before in
-    let if-sum = magic.before in
-    let sum = if-sum.before in
+    let if_magic = c.before in
+    let magic = if_magic.before in
+    let if_sum = magic.before in
+    let sum = if_sum.before in
     rw (
       c.refused2.ensures,
-      sym sum.is_sum.ensures ∙ not-false _ if-sum.if1.false,
-      sym magic.is-magic.ensures ∙ not-true _ if-magic.if2.true,
+      sym sum.is_sum.ensures ∙ not-false _ if_sum.if1.false,
+      sym magic.is-magic.ensures ∙ not-true _ if_magic.if2.true,
     )
 
 u16-at-requires : tie.Need-u16-at-requires
@@ -43,18 +43,18 @@ refused-requires-3 c κs = tt
 returns-3 : tie.Need-returns-3
 unfolding parse
 returns-3 c =
-    let if-version = c.before in
-    let version = if-version.before in
-    let if-magic = version.before.before in
-    let magic = if-magic.before in
-    let if-sum = magic.before in
-    let sum = if-sum.before in
+    let if_version = c.before in
+    let version = if_version.before in
+    let if_magic = version.before.before in
+    let magic = if_magic.before in
+    let if_sum = magic.before in
+    let sum = if_sum.before in
     rw (
       c.refused3.ensures,
-      sym sum.is_sum.ensures ∙ not-false _ if-sum.if1.false,
-      sym magic.is-magic.ensures ∙ not-false _ if-magic.if2.false,
+      sym sum.is_sum.ensures ∙ not-false _ if_sum.if1.false,
+      sym magic.is-magic.ensures ∙ not-false _ if_magic.if2.false,
       ← version.u16-at.ensures,
-      ne_eqb _ _ if-version.if3.true,
+      ne_eqb _ _ if_version.if3.true,
     )
 
 header-at-requires : tie.Need-header-at-requires
@@ -71,18 +71,18 @@ unfolding parse
 returns-4 c =
     let rules = c.before.before in
     let header = rules.before in
-    let if-version = header.before in
-    let version = if-version.before in
-    let if-magic = version.before.before in
-    let magic = if-magic.before in
-    let if-sum = magic.before in
-    let sum = if-sum.before in
+    let if_version = header.before in
+    let version = if_version.before in
+    let if_magic = version.before.before in
+    let magic = if_magic.before in
+    let if_sum = magic.before in
+    let sum = if_sum.before in
     rw (
       c.refused4.ensures,
-      sym sum.is_sum.ensures ∙ not-false _ if-sum.if1.false,
-      sym magic.is-magic.ensures ∙ not-false _ if-magic.if2.false,
+      sym sum.is_sum.ensures ∙ not-false _ if_sum.if1.false,
+      sym magic.is-magic.ensures ∙ not-false _ if_magic.if2.false,
       ← version.u16-at.ensures,
-      eq-eqb _ _ if-version.if3.false,
+      eq-eqb _ _ if_version.if3.false,
       ← header.header_at.ensures,
       sym rules.rules.ensures ∙ not-true _ c.before.if4.true,
     )
@@ -92,23 +92,23 @@ unfolding parse
 returns-5 c =
     let rules = c.before in
     let header = rules.before in
-    let if-version = header.before in
-    let version = if-version.before in
-    let if-magic = version.before.before in
-    let magic = if-magic.before in
-    let if-sum = magic.before in
-    let sum = if-sum.before in
+    let if_version = header.before in
+    let version = if_version.before in
+    let if_magic = version.before.before in
+    let magic = if_magic.before in
+    let if_sum = magic.before in
+    let sum = if_sum.before in
     rw (
-      sym sum.is_sum.ensures ∙ not-false _ if-sum.if1.false,
-      sym magic.is-magic.ensures ∙ not-false _ if-magic.if2.false,
+      sym sum.is_sum.ensures ∙ not-false _ if_sum.if1.false,
+      sym magic.is-magic.ensures ∙ not-false _ if_magic.if2.false,
       ← version.u16-at.ensures,
-      eq-eqb _ _ if-version.if3.false,
+      eq-eqb _ _ if_version.if3.false,
       header.header_at.ensures,
       sym (rw header.header_at.ensures at rules.rules.ensures) ∙ not-false _ c.if4.false,
     )
 
-pub parse-spec : {M : Type 1} → statement M
-parse-spec =
+pub parse_spec : {M : Type 1} → statement M
+parse_spec =
     tie.close
     (tie.spec
     is-sum-requires

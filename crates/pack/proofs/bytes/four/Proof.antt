@@ -3,7 +3,7 @@ use native.Mathlib.Omega.{arith}
 use Prim.Native.Nat.{ℕ, ◌+◌, ◌*◌}
 use mathlib.Core.List.{List}
 use mathlib.Core.Path.{◌≡◌}
-use Rattle.pack.specs.Bytes.{byteAt, u16At, u32_at}
+use Rattle.pack.specs.Bytes.{byte_at, u16_at, u32_at}
 use borrow.Author.Rules.{rules}
 use Rattle.pack.proofs.bytes.four.Statement.{statement}
 use Rattle.pack.proofs.bytes.four.Tie as tie
@@ -60,8 +60,8 @@ add-result-3 : tie.Need-overflow-add-result-3
 add-result-3 c = search rules
 
 -- four bytes are two halves of two
-halves : (bs : List ℕ) (at : ℕ) → byteAt bs at + byteAt bs (at + 1) * 256 + byteAt bs (at + 2) * 65536 + byteAt bs (at + 3) * 16777216 ≡ u32_at bs at
-unfolding u16At u32_at
+halves : (bs : List ℕ) (at : ℕ) → byte_at bs at + byte_at bs (at + 1) * 256 + byte_at bs (at + 2) * 65536 + byte_at bs (at + 3) * 16777216 ≡ u32_at bs at
+unfolding u16_at u32_at
 halves bs at =
     let next : at + 2 + 1 ≡ at + 3 = omega arith in
     rw next (omega arith)
@@ -77,8 +77,8 @@ returns c =
     )
     (halves start.args.bytes.now start.args.at)
 
-pub four-spec : {M : Type 1} → statement M
-four-spec =
+pub four_spec : {M : Type 1} → statement M
+four_spec =
     tie.close
     (tie.spec
     shared-slice-read-wide-32

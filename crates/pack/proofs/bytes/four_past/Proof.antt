@@ -2,12 +2,12 @@
 use mathlib.Core.Path.{sym}
 use borrow.Author.Rules.{rules}
 use Rattle.pack.specs.Bytes.{u32_at}
-use Rattle.pack.proofs.Laws.{u32-past}
+use Rattle.pack.proofs.Laws.{u32_past}
 use Rattle.pack.proofs.bytes.four_past.Statement.{statement}
 use Rattle.pack.proofs.bytes.four_past.Tie as tie
 
 returns : tie.Need-returns
-returns c = sym (u32-past c.before.before.args.bytes.now c.before.before.args.at c.if1.true)
+returns c = sym (u32_past c.before.before.args.bytes.now c.before.before.args.at c.if1.true)
 
 u16-at-requires : tie.Need-u16-at-requires
 u16-at-requires c κs = tt
@@ -34,8 +34,8 @@ returns-2 : tie.Need-returns-2
 unfolding u32_at
 returns-2 c = rw (c.before.u16-at.ensures, c.u16-at2.ensures)
 
-pub four-past-spec : {M : Type 1} → statement M
-four-past-spec =
+pub four_past_spec : {M : Type 1} → statement M
+four_past_spec =
     tie.close
     (tie.spec
     returns

@@ -27,6 +27,6 @@ sub-result-2 c = high_fits w32 c.before.args.n c.before.ranges.n c.if1.false
 returns-2 : tie.Need-returns-2
 returns-2 c = high w32 c.before.args.n c.before.ranges.n c.if1.false ∙ rw (le-ltb c.before.args.n 2147483648 c.if1.false) (ap negsuc (omega arith))
 
-pub signed-32-spec : {M : Type 1} → statement M
-signed-32-spec =
+pub signed_32_spec : {M : Type 1} → statement M
+signed_32_spec =
     tie.close (tie.spec cast-result returns sub-result cast-result-2 sub-result-2 returns-2)

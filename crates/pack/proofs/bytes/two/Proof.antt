@@ -1,5 +1,5 @@
 -- `pack::bytes::two` meets its contract.
-use Rattle.pack.specs.Bytes.{u16At}
+use Rattle.pack.specs.Bytes.{u16_at}
 use borrow.Author.Rules.{rules}
 use Rattle.pack.proofs.bytes.two.Statement.{statement}
 use Rattle.pack.proofs.bytes.two.Tie as tie
@@ -26,11 +26,11 @@ add-result : tie.Need-overflow-add-result
 add-result c = search rules
 
 returns : tie.Need-returns
-unfolding u16At
+unfolding u16_at
 returns c = rw (c.before.before.wide-16.ensures.0, c.wide-162.ensures.0)
 
-pub two-spec : {M : Type 1} → statement M
-two-spec =
+pub two_spec : {M : Type 1} → statement M
+two_spec =
     tie.close
     (tie.spec
     shared-slice-read-wide-16

@@ -1,13 +1,13 @@
 -- `pack::bytes::u64_at` meets its contract. Past the end both halves are 0; before it the two calls are the definition's.
 use mathlib.Core.Path.{sym}
 use borrow.Author.Rules.{rules}
-use Rattle.pack.specs.Bytes.{u64At}
-use Rattle.pack.proofs.Laws.{u64-past}
+use Rattle.pack.specs.Bytes.{u64_at}
+use Rattle.pack.proofs.Laws.{u64_past}
 use Rattle.pack.proofs.bytes.u64_at.Statement.{statement}
 use Rattle.pack.proofs.bytes.u64_at.Tie as tie
 
 returns : tie.Need-returns
-returns c = sym (u64-past c.before.before.args.bytes.now c.before.before.args.at c.if1.true)
+returns c = sym (u64_past c.before.before.args.bytes.now c.before.before.args.at c.if1.true)
 
 u32-at-requires : tie.Need-u32-at-requires
 u32-at-requires c κs = tt
@@ -31,11 +31,11 @@ add-result : tie.Need-overflow-add-result
 add-result c = search rules
 
 returns-2 : tie.Need-returns-2
-unfolding u64At
+unfolding u64_at
 returns-2 c = rw (c.before.u32-at.ensures, c.u32-at2.ensures)
 
-pub u64-at-spec : {M : Type 1} → statement M
-u64-at-spec =
+pub u64_at_spec : {M : Type 1} → statement M
+u64_at_spec =
     tie.close
     (tie.spec
     returns

@@ -11,8 +11,8 @@ use mir.Syntax.{w16, w64}
 use mir.Val.{Fits, SFits, to_z, of_z}
 use borrow.Author.Rules.{rules}
 use borrow.Author.Tests.{leb-false}
-use Rattle.pack.specs.Grid.{checkedOf, within, natural}
-use Rattle.pack.proofs.Signed.{lt-false, le_not_lt, not-le-lt, below, not-below, nonneg}
+use Rattle.pack.specs.Grid.{checked_of, within, natural}
+use Rattle.pack.proofs.Signed.{lt_false, le_not_lt, not_le_lt, below, not_below, nonneg}
 use Rattle.pack.proofs.grid.checked_of.Statement.{statement}
 use Rattle.pack.proofs.grid.checked_of.Tie as tie
 
@@ -32,75 +32,75 @@ module _ {z : ℤ} (f : SFits w64 z) where
   number_is : lt_z back (pos 0) ≡ false → nat_abs back ≡ natural z
   number_is e = rw (to_z-of_z f) (unsigned z (rw (to_z-of_z f) at e))
 
-  too-low : (n : ℕ) → lt_z back (pos 0) ≡ true → within z n ≡ false
-  too-low n e = rw (below f (pos 0) e)
+  too_low : (n : ℕ) → lt_z back (pos 0) ≡ true → within z n ≡ false
+  too_low n e = rw (below f (pos 0) e)
 
   module _ {n : ℕ} (g : Fits w16 n) (low : lt_z back (pos 0) ≡ false) where
-    count-is : to_z w64 n ≡ pos n
-    count-is = to_z_pos w64 {n = n} (omega arith)
+    count_is : to_z w64 n ≡ pos n
+    count_is = to_z_pos w64 {n = n} (omega arith)
 
-    too-high : le_z (to_z w64 n) back ≡ true → within z n ≡ false
-    too-high e = rw (not-below f (pos 0) low, le_not_lt (pos n) z (rw (to_z-of_z f, count-is) at e))
+    too_high : le_z (to_z w64 n) back ≡ true → within z n ≡ false
+    too_high e = rw (not_below f (pos 0) low, le_not_lt (pos n) z (rw (to_z-of_z f, count_is) at e))
 
     inside : le_z (to_z w64 n) back ≡ false → within z n ≡ true
-    inside e = rw (not-below f (pos 0) low, not-le-lt (pos n) z (rw (to_z-of_z f, count-is) at e))
+    inside e = rw (not_below f (pos 0) low, not_le_lt (pos n) z (rw (to_z-of_z f, count_is) at e))
 
     casts : le_z (to_z w64 n) back ≡ false → T (non_neg back) × Fits w16 (nat_abs back)
     casts e =
         let zero : lt_z z (pos 0) ≡ false = rw (to_z-of_z f) at low in
         rw (to_z-of_z f)
-        (nonneg z (omega (arith, lt-false z (pos 0) zero)), omega (arith, g, counted z n zero (rw (to_z-of_z f, count-is) at e)))
+        (nonneg z (omega (arith, lt_false z (pos 0) zero)), omega (arith, g, counted z n zero (rw (to_z-of_z f, count_is) at e)))
 
 returns : tie.Need-returns
-unfolding checkedOf
-returns c = rw (too-low c.before.ranges.row c.before.args.header.rows c.if1.true)
+unfolding checked_of
+returns c = rw (too_low c.before.ranges.row c.before.args.header.rows c.if1.true)
 
 cast-if2 : tie.Need-overflow-cast-if2
 cast-if2 c = search rules
 
 returns-2 : tie.Need-returns-2
-unfolding checkedOf
+unfolding checked_of
 returns-2 c =
     let counts = c.before in
     let row = counts.before in
     let start = row.before in
-    rw (too-high start.ranges.row counts.struct_known.given.1.1.1.0 row.if1.false c.if2.true)
+    rw (too_high start.ranges.row counts.struct_known.given.1.1.1.0 row.if1.false c.if2.true)
 
 returns-3 : tie.Need-returns-3
-unfolding checkedOf
+unfolding checked_of
 returns-3 c =
-    let row-high = c.before in
-    let counts = row-high.before in
+    let row_high = c.before in
+    let counts = row_high.before in
     let row = counts.before in
     let start = row.before in
     rw (
-      inside start.ranges.row counts.struct_known.given.1.1.1.0 row.if1.false row-high.if2.false,
-      too-low start.ranges.col start.args.header.cols c.if3.true,
+      inside start.ranges.row counts.struct_known.given.1.1.1.0 row.if1.false row_high.if2.false,
+      too_low start.ranges.col start.args.header.cols c.if3.true,
     )
 
 cast-if4 : tie.Need-overflow-cast-if4
 cast-if4 c = search rules
 
 returns-4 : tie.Need-returns-4
-unfolding checkedOf
+unfolding checked_of
 returns-4 c =
     let col = c.before.before in
-    let row-high = col.before in
-    let counts = row-high.before in
+    let row_high = col.before in
+    let counts = row_high.before in
     let row = counts.before in
     let start = row.before in
     rw (
-      inside start.ranges.row counts.struct_known.given.1.1.1.0 row.if1.false row-high.if2.false,
-      too-high start.ranges.col counts.struct_known.given.1.1.1.1.0 col.if3.false c.if4.true,
+      inside start.ranges.row counts.struct_known.given.1.1.1.0 row.if1.false row_high.if2.false,
+      too_high start.ranges.col counts.struct_known.given.1.1.1.1.0 col.if3.false c.if4.true,
     )
 
 cast-t6 : tie.Need-overflow-cast-t6
 cast-t6 c =
-    let row-high = c.before.before.before in
-    let counts = row-high.before in
+    let row_high = c.before.before.before in
+    let counts = row_high.before in
     let row = counts.before in
     let start = row.before in
-    casts start.ranges.row counts.struct_known.given.1.1.1.0 row.if1.false row-high.if2.false
+    casts start.ranges.row counts.struct_known.given.1.1.1.0 row.if1.false row_high.if2.false
 
 cast-t7 : tie.Need-overflow-cast-t7
 cast-t7 c =
@@ -110,21 +110,21 @@ cast-t7 c =
     casts start.ranges.col counts.struct_known.given.1.1.1.1.0 col.if3.false c.if4.false
 
 returns-5 : tie.Need-returns-5
-unfolding checkedOf
+unfolding checked_of
 returns-5 c =
     let col = c.before.before in
-    let row-high = col.before in
-    let counts = row-high.before in
+    let row_high = col.before in
+    let counts = row_high.before in
     let row = counts.before in
     let start = row.before in
     rw (
-      inside start.ranges.row counts.struct_known.given.1.1.1.0 row.if1.false row-high.if2.false,
+      inside start.ranges.row counts.struct_known.given.1.1.1.0 row.if1.false row_high.if2.false,
       inside start.ranges.col counts.struct_known.given.1.1.1.1.0 col.if3.false c.if4.false,
       number_is start.ranges.row row.if1.false,
       number_is start.ranges.col col.if3.false,
     )
 
-pub checked-of-spec : {M : Type 1} → statement M
-checked-of-spec =
+pub checked_of_spec : {M : Type 1} → statement M
+checked_of_spec =
     tie.close
     (tie.spec returns cast-if2 returns-2 returns-3 cast-if4 returns-4 cast-t6 cast-t7 returns-5)

@@ -1,6 +1,6 @@
 -- `pack::grid::corner_of` meets its contract. Two calls, their arguments and results read back from their bits.
 use mir.Syntax.{w32}
-use Rattle.pack.specs.Grid.{cornerOf}
+use Rattle.pack.specs.Grid.{corner_of}
 use Rattle.pack.proofs.Signed.{got}
 use Rattle.pack.proofs.grid.corner_of.Statement.{statement}
 use Rattle.pack.proofs.grid.corner_of.Tie as tie
@@ -12,7 +12,7 @@ along-requires-2 : tie.Need-along-requires-2
 along-requires-2 c κs = tt
 
 returns : tie.Need-returns
-unfolding cornerOf
+unfolding corner_of
 returns c =
     rw (
       got w32 c.before.before.along.type-inv,
@@ -23,5 +23,5 @@ returns c =
       got w32 c.before.before.before.struct_told.given.1.1.0.1,
     )
 
-pub corner-of-spec : {M : Type 1} → statement M
-corner-of-spec = tie.close (tie.spec along-requires along-requires-2 returns)
+pub corner_of_spec : {M : Type 1} → statement M
+corner_of_spec = tie.close (tie.spec along-requires along-requires-2 returns)

@@ -35,8 +35,8 @@ returns : tie.Need-returns
 unfolding entry_of
 returns c = refl
 
-pub entry-of-spec : {M : Type 1} → statement M
-entry-of-spec =
+pub entry_of_spec : {M : Type 1} → statement M
+entry_of_spec =
     tie.close
     (tie.spec
     cast-result

@@ -9,5 +9,5 @@ returns c = rw (lt-ltb _ _ c.before.before.if1.true)
 returns-2 : tie.Need-returns-2
 returns-2 c = rw (le-ltb _ _ c.if1.false)
 
-pub in-grid-spec : {M : Type 1} → statement M
-in-grid-spec = tie.close (tie.spec returns returns-2)
+pub in_grid_spec : {M : Type 1} → statement M
+in_grid_spec = tie.close (tie.spec returns returns-2)

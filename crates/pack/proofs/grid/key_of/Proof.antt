@@ -14,11 +14,11 @@ use Rattle.pack.proofs.grid.key_of.Tie as tie
 
 -- the difference of two i32 in 64 bits, and as the code reads it back
 module _ {a b : ℤ} (f : SFits w32 a) (g : SFits w32 b) where
-  gap-fits : SFits w64 (a -ℤ b)
-  gap-fits = fits w64 (a -ℤ b) (omega (arith, range f, range g, sub a b))
+  gap_fits : SFits w64 (a -ℤ b)
+  gap_fits = fits w64 (a -ℤ b) (omega (arith, range f, range g, sub a b))
 
   gap_is : to_z w64 (of_z w64 (to_z w64 (of_z w64 (to_z w32 (of_z w32 a))) -ℤ to_z w64 (of_z w64 (to_z w32 (of_z w32 b))))) ≡ a -ℤ b
-  gap_is = rw (wide f, wide g) (to_z-of_z gap-fits)
+  gap_is = rw (wide f, wide g) (to_z-of_z gap_fits)
 
 returns : tie.Need-returns
 unfolding key_of
@@ -34,7 +34,7 @@ sub-floor-of : tie.Need-overflow-sub-floor-of
 sub-floor-of c =
     let start = c.before.before.before in
     rw (wide start.ranges.lat, wide (sf w32 start.args.header.south c.struct_told.given.1.0.1))
-    (gap-fits start.ranges.lat (sf w32 start.args.header.south c.struct_told.given.1.0.1))
+    (gap_fits start.ranges.lat (sf w32 start.args.header.south c.struct_told.given.1.0.1))
 
 floor-of-requires : tie.Need-floor-of-requires
 floor-of-requires c κs = search rules
@@ -49,7 +49,7 @@ sub-floor-of-2 : tie.Need-overflow-sub-floor-of-2
 sub-floor-of-2 c =
     let start = c.before.before.before.before.before.before in
     rw (wide start.ranges.lon, wide (sf w32 start.args.header.west c.struct-told2.given.1.1.0.1))
-    (gap-fits start.ranges.lon (sf w32 start.args.header.west c.struct-told2.given.1.1.0.1))
+    (gap_fits start.ranges.lon (sf w32 start.args.header.west c.struct-told2.given.1.1.0.1))
 
 floor-of-requires-2 : tie.Need-floor-of-requires-2
 floor-of-requires-2 c κs = search rules
@@ -77,8 +77,8 @@ returns-2 c =
       ne_eqb _ _ tile.if1.false,
     )
 
-pub key-of-spec : {M : Type 1} → statement M
-key-of-spec =
+pub key_of_spec : {M : Type 1} → statement M
+key_of_spec =
     tie.close
     (tie.spec
     returns

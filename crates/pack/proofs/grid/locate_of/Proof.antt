@@ -1,7 +1,7 @@
 -- `pack::grid::locate_of` meets its contract. Each return by the tests that led there.
 use borrow.Author.Rules.{rules}
 use borrow.Author.Tests.{eq-eqb, ne_eqb, le-leb, lt-leb}
-use Rattle.pack.specs.Grid.{locateOf}
+use Rattle.pack.specs.Grid.{locate_of}
 use Rattle.pack.proofs.grid.locate_of.Statement.{statement}
 use Rattle.pack.proofs.grid.locate_of.Tie as tie
 
@@ -12,11 +12,11 @@ u32-at-requires-2 : tie.Need-u32-at-requires-2
 u32-at-requires-2 c κs = tt
 
 returns : tie.Need-returns
-unfolding locateOf
+unfolding locate_of
 returns c = rw (← c.before.u32-at2.ensures, eq-eqb _ _ c.if1.true)
 
 returns-2 : tie.Need-returns-2
-unfolding locateOf
+unfolding locate_of
 returns-2 c =
     let some = c.before.before in
     let length = some.before in
@@ -36,7 +36,7 @@ add-if3 : tie.Need-overflow-add-if3
 add-if3 c = search rules
 
 returns-3 : tie.Need-returns-3
-unfolding locateOf
+unfolding locate_of
 returns-3 c =
     let starts = c.before.before in
     let some = starts.before.before in
@@ -51,7 +51,7 @@ returns-3 c =
     )
 
 returns-4 : tie.Need-returns-4
-unfolding locateOf
+unfolding locate_of
 returns-4 c =
     let starts = c.before.before in
     let some = starts.before.before in
@@ -65,8 +65,8 @@ returns-4 c =
       le-leb _ _ c.if3.false,
     )
 
-pub locate-of-spec : {M : Type 1} → statement M
-locate-of-spec =
+pub locate_of_spec : {M : Type 1} → statement M
+locate_of_spec =
     tie.close
     (tie.spec
     u32-at-requires

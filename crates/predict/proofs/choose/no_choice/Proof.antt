@@ -1,10 +1,10 @@
 -- `predict::choose::no_choice` meets its contract: the literal read as a whole number.
-use Rattle.geo.proofs.Literals.{literal-0}
+use Rattle.geo.proofs.Literals.{literal_0}
 use Rattle.predict.proofs.choose.no_choice.Statement.{statement}
 use Rattle.predict.proofs.choose.no_choice.Tie as tie
 
 returns : tie.Need-returns
-returns c = rw literal-0
+returns c = rw literal_0
 
-pub no-choice-spec : {M : Type 1} → statement M
-no-choice-spec = tie.close (tie.spec returns)
+pub no_choice_spec : {M : Type 1} → statement M
+no_choice_spec = tie.close (tie.spec returns)

@@ -8,5 +8,5 @@ no-choice-requires c κs = tt
 returns : tie.Need-returns
 returns c = rw c.no-choice.ensures
 
-pub no-choices-spec : {M : Type 1} → statement M
-no-choices-spec = tie.close (tie.spec no-choice-requires returns)
+pub no_choices_spec : {M : Type 1} → statement M
+no_choices_spec = tie.close (tie.spec no-choice-requires returns)

@@ -21,6 +21,6 @@ returns c =
     let heading = c.before.before.before in
     rw (c.cost-of.ensures, heading.outgoing_of.ensures, heading.before.head.ensures, heading.before.before.before.before.edge.ensures)
 
-pub choice-of-spec : {M : Type 1} → statement M
-choice-of-spec =
+pub choice_of_spec : {M : Type 1} → statement M
+choice_of_spec =
     tie.close (tie.spec edge-requires head-requires outgoing-of-requires cost-of-requires returns)

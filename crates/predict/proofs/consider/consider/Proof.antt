@@ -17,7 +17,7 @@ use Rattle.predict.specs.declared.Arrival.{Arrival}
 use Rattle.predict.specs.declared.Choice.{Choice}
 use Rattle.predict.specs.declared.Choices.{Choices}
 use Rattle.predict.specs.Choose.{push}
-use Rattle.predict.specs.Consider.{choice_of, isWayOn, considerStep, considerTo, consider}
+use Rattle.predict.specs.Consider.{choice_of, is_way_on, consider_step, consider_to, consider}
 use Rattle.predict.proofs.consider.consider.Statement.{statement}
 use Rattle.predict.proofs.consider.consider.Tie as tie
 
@@ -32,17 +32,17 @@ unfolding push
 dropped d choice h = rw (le-leb 12 d.len h)
 
 module _ (d : Choices) (a : Arrival) (v bs : List ℕ) (key : TileKey) (entry : Incident) where
-  full : 12 ≤ d.len → considerStep d a v bs key entry ≡ d
-  unfolding considerStep
-  full h = rw (dropped d (choice_of a bs key entry) h) (either (isWayOn a v bs key entry) d)
+  full : 12 ≤ d.len → consider_step d a v bs key entry ≡ d
+  unfolding consider_step
+  full h = rw (dropped d (choice_of a bs key entry) h) (either (is_way_on a v bs key entry) d)
 
-  skips : isWayOn a v bs key entry ≡ false → considerStep d a v bs key entry ≡ d
-  unfolding considerStep
+  skips : is_way_on a v bs key entry ≡ false → consider_step d a v bs key entry ≡ d
+  unfolding consider_step
   skips e = rw e
 
-  writes : (choice : Choice) → d.len < 12 → isWayOn a v bs key entry ≡ true → choice ≡ choice_of a bs key entry
-      → considerStep d a v bs key entry ≡ record { v = set d.v d.len choice; len = d.len + 1 }
-  unfolding considerStep push
+  writes : (choice : Choice) → d.len < 12 → is_way_on a v bs key entry ≡ true → choice ≡ choice_of a bs key entry
+      → consider_step d a v bs key entry ≡ record { v = set d.v d.len choice; len = d.len + 1 }
+  unfolding consider_step push
   writes choice h e made = rw (e, lt-leb 12 d.len h, made)
 
 -- ---- the entries so far
@@ -57,16 +57,16 @@ back : (i first : ℕ) → first ≤ i → first + (i - first) ≡ i
 back i first h = omega arith
 
 module _ (a : Arrival) (v bs : List ℕ) (key : TileKey) (start : Choices) (first : ℕ) where
-  abbrev soFar : ℕ → Choices
-  soFar n = up_to (λ (x : Choices) (j : ℕ). considerStep x a v bs key (Layout.entry_of bs (first + j))) start n
+  abbrev so_far : ℕ → Choices
+  so_far n = up_to (λ (x : Choices) (j : ℕ). consider_step x a v bs key (Layout.entry_of bs (first + j))) start n
 
-  turn : (d after : Choices) (i : ℕ) (entry : Incident) → first ≤ i → d ≡ soFar (i - first) → entry ≡ Layout.entry_of bs i
-      → considerStep d a v bs key entry ≡ after
-      → after ≡ soFar (i + 1 - first)
+  turn : (d after : Choices) (i : ℕ) (entry : Incident) → first ≤ i → d ≡ so_far (i - first) → entry ≡ Layout.entry_of bs i
+      → consider_step d a v bs key entry ≡ after
+      → after ≡ so_far (i + 1 - first)
   turn d after i entry h inv read step = rw (one_more i first h, up_turn, back i first h, ← inv, ← read) (sym step)
 
 abbrev invariant-loop : tie.invariant-loop
-invariant-loop a v bytes key node end d₀ i₀ d i = (i₀ ≤ i) × ((i - i₀ ≤ end - i₀) × (d ≡ soFar a v bytes key d₀ i₀ (i - i₀)))
+invariant-loop a v bytes key node end d₀ i₀ d i = (i₀ ≤ i) × ((i - i₀ ≤ end - i₀) × (d ≡ so_far a v bytes key d₀ i₀ (i - i₀)))
 
 abbrev decreases-loop : tie.decreases-loop
 decreases-loop a v bytes key node end d₀ i₀ d i = end - i
@@ -97,13 +97,13 @@ loop-less c = search rules
 loop-again : tie.Need-loop-preserved invariant-loop decreases-loop
 loop-again c =
     let read = c.before in
-    let at-loop = read.before.before.loop in
+    let at_loop = read.before.before.loop in
     let args = read.before.before.before.before.before.before.args in (
-      omega (arith, at-loop.invariant.0),
+      omega (arith, at_loop.invariant.0),
       (
-        omega (arith, at-loop.invariant.0, read.before.loop-test.true),
-        turn _ _ _ _ _ _ at-loop.d at-loop.d at-loop.i read.entry.result at-loop.invariant.0 at-loop.invariant.1.1 read.entry.ensures
-            (full at-loop.d args.a _ _ args.key read.entry.result c.if1.true),
+        omega (arith, at_loop.invariant.0, read.before.loop-test.true),
+        turn _ _ _ _ _ _ at_loop.d at_loop.d at_loop.i read.entry.result at_loop.invariant.0 at_loop.invariant.1.1 read.entry.ensures
+            (full at_loop.d args.a _ _ args.key read.entry.result c.if1.true),
       ),
     )
 
@@ -116,13 +116,13 @@ loop-less-2 c = search rules
 loop-again-2 : tie.Need-loop-preserved-2 invariant-loop decreases-loop
 loop-again-2 c =
     let read = c.before.before.before in
-    let at-loop = read.before.before.loop in
+    let at_loop = read.before.before.loop in
     let args = read.before.before.before.before.before.before.args in (
-      omega (arith, at-loop.invariant.0),
+      omega (arith, at_loop.invariant.0),
       (
-        omega (arith, at-loop.invariant.0, read.before.loop-test.true),
-        turn _ _ _ _ _ _ at-loop.d at-loop.d at-loop.i read.entry.result at-loop.invariant.0 at-loop.invariant.1.1 read.entry.ensures
-            (skips at-loop.d args.a _ _ args.key read.entry.result (sym c.before.is-way-on.ensures ∙ not-true _ c.if2.true)),
+        omega (arith, at_loop.invariant.0, read.before.loop-test.true),
+        turn _ _ _ _ _ _ at_loop.d at_loop.d at_loop.i read.entry.result at_loop.invariant.0 at_loop.invariant.1.1 read.entry.ensures
+            (skips at_loop.d args.a _ _ args.key read.entry.result (sym c.before.is-way-on.ensures ∙ not-true _ c.if2.true)),
       ),
     )
 
@@ -145,29 +145,29 @@ loop-again-3 : tie.Need-loop-preserved-3 invariant-loop decreases-loop
 loop-again-3 c =
     let room = c.before.before.before in
     let read = room.before in
-    let at-loop = read.before.before.loop in
+    let at_loop = read.before.before.loop in
     let args = read.before.before.before.before.before.before.args in (
-      omega (arith, at-loop.invariant.0),
+      omega (arith, at_loop.invariant.0),
       (
-        omega (arith, at-loop.invariant.0, read.before.loop-test.true),
-        turn _ _ _ _ _ _ at-loop.d _ at-loop.i read.entry.result at-loop.invariant.0 at-loop.invariant.1.1 read.entry.ensures
-            (writes at-loop.d args.a _ _ args.key read.entry.result c.choice-of.result room.if1.false
+        omega (arith, at_loop.invariant.0, read.before.loop-test.true),
+        turn _ _ _ _ _ _ at_loop.d _ at_loop.i read.entry.result at_loop.invariant.0 at_loop.invariant.1.1 read.entry.ensures
+            (writes at_loop.d args.a _ _ args.key read.entry.result c.choice-of.result room.if1.false
             (sym c.before.before.is-way-on.ensures ∙ not-false _ c.before.if2.false) c.choice-of.ensures),
       ),
     )
 
 returns : tie.Need-returns invariant-loop decreases-loop
-unfolding consider considerTo
+unfolding consider consider_to
 returns c =
-    let at-loop = c.before.loop in
+    let at_loop = c.before.loop in
     let start = c.before.before in
     let first = start.adjacency-start.result in
     let last = start.before.adjacency-end.result in
-    let end : at-loop.i - first ≡ last - first = omega (arith, c.loop-test.false, at-loop.invariant.1.0) in
-    rw (at-loop.invariant.1.1, end, ← start.adjacency-start.ensures, ← start.before.adjacency-end.ensures)
+    let end : at_loop.i - first ≡ last - first = omega (arith, c.loop-test.false, at_loop.invariant.1.0) in
+    rw (at_loop.invariant.1.1, end, ← start.adjacency-start.ensures, ← start.before.adjacency-end.ensures)
 
-pub consider-spec : {M : Type 1} → statement M
-consider-spec =
+pub consider_spec : {M : Type 1} → statement M
+consider_spec =
     tie.close
     (tie.spec
     invariant-loop

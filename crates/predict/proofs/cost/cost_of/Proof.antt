@@ -1,6 +1,6 @@
 -- `predict::cost::cost_of` meets its contract: by its parts, in the definition's order.
 use borrow.Author.Rules.{rules}
-use Rattle.predict.specs.Cost.{costOf}
+use Rattle.predict.specs.Cost.{cost_of}
 use Rattle.predict.proofs.cost.cost_of.Statement.{statement}
 use Rattle.predict.proofs.cost.cost_of.Tie as tie
 
@@ -23,7 +23,7 @@ with-cycleway-requires : tie.Need-with-cycleway-requires
 with-cycleway-requires c κs = search rules
 
 returns : tie.Need-returns
-unfolding costOf
+unfolding cost_of
 returns c =
     rw (
       c.with-cycleway.ensures,
@@ -34,8 +34,8 @@ returns c =
       c.before.before.before.before.before.turn-cost.ensures,
     )
 
-pub cost-of-spec : {M : Type 1} → statement M
-cost-of-spec =
+pub cost_of_spec : {M : Type 1} → statement M
+cost_of_spec =
     tie.close
     (tie.spec
     turn-cost-requires

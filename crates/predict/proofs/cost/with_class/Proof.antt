@@ -8,7 +8,7 @@ use mir.Syntax.{w8, w32}
 use mir.Val.{Fits, SFits, to_z, of_z}
 use borrow.Author.Rules.{rules}
 use Rattle.pack.proofs.Signed.{fits, sub}
-use Rattle.predict.specs.Cost.{withClass}
+use Rattle.predict.specs.Cost.{with_class}
 use Rattle.predict.proofs.cost.with_class.Statement.{statement}
 use Rattle.predict.proofs.cost.with_class.Tie as tie
 
@@ -36,7 +36,7 @@ f32-of-i32-requires : tie.Need-f32-of-i32-requires
 f32-of-i32-requires c κs = tt
 
 returns : tie.Need-returns
-unfolding withClass
+unfolding with_class
 returns c =
     let road = c.before.before in
     let step = read_is road.before.struct_known.given.1.1.1.1.0 road.struct-known2.given.0 in
@@ -46,14 +46,14 @@ f32-of-i32-requires-2 : tie.Need-f32-of-i32-requires-2
 f32-of-i32-requires-2 c κs = tt
 
 returns-2 : tie.Need-returns-2
-unfolding withClass
+unfolding with_class
 returns-2 c =
     let road = c.before.before in
     let step = read_is road.before.struct_known.given.1.1.1.1.0 road.struct-known2.given.0 in
     rw (rw step at c.f32-of-i322.ensures, rw step at c.before.if1.false)
 
-pub with-class-spec : {M : Type 1} → statement M
-with-class-spec =
+pub with_class_spec : {M : Type 1} → statement M
+with_class_spec =
     tie.close
     (tie.spec
     cast-step

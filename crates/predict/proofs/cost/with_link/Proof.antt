@@ -17,5 +17,5 @@ returns-2 c =
     (λ w. rw (sym c.before.has.ensures ∙ w.left))
     c.if1.branch
 
-pub with-link-spec : {M : Type 1} → statement M
-with-link-spec = tie.close (tie.spec has-requires returns returns-2)
+pub with_link_spec : {M : Type 1} → statement M
+with_link_spec = tie.close (tie.spec has-requires returns returns-2)

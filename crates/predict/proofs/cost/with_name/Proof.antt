@@ -1,12 +1,12 @@
 -- `predict::cost::with_name` meets its contract: each return by the pair of tests, with the literal read as a whole number.
 use mathlib.Core.Logic.{⊎_elim}
 use borrow.Author.Tests.{eq-eqb, ne_eqb}
-use Rattle.predict.proofs.CostLiterals.{literal-3}
+use Rattle.predict.proofs.CostLiterals.{literal_3}
 use Rattle.predict.proofs.cost.with_name.Statement.{statement}
 use Rattle.predict.proofs.cost.with_name.Tie as tie
 
 returns : tie.Need-returns
-returns c = rw (ne_eqb _ _ c.before.before.before.if1.true, c.if2.true, literal-3)
+returns c = rw (ne_eqb _ _ c.before.before.before.if1.true, c.if2.true, literal_3)
 
 returns-2 : tie.Need-returns-2
 returns-2 c =
@@ -15,5 +15,5 @@ returns-2 c =
     (λ w. rw (eq-eqb _ _ w.left))
     c.if1.branch
 
-pub with-name-spec : {M : Type 1} → statement M
-with-name-spec = tie.close (tie.spec returns returns-2)
+pub with_name_spec : {M : Type 1} → statement M
+with_name_spec = tie.close (tie.spec returns returns-2)

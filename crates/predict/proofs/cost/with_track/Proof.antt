@@ -2,7 +2,7 @@
 use mathlib.Core.Path.{sym, ◌∙◌}
 use mathlib.Core.Logic.{⊎_elim}
 use borrow.Author.Tests.{not-true, not-false}
-use Rattle.predict.proofs.CostLiterals.{literal-2}
+use Rattle.predict.proofs.CostLiterals.{literal_2}
 use Rattle.predict.proofs.cost.with_track.Statement.{statement}
 use Rattle.predict.proofs.cost.with_track.Tie as tie
 
@@ -17,7 +17,7 @@ returns c =
     rw (
       sym c.before.before.before.off-road.ensures ∙ c.before.before.if1.true,
       sym c.before.off-road2.ensures ∙ not-true _ c.if2.true,
-      literal-2,
+      literal_2,
     )
 
 returns-2 : tie.Need-returns-2
@@ -27,5 +27,5 @@ returns-2 c =
     (λ w. rw (sym c.before.off-road.ensures ∙ w.left))
     c.if1.branch
 
-pub with-track-spec : {M : Type 1} → statement M
-with-track-spec = tie.close (tie.spec off-road-requires off-road-requires-2 returns returns-2)
+pub with_track_spec : {M : Type 1} → statement M
+with_track_spec = tie.close (tie.spec off-road-requires off-road-requires-2 returns returns-2)

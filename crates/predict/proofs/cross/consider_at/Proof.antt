@@ -24,7 +24,7 @@ returns c =
 returns-2 : tie.Need-returns-2
 returns-2 c = rw (sym c.before.before.node_at.ensures ∙ c.enum_told.given.1)
 
-pub consider-at-spec : {M : Type 1} → statement M
-consider-at-spec =
+pub consider_at_spec : {M : Type 1} → statement M
+consider_at_spec =
     tie.close
     (tie.spec node-at-requires enum-known-node consider-requires enum_told returns returns-2)

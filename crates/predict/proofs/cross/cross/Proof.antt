@@ -11,12 +11,12 @@ use borrow.Author.Tests.{le-ltb}
 use Rattle.num.specs.Fold.{up_to}
 use Rattle.num.proofs.FoldLaws.{up_start, up_turn}
 use Rattle.cache.proofs.Below.{same_or}
-use Rattle.cache.specs.Reader.{Reader, inLooks}
+use Rattle.cache.specs.Reader.{Reader, in_looks}
 use Rattle.predict.specs.declared.twins.TwinList.{TwinList}
-use Rattle.predict.specs.Twins.{noTwin}
+use Rattle.predict.specs.Twins.{no_twin}
 use Rattle.predict.specs.declared.Arrival.{Arrival}
 use Rattle.predict.specs.declared.Crossing.{Crossing}
-use Rattle.predict.specs.Cross.{Ways, crossing, ways_of, stepOver, crossTo, crossStep, cross}
+use Rattle.predict.specs.Cross.{Ways, crossing, ways_of, step_over, cross_to, cross_step, cross}
 use Rattle.predict.proofs.cross.cross.Statement.{statement}
 use Rattle.predict.proofs.cross.cross.Tie as tie
 
@@ -26,14 +26,14 @@ joined w e f = rw (e, f)
 
 module _ (rd : Reader (List ℕ)) (a : Arrival) (v : List ℕ) (x : Ways (List ℕ)) (twins : TwinList) where
   -- one tile more
-  turn : (i : ℕ) {y : Ways (List ℕ)} → y ≡ crossTo rd a v x twins i
-      → stepOver rd a v y (get_or twins.v i noTwin) i twins.len ≡ crossTo rd a v x twins (i + 1)
-  unfolding crossTo
+  turn : (i : ℕ) {y : Ways (List ℕ)} → y ≡ cross_to rd a v x twins i
+      → step_over rd a v y (get_or twins.v i no_twin) i twins.len ≡ cross_to rd a v x twins (i + 1)
+  unfolding cross_to
   turn i e = rw (e, up_turn)
 
   -- no tile is left from number i on
-  none_left : (n i : ℕ) → i ≤ n → twins.len ≤ i → crossTo rd a v x twins n ≡ crossTo rd a v x twins i
-  unfolding crossTo up_to
+  none_left : (n i : ℕ) → i ≤ n → twins.len ≤ i → cross_to rd a v x twins n ≡ cross_to rd a v x twins i
+  unfolding cross_to up_to
   none_left zero i h l = let z : i ≡ 0 = omega arith in rw z
   none_left (suc n) i h l =
       ⊎_elim
@@ -43,20 +43,20 @@ module _ (rd : Reader (List ℕ)) (a : Arrival) (v : List ℕ) (x : Ways (List �
 
 abbrev invariant-loop : tie.invariant-loop
 invariant-loop arena a v looks₀ twins x₀ i₀ looks x i =
-    (i ≤ 8) × (ways_of x looks ≡ crossTo (inLooks arena a.header.tile) a v (ways_of x₀ looks₀) twins i)
+    (i ≤ 8) × (ways_of x looks ≡ cross_to (in_looks arena a.header.tile) a v (ways_of x₀ looks₀) twins i)
 
 abbrev decreases-loop : tie.decreases-loop
 decreases-loop arena a v looks₀ twins x₀ i₀ looks x i = 8 - i
 
 loop-holds : tie.Need-loop-init invariant-loop decreases-loop
-unfolding crossTo
+unfolding cross_to
 loop-holds c = (search rules, rw up_start)
 
 returns : tie.Need-returns invariant-loop decreases-loop
 unfolding cross
 returns c =
-    let at-loop = c.before.before.loop in
-    let all = at-loop.invariant.1 ∙ sym (none_left _ _ _ _ _ 8 at-loop.i at-loop.invariant.0 c.if1.true) in
+    let at_loop = c.before.before.loop in
+    let all = at_loop.invariant.1 ∙ sym (none_left _ _ _ _ _ 8 at_loop.i at_loop.invariant.0 c.if1.true) in
     (ap crossing all, ap (λ (w : Ways (List ℕ)). w.carried) all)
 
 mul-twin : tie.Need-overflow-mul-twin invariant-loop decreases-loop
@@ -75,23 +75,23 @@ loop-less : tie.Need-loop-smaller invariant-loop decreases-loop
 loop-less c = search rules
 
 loop-again : tie.Need-loop-preserved invariant-loop decreases-loop
-unfolding crossStep
+unfolding cross_step
 loop-again c =
     let step = c.cross-step.ensures in
     let test = c.before.before.before.before in
-    let at-loop = test.before.loop in
-    (omega (arith, test.loop-test.true), joined _ step.0 step.1 ∙ turn _ _ _ _ _ at-loop.i at-loop.invariant.1)
+    let at_loop = test.before.loop in
+    (omega (arith, test.loop-test.true), joined _ step.0 step.1 ∙ turn _ _ _ _ _ at_loop.i at_loop.invariant.1)
 
 returns-2 : tie.Need-returns-2 invariant-loop decreases-loop
 unfolding cross
 returns-2 c =
-    let at-loop = c.before.loop in
-    let end : at-loop.i ≡ 8 = omega (arith, c.loop-test.false, at-loop.invariant.0) in
-    let all = rw end at at-loop.invariant.1 in
+    let at_loop = c.before.loop in
+    let end : at_loop.i ≡ 8 = omega (arith, c.loop-test.false, at_loop.invariant.0) in
+    let all = rw end at at_loop.invariant.1 in
     (ap crossing all, ap (λ (w : Ways (List ℕ)). w.carried) all)
 
-pub cross-spec : {M : Type 1} → statement M
-cross-spec =
+pub cross_spec : {M : Type 1} → statement M
+cross_spec =
     tie.close
     (tie.spec
     invariant-loop

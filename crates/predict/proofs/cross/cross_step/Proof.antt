@@ -1,12 +1,12 @@
 -- `predict::cross::cross_step` meets its contract: each return by the number and by how the lookups stand.
 use borrow.Author.Rules.{rules}
 use borrow.Author.Tests.{lt-ltb, le-ltb}
-use Rattle.predict.specs.Cross.{twinStep, crossStep}
+use Rattle.predict.specs.Cross.{twin_step, cross_step}
 use Rattle.predict.proofs.cross.cross_step.Statement.{statement}
 use Rattle.predict.proofs.cross.cross_step.Tie as tie
 
 returns : tie.Need-returns
-unfolding crossStep
+unfolding cross_step
 returns c = let past = le-ltb _ _ c.if1.true in (rw past, rw past)
 
 enum_told : tie.Need-enum-told
@@ -25,32 +25,32 @@ enum-told-4 : tie.Need-enum-told-4
 enum-told-4 c = search rules
 
 returns-2 : tie.Need-returns-2
-unfolding crossStep twinStep
+unfolding cross_step twin_step
 returns-2 c =
     let told = c.before.before in
     let below = lt-ltb _ _ told.before.before.if1.false in
     (rw (below, c.twin-step.ensures.0, told.enum_told.given.1), rw (below, c.twin-step.ensures.1, told.enum_told.given.1))
 
 returns-3 : tie.Need-returns-3
-unfolding crossStep
+unfolding cross_step
 returns-3 c =
     let below = lt-ltb _ _ c.before.before.if1.false in
     (rw (below, c.enum-told2.given.1), rw (below, c.enum-told2.given.1))
 
 returns-4 : tie.Need-returns-4
-unfolding crossStep
+unfolding cross_step
 returns-4 c =
     let below = lt-ltb _ _ c.before.before.if1.false in
     (rw (below, c.enum-told3.given.1), rw (below, c.enum-told3.given.1))
 
 returns-5 : tie.Need-returns-5
-unfolding crossStep
+unfolding cross_step
 returns-5 c =
     let below = lt-ltb _ _ c.before.before.if1.false in
     (rw (below, c.enum-told4.given.1), rw (below, c.enum-told4.given.1))
 
-pub cross-step-spec : {M : Type 1} → statement M
-cross-step-spec =
+pub cross_step_spec : {M : Type 1} → statement M
+cross_step_spec =
     tie.close
     (tie.spec
     returns

@@ -9,7 +9,7 @@ use mir.Facts.{to_z-of_z, to_z_pos}
 use mir.Syntax.{w16, w64}
 use mir.Val.{Fits, SFits, to_z, of_z}
 use borrow.Author.Rules.{rules}
-use Rattle.pack.proofs.Signed.{range, fits, add, lt-false}
+use Rattle.pack.proofs.Signed.{range, fits, add, lt_false}
 use Rattle.predict.proofs.cross.stepped.Statement.{statement}
 use Rattle.predict.proofs.cross.stepped.Tie as tie
 
@@ -18,7 +18,7 @@ module _ {at : ℕ} {step : ℤ} (f : Fits w16 at) (g : SFits w64 step) where
   sum_is = rw (to_z-of_z g, to_z_pos w64 {n = at} (omega arith))
 
   sum_fits : lt_z (pos 65535) (to_z w64 (of_z w64 step)) ≡ false → SFits w64 (to_z w64 at +ℤ to_z w64 (of_z w64 step))
-  sum_fits e = rw sum_is (fits w64 (pos at +ℤ step) (omega (arith, range g, add (pos at) step, lt-false (pos 65535) step (rw (to_z-of_z g) at e))))
+  sum_fits e = rw sum_is (fits w64 (pos at +ℤ step) (omega (arith, range g, add (pos at) step, lt_false (pos 65535) step (rw (to_z-of_z g) at e))))
 
 returns : tie.Need-returns
 returns c =
@@ -40,5 +40,5 @@ returns-2 c =
       rw (to_z-of_z start.ranges.step) at c.if1.false,
     )
 
-pub stepped-spec : {M : Type 1} → statement M
-stepped-spec = tie.close (tie.spec returns cast-result add-result returns-2)
+pub stepped_spec : {M : Type 1} → statement M
+stepped_spec = tie.close (tie.spec returns cast-result add-result returns-2)

@@ -41,8 +41,8 @@ returns-4 c =
     let run = c.before in
     rw (run.before.before.before.answer.given.1, c.consider-at.ensures, run.run-bytes.ensures)
 
-pub twin-found-spec : {M : Type 1} → statement M
-twin-found-spec =
+pub twin_found_spec : {M : Type 1} → statement M
+twin_found_spec =
     tie.close
     (tie.spec
     enum_told

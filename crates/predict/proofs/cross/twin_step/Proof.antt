@@ -5,49 +5,49 @@ use mathlib.Core.Path.{◌≡◌, refl, sym, ◌∙◌}
 use mathlib.Core.List.{List}
 use lib.IntN.{pos, ◌+ℤ◌}
 use borrow.Author.Rules.{rules}
-use Rattle.pack.specs.Grid.{checkedOf}
+use Rattle.pack.specs.Grid.{checked_of}
 use Rattle.pack.specs.declared.Keyed.TheVariants as Keyed
 use Rattle.pack.specs.declared.TileKey.{TileKey}
 use Rattle.cache.specs.Direct.{Look, ready, missing, absent, stale}
 use Rattle.cache.specs.declared.Lookup.{Lookup}
-use Rattle.cache.specs.Ages.{lookUp}
-use Rattle.cache.specs.Reader.{Reader, inLooks}
+use Rattle.cache.specs.Ages.{look_up}
+use Rattle.cache.specs.Reader.{Reader, in_looks}
 use Rattle.predict.specs.declared.twins.Twin.{Twin}
 use Rattle.predict.specs.declared.Arrival.{Arrival}
 use Rattle.predict.specs.declared.Crossing.{Crossing}
-use Rattle.predict.specs.Cross.{foundBy, ways_of, crossing, twinLook, twinFound, twinStep}
-use Rattle.predict.specs.Walk.{carriedBy}
-use Rattle.predict.proofs.Looks.{look-carried}
+use Rattle.predict.specs.Cross.{found_by, ways_of, crossing, twin_look, twin_found, twin_step}
+use Rattle.predict.specs.Walk.{carried_by}
+use Rattle.predict.proofs.Looks.{look_carried}
 use Rattle.predict.proofs.cross.twin_step.Statement.{statement}
 use Rattle.predict.proofs.cross.twin_step.Tie as tie
 
 -- the ways on are those of the reader, and carried is what any look carries
 module _ (rd : Reader (List ℕ)) (x : Crossing) (a : Arrival) (v s : List ℕ) (key : TileKey) (twin : Twin) where
-  look-same : (look : Look) → foundBy look x a v key twin ≡ crossing (twinLook rd a v look (ways_of x s) key twin)
-  look-same (ready bs) = refl
-  look-same missing = refl
-  look-same absent = refl
-  look-same stale = refl
+  look_same : (look : Look) → found_by look x a v key twin ≡ crossing (twin_look rd a v look (ways_of x s) key twin)
+  look_same (ready bs) = refl
+  look_same missing = refl
+  look_same absent = refl
+  look_same stale = refl
 
-  look-leaves : (look : Look) → carriedBy look rd s key ≡ (twinLook rd a v look (ways_of x s) key twin).carried
-  look-leaves (ready bs) = refl
-  look-leaves missing = refl
-  look-leaves absent = refl
-  look-leaves stale = refl
+  look_leaves : (look : Look) → carried_by look rd s key ≡ (twin_look rd a v look (ways_of x s) key twin).carried
+  look_leaves (ready bs) = refl
+  look_leaves missing = refl
+  look_leaves absent = refl
+  look_leaves stale = refl
 
 -- the tile in the grid, and what its lookup gives and leaves
 module _ (x : Crossing) (arena : List ℕ) (a : Arrival) (v s : List ℕ) (twin : Twin) (key : TileKey)
-    (g : Keyed.In key ≡ checkedOf a.header (pos a.way.tile.row +ℤ twin.row) (pos a.way.tile.col +ℤ twin.col)) where
-  found-is : {r : Crossing} {answer : Lookup} → r ≡ twinFound x answer arena a v key twin → answer ≡ (lookUp s arena a.header.tile key).answer
-      → r ≡ crossing (twinStep x arena a v s twin)
-  unfolding twinStep
-  found-is e f = rw (e, f, ← g) (look-same (inLooks arena a.header.tile) x a v s key twin ((inLooks arena a.header.tile).at s key))
+    (g : Keyed.In key ≡ checked_of a.header (pos a.way.tile.row +ℤ twin.row) (pos a.way.tile.col +ℤ twin.col)) where
+  found_is : {r : Crossing} {answer : Lookup} → r ≡ twin_found x answer arena a v key twin → answer ≡ (look_up s arena a.header.tile key).answer
+      → r ≡ crossing (twin_step x arena a v s twin)
+  unfolding twin_step
+  found_is e f = rw (e, f, ← g) (look_same (in_looks arena a.header.tile) x a v s key twin ((in_looks arena a.header.tile).at s key))
 
-  left_is : {t : List ℕ} → t ≡ (lookUp s arena a.header.tile key).looks → t ≡ (twinStep x arena a v s twin).carried
-  unfolding twinStep
+  left_is : {t : List ℕ} → t ≡ (look_up s arena a.header.tile key).looks → t ≡ (twin_step x arena a v s twin).carried
+  unfolding twin_step
   left_is e =
-      let rd = inLooks arena a.header.tile in
-      rw (e, ← g) (sym (look-carried s arena a.header.tile key) ∙ look-leaves rd x a v s key twin (rd.at s key))
+      let rd = in_looks arena a.header.tile in
+      rw (e, ← g) (sym (look_carried s arena a.header.tile key) ∙ look_leaves rd x a v s key twin (rd.at s key))
 
 key-of-requires : tie.Need-key-of-requires
 key-of-requires c κs = tt
@@ -75,21 +75,21 @@ returns c =
     let args = keyed.before.before.args in
     let key = told.key.given.0.0 in
     let inside = sym told.key.given.1 ∙ keyed.key_of.ensures in (
-      found-is args.x args.arena.now args.a args.visited.now args.looks.now args.twin key inside c.twin-found.ensures
+      found_is args.x args.arena.now args.a args.visited.now args.looks.now args.twin key inside c.twin-found.ensures
           found.look_up.ensures.0,
       left_is args.x args.arena.now args.a args.visited.now args.looks.now args.twin key inside found.look_up.ensures.1,
     )
 
 returns-2 : tie.Need-returns-2
-unfolding twinStep
+unfolding twin_step
 returns-2 c = let outside = sym c.before.before.key_of.ensures ∙ c.enum_told.given.1 in (rw outside, rw outside)
 
 returns-3 : tie.Need-returns-3
-unfolding twinStep
+unfolding twin_step
 returns-3 c = let refused = sym c.before.before.key_of.ensures ∙ c.enum-told2.given.1 in (rw refused, rw refused)
 
-pub twin-step-spec : {M : Type 1} → statement M
-twin-step-spec =
+pub twin_step_spec : {M : Type 1} → statement M
+twin_step_spec =
     tie.close
     (tie.spec
     key-of-requires

@@ -50,8 +50,8 @@ returns-3 c =
       c.go.ensures,
     )
 
-pub decide-spec : {M : Type 1} → statement M
-decide-spec =
+pub decide_spec : {M : Type 1} → statement M
+decide_spec =
     tie.close
     (tie.spec
     pick-requires

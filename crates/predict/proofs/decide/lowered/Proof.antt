@@ -1,6 +1,6 @@
 -- `predict::decide::lowered` meets its contract: the literals read as whole numbers.
-use Rattle.geo.proofs.Literals.{literal-1}
-use Rattle.predict.proofs.CostLiterals.{literal-4}
+use Rattle.geo.proofs.Literals.{literal_1}
+use Rattle.predict.proofs.CostLiterals.{literal_4}
 use Rattle.predict.proofs.decide.lowered.Statement.{statement}
 use Rattle.predict.proofs.decide.lowered.Tie as tie
 
@@ -8,7 +8,7 @@ min-requires : tie.Need-min-requires
 min-requires c κs = tt
 
 returns : tie.Need-returns
-returns c = rw (c.min.ensures, literal-4, literal-1)
+returns c = rw (c.min.ensures, literal_4, literal_1)
 
-pub lowered-spec : {M : Type 1} → statement M
-lowered-spec = tie.close (tie.spec min-requires returns)
+pub lowered_spec : {M : Type 1} → statement M
+lowered_spec = tie.close (tie.spec min-requires returns)

@@ -14,5 +14,5 @@ stop-requires-2 c κs = tt
 returns-2 : tie.Need-returns-2
 returns-2 c = rw (c.before.if1.false, c.stop2.ensures)
 
-pub no-way-spec : {M : Type 1} → statement M
-no-way-spec = tie.close (tie.spec stop-requires returns stop-requires-2 returns-2)
+pub no_way_spec : {M : Type 1} → statement M
+no_way_spec = tie.close (tie.spec stop-requires returns stop-requires-2 returns-2)

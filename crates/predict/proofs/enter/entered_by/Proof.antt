@@ -53,8 +53,8 @@ returns-3 c =
     (λ (e : answer ≡ Lookup.Absent). (rw (c.with-ending2.ensures, e), (rw e, rw e)))
     (asked answer c.before.match.keys3)
 
-pub entered-by-spec : {M : Type 1} → statement M
-entered-by-spec =
+pub entered_by_spec : {M : Type 1} → statement M
+entered_by_spec =
     tie.close
     (tie.spec
     enum-known-answer

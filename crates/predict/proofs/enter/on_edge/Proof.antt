@@ -25,6 +25,6 @@ returns-2 c =
     let room = sym met.ensures.0 ∙ not-false _ c.before.before.if1.false in
     (rw room, (rw (c.visit.ensures, room), rw (met.ensures.1, room)))
 
-pub on-edge-spec : {M : Type 1} → statement M
-on-edge-spec =
+pub on_edge_spec : {M : Type 1} → statement M
+on_edge_spec =
     tie.close (tie.spec meet-requires with-ending-requires returns visit-requires returns-2)

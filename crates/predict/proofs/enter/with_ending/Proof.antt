@@ -1,12 +1,12 @@
 -- `predict::enter::with_ending` meets its contract: the fields as they were, but for the ending.
 use mathlib.Core.Path.{refl}
-use Rattle.predict.specs.Walk.{withEnding}
+use Rattle.predict.specs.Walk.{with_ending}
 use Rattle.predict.proofs.enter.with_ending.Statement.{statement}
 use Rattle.predict.proofs.enter.with_ending.Tie as tie
 
 returns : tie.Need-returns
-unfolding withEnding
+unfolding with_ending
 returns c = refl
 
-pub with-ending-spec : {M : Type 1} → statement M
-with-ending-spec = tie.close (tie.spec returns)
+pub with_ending_spec : {M : Type 1} → statement M
+with_ending_spec = tie.close (tie.spec returns)

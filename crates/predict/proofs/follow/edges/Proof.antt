@@ -10,17 +10,17 @@ use lib.IntN.{ℤ}
 use lib.ListN.{length}
 use borrow.Author.Tests.{not-true, not-false}
 use borrow.Author.Rules.{rules}
-use Rattle.cache.specs.Reader.{inLooks}
+use Rattle.cache.specs.Reader.{in_looks}
 use Rattle.predict.specs.declared.Trip.{Trip}
 use Rattle.predict.specs.declared.Track.{Track}
 use Rattle.predict.specs.declared.outgoing.Leg.{Leg}
 use Rattle.predict.specs.Outgoing.{last_of}
-use Rattle.predict.specs.Vertex.{Along, trackOf, vertices}
-use Rattle.predict.proofs.VertexLaws.{alongOf, left-whole, vertices-start}
+use Rattle.predict.specs.Vertex.{Along, track_of, vertices}
+use Rattle.predict.proofs.VertexLaws.{along_of, left_whole, vertices_start}
 use Rattle.predict.specs.declared.Walk.{Walk}
-use Rattle.predict.specs.Walk.{Onto, Stride, Run, Entering, goesOn, reached, run_of, edgeStep, walkTo, enter, follow}
+use Rattle.predict.specs.Walk.{Onto, Stride, Run, Entering, goes_on, reached, run_of, edge_step, walk_to, enter, follow}
 use Rattle.predict.proofs.WalkLaws.{walk_start}
-use Rattle.predict.proofs.FollowLaws.{points-start, points_on, points-over, step-ended, step-over, step-on, walk-on, walk-whole, Leaves, edges-is, reached-ends}
+use Rattle.predict.proofs.FollowLaws.{points_start, points_on, points_over, step_ended, step_over, step_on, walk_on, walk_whole, Leaves, edges_is, reached_ends}
 use Rattle.predict.proofs.follow.edges.Statement.{statement}
 use Rattle.predict.proofs.follow.edges.Tie as tie
 
@@ -28,9 +28,9 @@ abbrev onto : Walk → List ℕ → List ℕ → Onto
 onto w v m = record { walk = w; visited = v; met = m }
 
 -- what `crossed` gives back and leaves in the numbers that it is lent
-crossed-is : {w : Walk} {looks : List ℕ} {x : Stride (List ℕ)} → w ≡ x.walk → looks ≡ x.carried
+crossed_is : {w : Walk} {looks : List ℕ} {x : Stride (List ℕ)} → w ≡ x.walk → looks ≡ x.carried
     → ◌≡◌ {A = Stride (List ℕ)} (record { walk = w; carried = looks }) x
-crossed-is p q = λ i. record { walk = p i; carried = q i }
+crossed_is p q = λ i. record { walk = p i; carried = q i }
 
 abbrev invariant-points : tie.invariant-points
 invariant-points arena trip budget looks visited met heights₀ lats₀ lons₀ distances₀ header w₀ t₀ n bytes head leg last base i₀ heights lats lons distances w t i =
@@ -39,8 +39,8 @@ invariant-points arena trip budget looks visited met heights₀ lats₀ lons₀ 
     × ((length heights ≡ length heights₀)
     × ((w ≡ w₀)
     × ((t.over ≡ false)
-    × (alongOf (trackOf t lats lons distances) heights
-    ≡ vertices trip leg bytes head.lon_um i₀ (alongOf (trackOf t₀ lats₀ lons₀ distances₀) heights₀) (i - i₀))))))
+    × (along_of (track_of t lats lons distances) heights
+    ≡ vertices trip leg bytes head.lon_um i₀ (along_of (track_of t₀ lats₀ lons₀ distances₀) heights₀) (i - i₀))))))
 
 abbrev decreases-points : tie.decreases-points
 decreases-points arena trip budget looks visited met heights₀ lats₀ lons₀ distances₀ header w₀ t₀ n bytes head leg last base i₀ heights lats lons distances w t i = last + 1 - i
@@ -49,9 +49,9 @@ abbrev invariant-edges : tie.invariant-edges
 invariant-edges arena trip budget looks₀ visited₀ met₀ heights₀ lats₀ lons₀ distances₀ header w₀ t₀ n₀ looks visited met heights lats lons distances w t n =
     (n ≤ 2000)
     × ((length heights ≡ length heights₀)
-    × (run_of (onto w visited met) (trackOf t lats lons distances) looks heights
-    ≡ walkTo (inLooks arena trip.header.tile) trip budget
-    (run_of (onto w₀ visited₀ met₀) (trackOf t₀ lats₀ lons₀ distances₀) looks₀ heights₀) n))
+    × (run_of (onto w visited met) (track_of t lats lons distances) looks heights
+    ≡ walk_to (in_looks arena trip.header.tile) trip budget
+    (run_of (onto w₀ visited₀ met₀) (track_of t₀ lats₀ lons₀ distances₀) looks₀ heights₀) n))
 
 abbrev decreases-edges : tie.decreases-edges
 decreases-edges arena trip budget looks₀ visited₀ met₀ heights₀ lats₀ lons₀ distances₀ header w₀ t₀ n₀ looks visited met heights lats lons distances w t n = 2000 - n
@@ -72,13 +72,13 @@ module _ (q : tie.After-enter invariant-points decreases-points invariant-edges 
   start =
       let args = q.before.before.before.before.before.before.before.before.args in
       run_of (onto args.start args.visited.now args.met.now)
-      (trackOf args.first args.lats.now args.lons.now args.distances.now) args.looks.now args.heights.now
+      (track_of args.first args.lats.now args.lons.now args.distances.now) args.looks.now args.heights.now
 
   abbrev behind : Onto
   behind = let edges = q.before.before.before.before.before.edges in onto edges.w edges.visited edges.met
 
   abbrev track : Track
-  track = let edges = q.before.before.before.before.before.edges in trackOf edges.t edges.lats edges.lons edges.distances
+  track = let edges = q.before.before.before.before.before.edges in track_of edges.t edges.lats edges.lons edges.distances
 
   abbrev looks : List ℕ
   looks = q.before.before.before.before.before.edges.looks
@@ -97,13 +97,13 @@ module _ (q : tie.After-enter invariant-points decreases-points invariant-edges 
       λ i. record { entered = e.0 i; looks = e.1.0 i; visited = e.1.1.0 i; met = e.1.1.1 i }
 
   -- the edge loop is left on it
-  left_here : (y : Run (List ℕ)) → edgeStep (inLooks arena trip.header.tile) trip budget (run_of behind track looks heights) ≡ y
-      → goesOn y.walk.ending ≡ false
+  left_here : (y : Run (List ℕ)) → edge_step (in_looks arena trip.header.tile) trip budget (run_of behind track looks heights) ≡ y
+      → goes_on y.walk.ending ≡ false
       → Leaves (follow start.carried start.visited start.met arena trip budget start.walk start.track start.heights) y
   left_here y step ends =
       let edges = q.before.before.before.before.before.edges in
-      edges-is arena trip budget start y
-      (walk-whole arena trip budget start (run_of behind track looks heights) y edges.n edges.inv.1.1 step ends q.before.before.before.before.edges-test.taken)
+      edges_is arena trip budget start y
+      (walk_whole arena trip budget start (run_of behind track looks heights) y edges.n edges.inv.1.1 step ends q.before.before.before.before.edges-test.taken)
 
 -- ---- and followed
 
@@ -120,32 +120,32 @@ module _ (p : tie.After-leg-of invariant-points decreases-points invariant-edges
   abbrev leg : Leg
   leg = p.leg-of.result
 
-  abbrev lonUm : ℕ
-  lonUm = p.before.head.result.lon_um
+  abbrev lon_um : ℕ
+  lon_um = p.before.head.result.lon_um
 
   abbrev first : Along
-  first = alongOf (track edge) (heights edge)
+  first = along_of (track edge) (heights edge)
 
   -- n of its points
   abbrev along : ℕ → Along
-  along n = vertices (trip edge) leg bytes lonUm walk.from first n
+  along n = vertices (trip edge) leg bytes lon_um walk.from first n
 
-  goes : goesOn walk.ending ≡ true
+  goes : goes_on walk.ending ≡ true
   goes = sym p.before.before.before.before.goes_on.ensures ∙ not-false _ p.before.before.before.if1.left
 
   -- the road is over on it
-  over-here : (b : Along) (n : ℕ) → b ≡ along n → b.track.over ≡ true → n ≤ last_of leg + 1 - walk.from
+  over_here : (b : Along) (n : ℕ) → b ≡ along n → b.track.over ≡ true → n ≤ last_of leg + 1 - walk.from
       → (m : Walk) → m ≡ reached walk
       → Leaves
       (follow (start edge).carried (start edge).visited (start edge).met (arena edge) (trip edge) (budget edge) (start edge).walk (start edge).track
       (start edge).heights)
       (run_of (onto m (entered edge).visited (entered edge).met) b.track (entered edge).looks b.heights)
-  over-here b n come over h m ends =
+  over_here b n come over h m ends =
       left_here edge _
-      (step-over (arena edge) (trip edge) (budget edge) (behind edge) (track edge) (looks edge) (heights edge) (entered edge) (came edge) goes
+      (step_over (arena edge) (trip edge) (budget edge) (behind edge) (track edge) (looks edge) (heights edge) (entered edge) (came edge) goes
       bytes p.before.before.run-bytes.ensures p.before.head.result p.before.head.ensures leg p.leg-of.ensures b
-      (points-over (trip edge) leg bytes lonUm walk.from first b n (last_of leg + 1 - walk.from) come over h) m ends over)
-      (reached-ends m walk ends)
+      (points_over (trip edge) leg bytes lon_um walk.from first b n (last_of leg + 1 - walk.from) come over h) m ends over)
+      (reached_ends m walk ends)
 
 -- ---- a point further
 
@@ -156,15 +156,15 @@ module _ (a : tie.After-advance invariant-points decreases-points invariant-edge
   abbrev there : Along
   there =
       let left = a.advance.last.1.1.1.1.1.1.1 in
-      alongOf (trackOf a.advance.result left.1.0 left.1.1.0 left.1.1.1.0) left.0
+      along_of (track_of a.advance.result left.1.0 left.1.1.0 left.1.1.1.0) left.0
 
-  there-is : there ≡ along followed (a.before.before.before.before.before.before.points.i + 1 - (walk followed).from)
-  there-is =
+  there_is : there ≡ along followed (a.before.before.before.before.before.before.points.i + 1 - (walk followed).from)
+  there_is =
       let points = a.before.before.before.before.before.before.points in
-      points_on (trip (edge followed)) (leg followed) (bytes followed) (lonUm followed) (walk followed).from (first followed) points.i
-      (trackOf points.t points.lats points.lons points.distances) points.heights
+      points_on (trip (edge followed)) (leg followed) (bytes followed) (lon_um followed) (walk followed).from (first followed) points.i
+      (track_of points.t points.lats points.lons points.distances) points.heights
       points.inv.0 points.inv.1.1.1.1.0 points.inv.1.1.1.1.1 there
-      (left-whole _ a.advance.result there.heights there.track.history.lats there.track.history.lons there.track.history.distances
+      (left_whole _ a.advance.result there.heights there.track.history.lats there.track.history.lons there.track.history.distances
       a.advance.ensures)
 
 -- ---- the answers
@@ -173,12 +173,12 @@ edges-holds : tie.Need-edges-init invariant-points decreases-points invariant-ed
 edges-holds c =
     let args = c.before.before.args in
     let start = onto args.start args.visited.now args.met.now in
-    let first = trackOf args.first args.lats.now args.lons.now args.distances.now in (
+    let first = track_of args.first args.lats.now args.lons.now args.distances.now in (
       omega arith,
       (
         refl,
         sym
-            (walk_start (inLooks args.arena.now args.trip.header.tile) args.trip args.budget
+            (walk_start (in_looks args.arena.now args.trip.header.tile) args.trip args.budget
             (run_of start first args.looks.now args.heights.now)),
       ),
     )
@@ -216,7 +216,7 @@ points-holds c =
       omega arith,
       (
         omega arith,
-        (refl, (refl, (c.before.if2.false, points-start (trip (edge p)) (leg p) (bytes p) (lonUm p) (walk p).from (first p)))),
+        (refl, (refl, (c.before.if2.false, points_start (trip (edge p)) (leg p) (bytes p) (lon_um p) (walk p).from (first p)))),
       ),
     )
 
@@ -243,7 +243,7 @@ points-again c =
         omega (arith, points.invariant.0, c.before.before.before.before.before.before.before.points-test.true),
         (
           a.advance.auto.1.1.1.1.1.1.1.0 ∙ points.invariant.1.1.0,
-          (points.invariant.1.1.1.0, (c.if3.false, there-is a)),
+          (points.invariant.1.1.1.0, (c.if3.false, there_is a)),
         ),
       ),
     )
@@ -263,7 +263,7 @@ edges-again c =
     let q = edge p in
     let edges = c.before.before.before.before.before.before.before.before.before.before.before.before.before.before.before.before.before.before.before.before.before.before.before.edges in
     let points = c.before.before.before.before.before.before.before.points in
-    let b = alongOf (trackOf points.t points.lats points.lons points.distances) points.heights in
+    let b = along_of (track_of points.t points.lats points.lons points.distances) points.heights in
     let all : points.i - (walk p).from ≡ last_of (leg p) + 1 - (walk p).from =
     omega (arith, points.invariant.0, points.invariant.1.0, c.before.before.before.before.before.before.points-test.false)
     in
@@ -271,14 +271,14 @@ edges-again c =
       omega (arith, c.before.before.before.before.before.before.before.before.before.before.before.before.before.before.before.before.before.before.before.before.before.before.edges-test.true),
       (
         points.invariant.1.1.0 ∙ edges.invariant.1.0,
-        walk-on (arena q) (trip q) (budget q) (start q) (run_of (behind q) (track q) (looks q) (heights q))
+        walk_on (arena q) (trip q) (budget q) (start q) (run_of (behind q) (track q) (looks q) (heights q))
             (run_of (onto crossed.result (entered q).visited (entered q).met) b.track crossed.new.1.1.1.0 points.heights)
             edges.n edges.invariant.1.1
-            (step-on (arena q) (trip q) (budget q) (behind q) (track q) (looks q) (heights q) (entered q) (came q) (goes p)
+            (step_on (arena q) (trip q) (budget q) (behind q) (track q) (looks q) (heights q) (entered q) (came q) (goes p)
             (bytes p) c.before.before.before.before.before.before.before.before.before.before.before.before.before.before.run-bytes.ensures c.before.before.before.before.before.before.before.before.before.before.before.before.before.head.result c.before.before.before.before.before.before.before.before.before.before.before.before.before.head.ensures (leg p) p.leg-of.ensures
             b (sym (points.invariant.1.1.1.1.1 ∙ ap (along p) all))
             (record { walk = crossed.result; carried = crossed.new.1.1.1.0 })
-            (rw points.invariant.1.1.1.0 at (crossed-is crossed.ensures.0 crossed.ensures.1)) points.invariant.1.1.1.1.0),
+            (rw points.invariant.1.1.1.0 at (crossed_is crossed.ensures.0 crossed.ensures.1)) points.invariant.1.1.1.1.0),
       ),
     )
 
@@ -290,10 +290,10 @@ returns c =
     let args = c.before.before.before.before.args in
     let edges = c.before.edges in
     let all : edges.n ≡ 2000 = omega (arith, edges.invariant.0, c.edges-test.false) in
-    edges-is args.arena.now args.trip args.budget
+    edges_is args.arena.now args.trip args.budget
     (run_of (onto args.start args.visited.now args.met.now)
-    (trackOf args.first args.lats.now args.lons.now args.distances.now) args.looks.now args.heights.now)
-    (run_of (onto edges.w edges.visited edges.met) (trackOf edges.t edges.lats edges.lons edges.distances) edges.looks edges.heights)
+    (track_of args.first args.lats.now args.lons.now args.distances.now) args.looks.now args.heights.now)
+    (run_of (onto edges.w edges.visited edges.met) (track_of edges.t edges.lats edges.lons edges.distances) edges.looks edges.heights)
     (rw all at edges.invariant.1.1)
 
 same-length-2 : tie.Need-same-length-2 invariant-points decreases-points invariant-edges decreases-edges
@@ -304,7 +304,7 @@ returns-2 c =
     let q = c.before.before.before in
     let ends = sym c.before.goes_on.ensures ∙ not-true _ c.if1.true in
     left_here q _
-    (step-ended (arena q) (trip q) (budget q) (behind q) (track q) (looks q) (heights q) (entered q) (came q) ends) ends
+    (step_ended (arena q) (trip q) (budget q) (behind q) (track q) (looks q) (heights q) (entered q) (came q) ends) ends
 
 same-length-3 : tie.Need-same-length-3 invariant-points decreases-points invariant-edges decreases-edges
 same-length-3 c = c.before.before.before.before.before.before.before.before.before.before.before.before.before.before.before.edges.invariant.1.0
@@ -312,7 +312,7 @@ same-length-3 c = c.before.before.before.before.before.before.before.before.befo
 returns-3 : tie.Need-returns-3 invariant-points decreases-points invariant-edges decreases-edges
 returns-3 c =
     let p = c.before.before.before.before in
-    over-here p (first p) 0 (sym (vertices-start (trip (edge p)) (leg p) (bytes p) (lonUm p) (walk p).from (first p))) c.before.if2.true
+    over_here p (first p) 0 (sym (vertices_start (trip (edge p)) (leg p) (bytes p) (lon_um p) (walk p).from (first p))) c.before.if2.true
     (omega arith) c.reached.result c.reached.ensures
 
 same-length-4 : tie.Need-same-length-4 invariant-points decreases-points invariant-edges decreases-edges
@@ -323,7 +323,7 @@ returns-4 c =
     let a = c.before.before.before in
     let p = followed a in
     let points = c.before.before.before.before.before.before.before.before.before.points in
-    over-here p (there a) (points.i + 1 - (walk p).from) (there-is a) c.before.if3.true (omega (arith, c.before.before.before.before.before.before.before.before.points-test.true))
+    over_here p (there a) (points.i + 1 - (walk p).from) (there_is a) c.before.if3.true (omega (arith, c.before.before.before.before.before.before.before.before.points-test.true))
     c.reached2.result (rw points.invariant.1.1.1.0 at c.reached2.ensures)
 
 pub edges_spec : {M : Type 1} → statement M

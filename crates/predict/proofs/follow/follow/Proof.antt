@@ -1,7 +1,7 @@
 -- `predict::follow::follow` meets its contract: by the answer of `edges`, with the track made whole again.
 use borrow.Author.Rules.{rules}
 use Rattle.predict.specs.Walk.{follow}
-use Rattle.predict.proofs.FollowLaws.{followed-is}
+use Rattle.predict.proofs.FollowLaws.{followed_is}
 use Rattle.predict.proofs.follow.follow.Statement.{statement}
 use Rattle.predict.proofs.follow.follow.Tie as tie
 
@@ -26,10 +26,10 @@ returns c =
     let ensured = rw course.ensures at edges.ensures in
     let left = ensured.1 in
     let lists = left.1.1.1.1 in (
-      followed-is whole edges.result edges.new.1.1.1.1.1.1.1.1.1.0 edges.new.1.1.1.1.1.1.1.1.1.1.0
+      followed_is whole edges.result edges.new.1.1.1.1.1.1.1.1.1.0 edges.new.1.1.1.1.1.1.1.1.1.1.0
           edges.new.1.1.1.1.1.1.1.1.1.1.1.0 ensured.0 lists.0 lists.1.0 lists.1.1,
       (left.0, (left.1.0, (left.1.1.0, left.1.1.1.0))),
     )
 
-pub follow-spec : {M : Type 1} → statement M
-follow-spec = tie.close (tie.spec course-of-requires edges-requires same_length returns)
+pub follow_spec : {M : Type 1} → statement M
+follow_spec = tie.close (tie.spec course-of-requires edges-requires same_length returns)

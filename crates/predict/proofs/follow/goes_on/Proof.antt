@@ -13,5 +13,5 @@ returns c = search rules
 returns-2 : tie.Need-returns-2
 returns-2 c = rw (ended c.before.args.ending c.match.keys2)
 
-pub goes-on-spec : {M : Type 1} → statement M
-goes-on-spec = tie.close (tie.spec enum_told returns returns-2)
+pub goes_on_spec : {M : Type 1} → statement M
+goes_on_spec = tie.close (tie.spec enum_told returns returns-2)

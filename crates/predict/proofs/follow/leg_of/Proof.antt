@@ -8,5 +8,5 @@ edge-requires c κs = tt
 returns : tie.Need-returns
 returns c = rw c.edge.ensures
 
-pub leg-of-spec : {M : Type 1} → statement M
-leg-of-spec = tie.close (tie.spec edge-requires returns)
+pub leg_of_spec : {M : Type 1} → statement M
+leg_of_spec = tie.close (tie.spec edge-requires returns)

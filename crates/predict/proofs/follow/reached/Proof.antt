@@ -10,5 +10,5 @@ returns : tie.Need-returns
 unfolding reached
 returns c = rw c.with-ending.ensures
 
-pub reached-spec : {M : Type 1} → statement M
-reached-spec = tie.close (tie.spec with-ending-requires returns)
+pub reached_spec : {M : Type 1} → statement M
+reached_spec = tie.close (tie.spec with-ending-requires returns)

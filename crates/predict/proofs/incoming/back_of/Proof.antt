@@ -4,8 +4,8 @@ use Prim.Native.Nat.{◌-◌}
 use mathlib.Core.Path.{sym, ◌∙◌}
 use native.Mathlib.Omega.{arith}
 use borrow.Author.Rules.{rules}
-use Rattle.predict.specs.Incoming.{backAt, backOf}
-use Rattle.predict.proofs.TrackLaws.{highest-below}
+use Rattle.predict.specs.Incoming.{back_at, back_of}
+use Rattle.predict.proofs.TrackLaws.{highest_below}
 use Rattle.predict.proofs.incoming.back_of.Statement.{statement}
 use Rattle.predict.proofs.incoming.back_of.Tie as tie
 
@@ -25,11 +25,11 @@ point-at-requires-2 : tie.Need-point-at-requires-2
 point-at-requires-2 c κs = tt
 
 add-point-at : tie.Need-overflow-add-point-at
-unfolding backAt
+unfolding back_at
 add-point-at c =
     let found = c.before.before in
     let call = found.before.before in
-    omega (arith, highest-below _ (call.before.args.len - 1) _ (sym call.back_at.ensures ∙ found.i.given.1))
+    omega (arith, highest_below _ (call.before.args.len - 1) _ (sym call.back_at.ensures ∙ found.i.given.1))
 
 point-at-requires-3 : tie.Need-point-at-requires-3
 point-at-requires-3 c κs = tt
@@ -38,11 +38,11 @@ distance-at-requires : tie.Need-distance-at-requires
 distance-at-requires c κs = tt
 
 add-distance-at : tie.Need-overflow-add-distance-at
-unfolding backAt
+unfolding back_at
 add-distance-at c =
     let found = c.before.before.before.before in
     let call = found.before.before in
-    omega (arith, highest-below _ (call.before.args.len - 1) _ (sym call.back_at.ensures ∙ found.i.given.1))
+    omega (arith, highest_below _ (call.before.args.len - 1) _ (sym call.back_at.ensures ∙ found.i.given.1))
 
 distance-at-requires-2 : tie.Need-distance-at-requires-2
 distance-at-requires-2 c κs = tt
@@ -54,13 +54,13 @@ between-requires : tie.Need-between-requires
 between-requires c κs = tt
 
 returns : tie.Need-returns
-unfolding backOf backAt
+unfolding back_of back_at
 returns c =
     let call = c.before.before.before in
     rw (sym call.back_at.ensures ∙ c.before.enum_told.given.1) c.point_at.ensures
 
 returns-2 : tie.Need-returns-2
-unfolding backOf backAt
+unfolding back_of back_at
 returns-2 c =
     let part = c.before in
     let distance = part.before in
@@ -78,8 +78,8 @@ returns-2 c =
       first.point-at2.ensures,
     )
 
-pub back-of-spec : {M : Type 1} → statement M
-back-of-spec =
+pub back_of_spec : {M : Type 1} → statement M
+back_of_spec =
     tie.close
     (tie.spec
     back-at-requires

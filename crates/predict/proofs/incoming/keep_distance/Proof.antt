@@ -25,7 +25,7 @@ returns-2 : tie.Need-returns-2
 unfolding kept
 returns-2 c = rw (c.shift-distances.ensures, le-ltb _ _ c.before.before.if1.false)
 
-pub keep-distance-spec : {M : Type 1} → statement M
-keep-distance-spec =
+pub keep_distance_spec : {M : Type 1} → statement M
+keep_distance_spec =
     tie.close
     (tie.spec mul-v element-write-v returns shift-distances-requires element-write-v-2 returns-2)

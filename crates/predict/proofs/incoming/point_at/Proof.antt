@@ -39,8 +39,8 @@ returns-2 c =
     let lons : length args.lons.now ≤ args.i = omega (arith, second.sixteen2.ensures, c.if1.false) in
     rw (get_or-eq_default args.lats.now (pos 0) lats, get_or-eq_default args.lons.now (pos 0) lons)
 
-pub point-at-spec : {M : Type 1} → statement M
-point-at-spec =
+pub point_at_spec : {M : Type 1} → statement M
+point_at_spec =
     tie.close
     (tie.spec
     sixteen-requires

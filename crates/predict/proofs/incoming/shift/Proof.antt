@@ -7,7 +7,7 @@ use borrow.Author.Rules.{rules}
 use mir.Syntax.{w32}
 use Rattle.predict.proofs.Signed.{got}
 use Rattle.predict.specs.Incoming.{shifted}
-use Rattle.predict.proofs.Shift.{moved, shift-turn, shift-end}
+use Rattle.predict.proofs.Shift.{moved, shift_turn, shift_end}
 use Rattle.predict.proofs.incoming.shift.Statement.{statement}
 use Rattle.predict.proofs.incoming.shift.Tie as tie
 
@@ -46,20 +46,20 @@ loop-less c = search rules
 
 loop-again : tie.Need-loop-preserved invariant-loop decreases-loop
 loop-again c =
-    let at-loop = c.before.before.loop in
+    let at_loop = c.before.before.loop in
     let long = c.before.before.before.sixteen.ensures in
     let v = c.before.before.before.before.before.args.v.now in
-    (omega arith, rw (got w32 c.v.given, at-loop.invariant.1) (shift-turn v at-loop.i _ (omega (arith, long, c.before.loop-test.true))))
+    (omega arith, rw (got w32 c.v.given, at_loop.invariant.1) (shift_turn v at_loop.i _ (omega (arith, long, c.before.loop-test.true))))
 
 returns : tie.Need-returns invariant-loop decreases-loop
 unfolding shifted
 returns c =
-    let at-loop = c.before.loop in
-    let end : at-loop.i ≡ 15 = omega arith in
-    rw (at-loop.invariant.1, end) (shift-end c.before.before.before.before.args.v.now)
+    let at_loop = c.before.loop in
+    let end : at_loop.i ≡ 15 = omega arith in
+    rw (at_loop.invariant.1, end) (shift_end c.before.before.before.before.args.v.now)
 
-pub shift-spec : {M : Type 1} → statement M
-shift-spec =
+pub shift_spec : {M : Type 1} → statement M
+shift_spec =
     tie.close
     (tie.spec
     invariant-loop

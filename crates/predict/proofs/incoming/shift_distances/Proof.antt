@@ -5,7 +5,7 @@ use mathlib.Core.Path.{◌≡◌, refl}
 use native.Mathlib.Omega.{arith}
 use borrow.Author.Rules.{rules}
 use Rattle.predict.specs.Incoming.{shifted}
-use Rattle.predict.proofs.Shift.{moved, shift-turn, shift-end}
+use Rattle.predict.proofs.Shift.{moved, shift_turn, shift_end}
 use Rattle.predict.proofs.incoming.shift_distances.Statement.{statement}
 use Rattle.predict.proofs.incoming.shift_distances.Tie as tie
 
@@ -44,20 +44,20 @@ loop-less c = search rules
 
 loop-again : tie.Need-loop-preserved invariant-loop decreases-loop
 loop-again c =
-    let at-loop = c.before.before.loop in
+    let at_loop = c.before.before.loop in
     let long = c.before.before.before.sixteen-distances.ensures in
     let v = c.before.before.before.before.before.args.v.now in
-    (omega arith, rw at-loop.invariant.1 (shift-turn v at-loop.i _ (omega (arith, long, c.before.loop-test.true))))
+    (omega arith, rw at_loop.invariant.1 (shift_turn v at_loop.i _ (omega (arith, long, c.before.loop-test.true))))
 
 returns : tie.Need-returns invariant-loop decreases-loop
 unfolding shifted
 returns c =
-    let at-loop = c.before.loop in
-    let end : at-loop.i ≡ 15 = omega arith in
-    rw (at-loop.invariant.1, end) (shift-end c.before.before.before.before.args.v.now)
+    let at_loop = c.before.loop in
+    let end : at_loop.i ≡ 15 = omega arith in
+    rw (at_loop.invariant.1, end) (shift_end c.before.before.before.before.args.v.now)
 
-pub shift-distances-spec : {M : Type 1} → statement M
-shift-distances-spec =
+pub shift_distances_spec : {M : Type 1} → statement M
+shift_distances_spec =
     tie.close
     (tie.spec
     invariant-loop

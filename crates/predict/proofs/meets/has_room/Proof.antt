@@ -7,7 +7,7 @@ use native.Mathlib.Omega.{arith}
 use lib.Dec.{leb}
 use borrow.Author.Rules.{rules}
 use borrow.Author.Tests.{le-ltb, lt-ltb, lt-leb, le-leb, leb-true, leb-false}
-use Rattle.predict.specs.Meets.{pagesOf}
+use Rattle.predict.specs.Meets.{pages_of}
 use Rattle.predict.proofs.meets.has_room.Statement.{statement}
 use Rattle.predict.proofs.meets.has_room.Tie as tie
 
@@ -30,7 +30,7 @@ returns-2 c =
     let args = c.before.before.before.before.args in
     rw (
       lt-ltb _ _ c.before.before.if1.false,
-      lt-leb (pagesOf args.met.now + args.pages) args.budget (omega (arith, c.if2.true)),
+      lt-leb (pages_of args.met.now + args.pages) args.budget (omega (arith, c.if2.true)),
     )
 
 returns-3 : tie.Need-returns-3
@@ -38,9 +38,9 @@ returns-3 c =
     let args = c.before.before.before.before.args in
     rw (
       lt-ltb _ _ c.before.before.if1.false,
-      moved (pagesOf args.met.now) args.pages args.budget c.if2.false _ refl,
+      moved (pages_of args.met.now) args.pages args.budget c.if2.false _ refl,
     )
 
-pub has-room-spec : {M : Type 1} → statement M
-has-room-spec =
+pub has_room_spec : {M : Type 1} → statement M
+has_room_spec =
     tie.close (tie.spec element-copy-out-if1 returns element-copy-out-taken returns-2 returns-3)

@@ -34,8 +34,8 @@ cast-result c = search rules
 returns-2 : tie.Need-returns-2
 returns-2 c = rw (eq-eqb _ _ c.before.before.if1.false)
 
-pub is-met-spec : {M : Type 1} → statement M
-is-met-spec =
+pub is_met_spec : {M : Type 1} → statement M
+is_met_spec =
     tie.close
     (tie.spec
     mul-if1

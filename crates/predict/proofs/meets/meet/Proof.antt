@@ -11,24 +11,24 @@ use lib.Seq.{get_or-set_other}
 use borrow.Author.Rules.{rules}
 use borrow.Author.Tests.{not-true, not-false, ltb-true, leb-true}
 use Rattle.cache.proofs.Below.{and_left, and_right}
-use Rattle.predict.specs.Meets.{meet, hasRoom, tilesOf, pagesOf}
+use Rattle.predict.specs.Meets.{meet, has_room, tiles_of, pages_of}
 use Rattle.predict.proofs.meets.meet.Statement.{statement}
 use Rattle.predict.proofs.meets.meet.Tie as tie
 
 -- what room tells
-module _ (m : List ℕ) (pages budget : ℕ) (e : hasRoom m pages budget ≡ true) where
-  below : tilesOf m < 96
-  below = ltb-true (tilesOf m) 96 (and_left (ltb (tilesOf m) 96) (leb (pagesOf m + pages) budget) e)
+module _ (m : List ℕ) (pages budget : ℕ) (e : has_room m pages budget ≡ true) where
+  below : tiles_of m < 96
+  below = ltb-true (tiles_of m) 96 (and_left (ltb (tiles_of m) 96) (leb (pages_of m + pages) budget) e)
 
-  within : pagesOf m + pages ≤ budget
-  within = leb-true (pagesOf m + pages) budget (and_right (ltb (tilesOf m) 96) (leb (pagesOf m + pages) budget) e)
+  within : pages_of m + pages ≤ budget
+  within = leb-true (pages_of m + pages) budget (and_right (ltb (tiles_of m) 96) (leb (pages_of m + pages) budget) e)
 
   -- behind the tile and how many they are, the pages are as they were
-  kept : (row col n : ℕ) → get_or (set (set (set m (tilesOf m) row) (96 + tilesOf m) col) 192 n) 193 0 ≡ pagesOf m
+  kept : (row col n : ℕ) → get_or (set (set (set m (tiles_of m) row) (96 + tiles_of m) col) 192 n) 193 0 ≡ pages_of m
   kept row col n =
-      get_or-set_other (set (set m (tilesOf m) row) (96 + tilesOf m) col) 192 193 n 0 (λ (q : 193 ≡ 192). absurd (omega (arith, q)))
-      ∙ get_or-set_other (set m (tilesOf m) row) (96 + tilesOf m) 193 col 0 (λ (q : 193 ≡ 96 + tilesOf m). absurd (omega (arith, q, below)))
-      ∙ get_or-set_other m (tilesOf m) 193 row 0 (λ (q : 193 ≡ tilesOf m). absurd (omega (arith, q, below)))
+      get_or-set_other (set (set m (tiles_of m) row) (96 + tiles_of m) col) 192 193 n 0 (λ (q : 193 ≡ 192). absurd (omega (arith, q)))
+      ∙ get_or-set_other (set m (tiles_of m) row) (96 + tiles_of m) 193 col 0 (λ (q : 193 ≡ 96 + tiles_of m). absurd (omega (arith, q, below)))
+      ∙ get_or-set_other m (tiles_of m) 193 row 0 (λ (q : 193 ≡ tiles_of m). absurd (omega (arith, q, below)))
 
 has-met-requires : tie.Need-has-met-requires
 has-met-requires c κs = tt
@@ -100,7 +100,7 @@ add-met-4 c =
     let args = c.before.before.before.before.before.before.before.before.before.before.args in
     let ok = sym c.before.before.before.before.before.has_room.ensures ∙ not-false _ c.before.before.before.before.if2.false in
     let m = args.met.now in
-    let pages = kept m args.pages args.budget ok (args.key.row + 1) args.key.col (tilesOf m + 1) in
+    let pages = kept m args.pages args.budget ok (args.key.row + 1) args.key.col (tiles_of m + 1) in
     omega (arith, within m args.pages args.budget ok, pages)
 
 element-write-met-4 : tie.Need-element-write-met-4
@@ -114,8 +114,8 @@ returns-3 c =
     let ok = sym c.before.before.before.before.before.has_room.ensures ∙ not-false _ c.before.before.before.before.if2.false in
     (rw (new, ok), rw (new, ok, kept args.met.now args.pages args.budget ok))
 
-pub meet-spec : {M : Type 1} → statement M
-meet-spec =
+pub meet_spec : {M : Type 1} → statement M
+meet_spec =
     tie.close
     (tie.spec
     has-met-requires

@@ -6,33 +6,33 @@ use mathlib.Core.List.{List}
 use native.Mathlib.Omega.{arith}
 use borrow.Author.Rules.{rules}
 use Rattle.predict.specs.declared.outgoing.Leg.{Leg}
-use Rattle.predict.specs.Outgoing.{pointAt, reaches, farFrom, farPoint}
+use Rattle.predict.specs.Outgoing.{point_at, reaches, far_from, far_point}
 use Rattle.predict.proofs.outgoing.far_point.Statement.{statement}
 use Rattle.predict.proofs.outgoing.far_point.Tie as tie
 
 -- the definition at its last point, at one that lies far enough, and past one that doesn't
-module _ (leg : Leg) (bs : List ℕ) (lonUm : ℕ) where
-  far-last : (left i : ℕ) → left ≡ 0 → farFrom left leg bs lonUm i ≡ pointAt leg bs i
-  unfolding farFrom
-  far-last zero i e = refl
-  far-last (suc left) i e = absurd (omega arith)
+module _ (leg : Leg) (bs : List ℕ) (lon_um : ℕ) where
+  far_last : (left i : ℕ) → left ≡ 0 → far_from left leg bs lon_um i ≡ point_at leg bs i
+  unfolding far_from
+  far_last zero i e = refl
+  far_last (suc left) i e = absurd (omega arith)
 
-  far-hit : (left i : ℕ) → reaches (pointAt leg bs i) (pointAt leg bs 0) lonUm ≡ true → farFrom left leg bs lonUm i ≡ pointAt leg bs i
-  unfolding farFrom
-  far-hit zero i e = refl
-  far-hit (suc left) i e = rw e
+  far_hit : (left i : ℕ) → reaches (point_at leg bs i) (point_at leg bs 0) lon_um ≡ true → far_from left leg bs lon_um i ≡ point_at leg bs i
+  unfolding far_from
+  far_hit zero i e = refl
+  far_hit (suc left) i e = rw e
 
-  far-on : (more left i : ℕ) → more + 1 ≡ left → reaches (pointAt leg bs i) (pointAt leg bs 0) lonUm ≡ false
-      → farFrom more leg bs lonUm (i + 1) ≡ farFrom left leg bs lonUm i
-  unfolding farFrom
-  far-on more zero i e r = absurd (omega arith)
-  far-on more (suc left) i e r = let same : more ≡ left = omega arith in rw (r, same)
+  far_on : (more left i : ℕ) → more + 1 ≡ left → reaches (point_at leg bs i) (point_at leg bs 0) lon_um ≡ false
+      → far_from more leg bs lon_um (i + 1) ≡ far_from left leg bs lon_um i
+  unfolding far_from
+  far_on more zero i e r = absurd (omega arith)
+  far_on more (suc left) i e r = let same : more ≡ left = omega arith in rw (r, same)
 
 abbrev invariant-loop : tie.invariant-loop
-invariant-loop base leg bytes lon-um origin last i₀ i = (1 ≤ i) × ((i ≤ last) × (farFrom (last - i) leg bytes lon-um i ≡ farPoint leg bytes lon-um))
+invariant-loop base leg bytes lon_um origin last i₀ i = (1 ≤ i) × ((i ≤ last) × (far_from (last - i) leg bytes lon_um i ≡ far_point leg bytes lon_um))
 
 abbrev decreases-loop : tie.decreases-loop
-decreases-loop base leg bytes lon-um origin last i₀ i = last - i
+decreases-loop base leg bytes lon_um origin last i₀ i = last - i
 
 cast-last : tie.Need-overflow-cast-last invariant-loop decreases-loop
 cast-last c = search rules
@@ -54,9 +54,9 @@ point-at-requires c κs =
 returns : tie.Need-returns invariant-loop decreases-loop
 returns c =
     let args = c.before.before.before.before.before.before.args in
-    let at-loop = c.before.before.loop in
-    c.before.point_at.ensures ∙ sym (far-last args.leg args.bytes.now args.lon-um _ at-loop.i (omega (arith, c.if1.true)))
-    ∙ at-loop.invariant.1.1
+    let at_loop = c.before.before.loop in
+    c.before.point_at.ensures ∙ sym (far_last args.leg args.bytes.now args.lon-um _ at_loop.i (omega (arith, c.if1.true)))
+    ∙ at_loop.invariant.1.1
 
 reaches-requires : tie.Need-reaches-requires invariant-loop decreases-loop
 reaches-requires c κs = tt
@@ -66,10 +66,10 @@ returns-2 c =
     let start = c.before.before.before.before.before.before.before.before in
     let args = start.args in
     let point = c.before.before.before in
-    let at-loop = point.before.loop in
+    let at_loop = point.before.loop in
     let hit = sym c.before.reaches.ensures ∙ c.if2.true in
     let far = rw (point.point_at.ensures, start.requires.1.1) at hit in
-    point.point_at.ensures ∙ sym (far-hit args.leg args.bytes.now args.lon-um _ at-loop.i far) ∙ at-loop.invariant.1.1
+    point.point_at.ensures ∙ sym (far_hit args.leg args.bytes.now args.lon-um _ at_loop.i far) ∙ at_loop.invariant.1.1
 
 add-i : tie.Need-overflow-add-i invariant-loop decreases-loop
 add-i c = omega (arith, c.before.before.if1.false)
@@ -82,19 +82,19 @@ loop-again c =
     let start = c.before.before.before.before.before.before.before.before in
     let args = start.args in
     let point = c.before.before.before in
-    let at-loop = point.before.loop in
+    let at_loop = point.before.loop in
     let missed = sym c.before.reaches.ensures ∙ c.if2.false in
     let near = rw (point.point_at.ensures, start.requires.1.1) at missed in (
       omega arith,
       (
         omega (arith, c.before.before.if1.false),
-        far-on args.leg args.bytes.now args.lon-um _ _ at-loop.i (omega (arith, c.before.before.if1.false)) near
-            ∙ at-loop.invariant.1.1,
+        far_on args.leg args.bytes.now args.lon-um _ _ at_loop.i (omega (arith, c.before.before.if1.false)) near
+            ∙ at_loop.invariant.1.1,
       ),
     )
 
-pub far-point-spec : {M : Type 1} → statement M
-far-point-spec =
+pub far_point_spec : {M : Type 1} → statement M
+far_point_spec =
     tie.close
     (tie.spec
     invariant-loop

@@ -3,9 +3,9 @@ use mathlib.Core.Path.{◌∙◌}
 use mir.Facts.{to_z-of_z}
 use mir.Syntax.{w32}
 use borrow.Author.Rules.{rules}
-use Rattle.predict.specs.Outgoing.{outgoingOf}
+use Rattle.predict.specs.Outgoing.{outgoing_of}
 use Rattle.predict.proofs.Signed.{sf}
-use Rattle.predict.proofs.SpotLaws.{east-is, north-is}
+use Rattle.predict.proofs.SpotLaws.{east_is, north_is}
 use Rattle.predict.proofs.outgoing.outgoing_of.Statement.{statement}
 use Rattle.predict.proofs.outgoing.outgoing_of.Tie as tie
 
@@ -28,39 +28,39 @@ bearing-requires : tie.Need-bearing-requires
 bearing-requires c κs = tt
 
 returns : tie.Need-returns
-unfolding outgoingOf
+unfolding outgoing_of
 returns c =
     let north = c.before in
-    let from-lat = north.before in
-    let to-lat = from-lat.before in
-    let east = to-lat.before in
-    let from-lon = east.before in
-    let to-lon = from-lon.before in
-    let found = to-lon.before in
+    let from_lat = north.before in
+    let to_lat = from_lat.before in
+    let east = to_lat.before in
+    let from_lon = east.before in
+    let to_lon = from_lon.before in
+    let found = to_lon.before in
     let first = found.before in
     let far = found.far-point.result in
     let origin = first.point_at.result in
-    let lon-um = first.before.before.before.args.lon-um in
+    let lon_um = first.before.before.before.args.lon-um in
     let easts =
     rw (
-      to_z-of_z (sf w32 far.lon to-lon.struct_told.given.1.0.1),
-      to_z-of_z (sf w32 origin.lon from-lon.struct-told2.given.1.0.1),
+      to_z-of_z (sf w32 far.lon to_lon.struct_told.given.1.0.1),
+      to_z-of_z (sf w32 origin.lon from_lon.struct-told2.given.1.0.1),
     ) at east.east.ensures in
     let norths =
     rw (
-      to_z-of_z (sf w32 far.lat to-lat.struct-told3.given.0.1),
-      to_z-of_z (sf w32 origin.lat from-lat.struct-told4.given.0.1),
+      to_z-of_z (sf w32 far.lat to_lat.struct-told3.given.0.1),
+      to_z-of_z (sf w32 origin.lat from_lat.struct-told4.given.0.1),
     ) at north.north.ensures in
     rw (
       c.bearing.ensures,
-      easts ∙ east-is far origin lon-um,
-      norths ∙ north-is far origin lon-um,
+      easts ∙ east_is far origin lon_um,
+      norths ∙ north_is far origin lon_um,
       found.far-point.ensures,
       first.point_at.ensures,
     )
 
-pub outgoing-of-spec : {M : Type 1} → statement M
-outgoing-of-spec =
+pub outgoing_of_spec : {M : Type 1} → statement M
+outgoing_of_spec =
     tie.close
     (tie.spec
     vertices-at-requires

@@ -3,7 +3,7 @@ use borrow.Author.Rules.{rules}
 use mir.Facts.{to_z-of_z}
 use mir.Syntax.{w32}
 use Rattle.predict.proofs.Signed.{sf, got}
-use Rattle.predict.specs.Ridden.{backStep}
+use Rattle.predict.specs.Ridden.{back_step}
 use Rattle.predict.proofs.ridden.back_step.Statement.{statement}
 use Rattle.predict.proofs.ridden.back_step.Tie as tie
 
@@ -35,7 +35,7 @@ same_length : tie.Need-same-length
 same_length c = search rules
 
 returns : tie.Need-returns
-unfolding backStep
+unfolding back_step
 returns c =
     let push = c.before.before in
     let there = push.before.before in
@@ -69,7 +69,7 @@ same-length-2 : tie.Need-same-length-2
 same-length-2 c = search rules
 
 returns-2 : tie.Need-returns-2
-unfolding backStep
+unfolding back_step
 returns-2 c =
     let push = c.before in
     let near = push.before.before in
@@ -94,8 +94,8 @@ returns-2 c =
     ) at push.push-on2.ensures in
     (rw (short, pushes.0, step.step_of_lem.ensures, point.point.ensures, node.node_at.ensures), rw short pushes.1)
 
-pub back-step-spec : {M : Type 1} → statement M
-back-step-spec =
+pub back_step_spec : {M : Type 1} → statement M
+back_step_spec =
     tie.close
     (tie.spec
     vertices-at-requires

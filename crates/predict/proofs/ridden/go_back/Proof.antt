@@ -5,21 +5,21 @@ use mathlib.Core.Path.{◌≡◌, refl, sym, ap, ◌∙◌}
 use native.Mathlib.Omega.{arith}
 use borrow.Author.Rules.{rules}
 use lib.ListN.{length}
-use Rattle.predict.specs.Ridden.{Backs, backsTo, backs}
-use Rattle.predict.proofs.BackLaws.{both, backs-start, backs-on, backs-over}
+use Rattle.predict.specs.Ridden.{Backs, backs_to, backs}
+use Rattle.predict.proofs.BackLaws.{both, backs_start, backs_on, backs_over}
 use Rattle.predict.proofs.ridden.go_back.Statement.{statement}
 use Rattle.predict.proofs.ridden.go_back.Tie as tie
 
 abbrev invariant-loop : tie.invariant-loop
-invariant-loop trip leg bytes lon-um reach from heights₀ last d₀ i₀ heights d i =
+invariant-loop trip leg bytes lon_um reach from heights₀ last d₀ i₀ heights d i =
     (from ≤ i)
     × ((i - from ≤ last + 1 - from)
     × ((length heights ≡ length heights₀)
     × (record { back = d; heights = heights }
-    ≡ backsTo trip leg bytes lon-um reach from (record { back = d₀; heights = heights₀ }) (i - from))))
+    ≡ backs_to trip leg bytes lon_um reach from (record { back = d₀; heights = heights₀ }) (i - from))))
 
 abbrev decreases-loop : tie.decreases-loop
-decreases-loop trip leg bytes lon-um reach from heights₀ last d₀ i₀ heights d i = last + 1 - i
+decreases-loop trip leg bytes lon_um reach from heights₀ last d₀ i₀ heights d i = last + 1 - i
 
 cast-last : tie.Need-overflow-cast-last invariant-loop decreases-loop
 cast-last c = search rules
@@ -31,7 +31,7 @@ loop-holds : tie.Need-loop-init invariant-loop decreases-loop
 loop-holds c =
     let args = c.before.before.before.args in
     let none : args.from - args.from ≡ 0 = omega arith in
-    let start = backs-start args.trip args.leg args.bytes.now args.lon-um args.reach args.from _ in
+    let start = backs_start args.trip args.leg args.bytes.now args.lon-um args.reach args.from _ in
     (omega arith, (omega arith, (refl, rw none (sym start))))
 
 same_length : tie.Need-same-length invariant-loop decreases-loop
@@ -43,7 +43,7 @@ returns c =
     let l = c.before.before.loop in
     let args = c.before.before.before.before.before.before.args in
     let e =
-    sym (backs-over args.trip args.leg args.bytes.now args.lon-um args.reach args.from _ (l.i - args.from)
+    sym (backs_over args.trip args.leg args.bytes.now args.lon-um args.reach args.from _ (l.i - args.from)
     (args.leg.edge.vertices + 1 + 1 - args.from) _ l.invariant.1.1.1 c.if1.true (omega (arith, l.invariant.1.0))) in
     (ap (λ (x : Backs). x.back) e, ap (λ (x : Backs). x.heights) e)
 
@@ -66,7 +66,7 @@ loop-again c =
     let here : args.from + (l.i - args.from) ≡ l.i = omega arith in
     let on =
     rw (next, here) at
-    (backs-on args.trip args.leg args.bytes.now args.lon-um args.reach args.from _ (l.i - args.from) _ l.invariant.1.1.1
+    (backs_on args.trip args.leg args.bytes.now args.lon-um args.reach args.from _ (l.i - args.from) _ l.invariant.1.1.1
     going.if1.false) in
     (omega arith, (omega arith, (omega arith, both _ _ _ step.ensures.0 step.ensures.1 ∙ sym on)))
 
@@ -82,8 +82,8 @@ returns-2 c =
     let e = rw done at l.invariant.1.1.1 in
     (ap (λ (x : Backs). x.back) e, ap (λ (x : Backs). x.heights) e)
 
-pub go-back-spec : {M : Type 1} → statement M
-go-back-spec =
+pub go_back_spec : {M : Type 1} → statement M
+go_back_spec =
     tie.close
     (tie.spec
     invariant-loop

@@ -4,14 +4,14 @@ use mathlib.Core.Path.{◌≡◌, refl}
 use lib.Ieee.{binary32, of_bits, of_int}
 use borrow.Author.Rules.{rules}
 use Rattle.geo.specs.Flat.{whole}
-use Rattle.geo.proofs.Literals.{literal-0}
+use Rattle.geo.proofs.Literals.{literal_0}
 use Rattle.predict.specs.Ridden.{ridden}
 use Rattle.predict.proofs.ridden.ridden.Statement.{statement}
 use Rattle.predict.proofs.ridden.ridden.Tie as tie
 
-literal-200 : of_bits binary32 1128792064 ≡ whole 200
+literal_200 : of_bits binary32 1128792064 ≡ whole 200
 unfolding of_bits of_int
-literal-200 = refl
+literal_200 = refl
 
 min-requires : tie.Need-min-requires
 min-requires c κs = tt
@@ -47,13 +47,13 @@ returns c =
       push.push-on.ensures.0,
       push.push-on.ensures.1,
       least.min.ensures,
-      literal-0,
-      literal-200,
+      literal_0,
+      literal_200,
     ) at last.last-sample.ensures in
     (written.0, written.1)
 
-pub ridden-spec : {M : Type 1} → statement M
-ridden-spec =
+pub ridden_spec : {M : Type 1} → statement M
+ridden_spec =
     tie.close
     (tie.spec
     min-requires

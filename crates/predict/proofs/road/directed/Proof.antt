@@ -1,10 +1,10 @@
--- `predict::road::directed` meets its contract: what the code answers over the numbers, closed, is the definition's answer (`looks-predict`).
+-- `predict::road::directed` meets its contract: what the code answers over the numbers, closed, is the definition's answer (`looks_predict`).
 use mathlib.Core.Path.{sym, ap, ◌∙◌}
 use lib.ListN.{length-map}
 use borrow.Author.Rules.{rules}
 use Rattle.cache.specs.Stands.{Sized}
 use Rattle.predict.specs.Predict.{After}
-use Rattle.predict.proofs.InCache.{looks-predict}
+use Rattle.predict.proofs.InCache.{looks_predict}
 use Rattle.predict.proofs.road.directed.Statement.{statement}
 use Rattle.predict.proofs.road.directed.Tie as tie
 
@@ -34,11 +34,11 @@ returns c =
       slots = sym (length-map args.c.pages.slots _) ∙ start.well-formed.0.1.1.0.1.1.0.1.0.1;
       used = sym (length-map args.c.pages.used _) ∙ start.well-formed.0.1.1.0.1.1.1.0.1.0.1;
     } in
-    let whole = looks-predict args.c sized args.arena.now args.header args.start args.horizon-m args.samples.now args.behind.now in
+    let whole = looks_predict args.c sized args.arena.now args.header args.start args.horizon-m args.samples.now args.behind.now in
     let answered = rw numbers.lookups-of.ensures at road.from-looks.ensures in (
       rw (c.closed.ensures, answered.0, answered.1.0) (ap (λ (a : After). a.predicted) whole),
       (answered.1.1.0 ∙ ap (λ (a : After). a.samples) whole, answered.1.1.1 ∙ ap (λ (a : After). a.behind) whole),
     )
 
-pub directed-spec : {M : Type 1} → statement M
-directed-spec = tie.close (tie.spec lookups-of-requires from-looks-requires closed-requires same_length same-length-2 returns)
+pub directed_spec : {M : Type 1} → statement M
+directed_spec = tie.close (tie.spec lookups-of-requires from-looks-requires closed-requires same_length same-length-2 returns)

@@ -33,8 +33,8 @@ returns-3 c = rw c.before.ending2.given.1
 returns-4 : tie.Need-returns-4
 returns-4 c = rw c.enum-told2.given.1
 
-pub outcome-spec : {M : Type 1} → statement M
-outcome-spec =
+pub outcome_spec : {M : Type 1} → statement M
+outcome_spec =
     tie.close
     (tie.spec
     enum_told

@@ -32,5 +32,5 @@ returns-2 c =
     let inside = sym grid.before.in-grid.ensures ∙ not-false _ grid.if1.false in
     rw inside road.directed.ensures
 
-pub predicted-spec : {M : Type 1} → statement M
-predicted-spec = tie.close (tie.spec in-grid-requires refused-requires returns directed-requires same_length same-length-2 returns-2)
+pub predicted_spec : {M : Type 1} → statement M
+predicted_spec = tie.close (tie.spec in-grid-requires refused-requires returns directed-requires same_length same-length-2 returns-2)

@@ -1,4 +1,4 @@
--- `predict::road::road_of` meets its contract: by the answers of its callees, in the definition's order (`road-is`), with the literal read as a
+-- `predict::road::road_of` meets its contract: by the answers of its callees, in the definition's order (`road_is`), with the literal read as a
 -- whole number.
 use Prim.Native.Nat.{ℕ}
 use mathlib.Core.Path.{◌≡◌, ◌∙◌}
@@ -12,7 +12,7 @@ use Rattle.tile.specs.declared.Edge.{Edge}
 use Rattle.tile.specs.declared.Head.{Head}
 use Rattle.geo.specs.declared.Point.{Point}
 use Rattle.geo.specs.Flat.{whole as whole_of}
-use Rattle.geo.proofs.Literals.{literal-0}
+use Rattle.geo.proofs.Literals.{literal_0}
 use Rattle.matcher.specs.declared.Matched.{Matched}
 use Rattle.predict.specs.declared.Followed.{Followed}
 use Rattle.predict.specs.declared.Mark.{Mark}
@@ -24,39 +24,39 @@ use Rattle.predict.specs.declared.ridden.Behind.{Behind}
 use Rattle.predict.specs.Samples.{pushed}
 use Rattle.predict.specs.Start.{place}
 use Rattle.predict.specs.Ridden as Ridden
-use Rattle.predict.specs.Visits.{nothingVisited}
-use Rattle.predict.specs.Meets.{nothingMet, budget}
+use Rattle.predict.specs.Visits.{nothing_visited}
+use Rattle.predict.specs.Meets.{nothing_met, budget}
 use Rattle.predict.specs.Walk.{follow, followed}
-use Rattle.predict.specs.Predict.{legOf, noMark, trackFrom, walkFrom, outcome, roadOver, roadOf}
+use Rattle.predict.specs.Predict.{leg_of, no_mark, track_from, walk_from, outcome, road_over, road_of}
 use Rattle.predict.proofs.road.road_of.Statement.{statement}
 use Rattle.predict.proofs.road.road_of.Tie as tie
 
 module _ (looks arena : List ℕ) (n : ℕ) (trip : Trip) (m : Matched) (forward : Bool) (bs : List ℕ) (samples behind : List ℤ) where
-  road-is : {head : Head} {edge : Edge} {here : Point} {back leg : Leg} {b : Behind} {back-heights heights : List ℤ} {none mark : Mark} {zero : Float} {w : Walk}
-      {t : Track} {room : ℕ} {f : Followed} {looks-left : List ℕ} {all : List ℤ}
+  road_is : {head : Head} {edge : Edge} {here : Point} {back leg : Leg} {b : Behind} {back_heights heights : List ℤ} {none mark : Mark} {zero : Float} {w : Walk}
+      {t : Track} {room : ℕ} {f : Followed} {looks_left : List ℕ} {all : List ℤ}
       → head ≡ Layout.head_of bs
       → edge ≡ Layout.edge_of bs m.edge
       → here ≡ place trip.header bs edge m
-      → back ≡ legOf trip.header m edge (not forward)
+      → back ≡ leg_of trip.header m edge (not forward)
       → b ≡ (Ridden.ridden trip back bs head.lon_um m here behind).behind
-      → back-heights ≡ (Ridden.ridden trip back bs head.lon_um m here behind).heights
-      → none ≡ noMark
+      → back_heights ≡ (Ridden.ridden trip back bs head.lon_um m here behind).heights
+      → none ≡ no_mark
       → zero ≡ whole_of 0
       → mark ≡ (pushed none samples zero (pos 0)).mark
       → heights ≡ (pushed none samples zero (pos 0)).heights
-      → leg ≡ legOf trip.header m edge forward
-      → w ≡ walkFrom m leg
-      → t ≡ trackFrom here mark
+      → leg ≡ leg_of trip.header m edge forward
+      → w ≡ walk_from m leg
+      → t ≡ track_from here mark
       → room ≡ budget n
-      → f ≡ followed (follow looks nothingVisited nothingMet arena trip room w t heights)
-      → looks-left ≡ (follow looks nothingVisited nothingMet arena trip room w t heights).carried
-      → all ≡ (follow looks nothingVisited nothingMet arena trip room w t heights).heights
-      → (outcome f.walk f.track b ≡ (roadOf looks arena n trip m forward bs samples behind).answer)
-      × ((looks-left ≡ (roadOf looks arena n trip m forward bs samples behind).carried)
-      × ((all ≡ (roadOf looks arena n trip m forward bs samples behind).samples)
-      × (back-heights ≡ (roadOf looks arena n trip m forward bs samples behind).behind)))
-  unfolding roadOf roadOver follow
-  road-is heads edges places backs rides written nones zeros marks fills legs walks tracks rooms follows leaves ends = (
+      → f ≡ followed (follow looks nothing_visited nothing_met arena trip room w t heights)
+      → looks_left ≡ (follow looks nothing_visited nothing_met arena trip room w t heights).carried
+      → all ≡ (follow looks nothing_visited nothing_met arena trip room w t heights).heights
+      → (outcome f.walk f.track b ≡ (road_of looks arena n trip m forward bs samples behind).answer)
+      × ((looks_left ≡ (road_of looks arena n trip m forward bs samples behind).carried)
+      × ((all ≡ (road_of looks arena n trip m forward bs samples behind).samples)
+      × (back_heights ≡ (road_of looks arena n trip m forward bs samples behind).behind)))
+  unfolding road_of road_over follow
+  road_is heads edges places backs rides written nones zeros marks fills legs walks tracks rooms follows leaves ends = (
     rw (follows, rides, rooms, tracks, walks, legs, fills, marks, zeros, nones, backs, places, edges, heads),
     (
       rw (leaves, rooms, tracks, walks, legs, fills, marks, zeros, nones, places, edges),
@@ -116,14 +116,14 @@ returns c =
     let pushed = c.before.before.before.before.before.before.before.before.before.before.before.before.push-on in
     let ridden = c.before.before.before.before.before.before.before.before.before.before.before.before.before.before.before.before.ridden in
     let whole =
-    road-is args.looks.now args.arena.now args.pages args.trip args.start args.forward args.bytes.now args.samples.now
+    road_is args.looks.now args.arena.now args.pages args.trip args.start args.forward args.bytes.now args.samples.now
     args.behind.now c.before.before.before.before.before.before.before.before.before.before.before.before.before.before.before.before.before.before.before.before.before.head.ensures c.before.before.before.before.before.before.before.before.before.before.before.before.before.before.before.before.before.before.before.before.edge.ensures c.before.before.before.before.before.before.before.before.before.before.before.before.before.before.before.before.before.before.before.place.ensures c.before.before.before.before.before.before.before.before.before.before.before.before.before.before.before.before.before.before.leg-of.ensures ridden.ensures.0 ridden.ensures.1
-    c.before.before.before.before.before.before.before.before.before.before.before.before.before.before.no-mark.ensures literal-0 pushed.ensures.0 pushed.ensures.1 c.before.before.before.before.before.before.before.before.before.before.leg-of2.ensures c.before.before.before.before.before.before.before.before.before.walk_from.ensures c.before.before.before.before.before.before.before.before.track-from.ensures
+    c.before.before.before.before.before.before.before.before.before.before.before.before.before.before.no-mark.ensures literal_0 pushed.ensures.0 pushed.ensures.1 c.before.before.before.before.before.before.before.before.before.before.leg-of2.ensures c.before.before.before.before.before.before.before.before.before.walk_from.ensures c.before.before.before.before.before.before.before.before.track-from.ensures
     c.before.before.before.before.before.before.before.budget.ensures walked.ensures.0 walked.ensures.1.0 walked.ensures.1.1.1.1 in
     (c.outcome.ensures ∙ whole.0, whole.1)
 
-pub road-of-spec : {M : Type 1} → statement M
-road-of-spec =
+pub road_of_spec : {M : Type 1} → statement M
+road_of_spec =
     tie.close
     (tie.spec
     head-requires

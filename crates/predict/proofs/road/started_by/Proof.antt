@@ -2,7 +2,7 @@
 use mir.Syntax.{w32}
 use borrow.Author.Rules.{rules}
 use Rattle.pack.proofs.Signed.{got}
-use Rattle.predict.specs.Predict.{startedBy}
+use Rattle.predict.specs.Predict.{started_by}
 use Rattle.predict.proofs.road.started_by.Statement.{statement}
 use Rattle.predict.proofs.road.started_by.Tie as tie
 
@@ -25,19 +25,19 @@ from-tile-requires : tie.Need-from-tile-requires
 from-tile-requires c κs = tt
 
 returns : tie.Need-returns
-unfolding startedBy
+unfolding started_by
 returns c =
     let told = c.enum_told.given.1 in
     (rw told, (rw told, (rw told, rw told)))
 
 returns-2 : tie.Need-returns-2
-unfolding startedBy
+unfolding started_by
 returns-2 c =
     let told = c.enum-told2.given.1 in
     (rw told, (rw told, (rw told, rw told)))
 
 returns-3 : tie.Need-returns-3
-unfolding startedBy
+unfolding started_by
 returns-3 c =
     let told = c.enum-told3.given.1 in
     (rw told, (rw told, (rw told, rw told)))
@@ -49,14 +49,14 @@ same-length-2 : tie.Need-same-length-2
 same-length-2 c = search rules
 
 returns-4 : tie.Need-returns-4
-unfolding startedBy
+unfolding started_by
 returns-4 c =
     let args = c.before.before.before.before.before.before.before.before.before.before.before.before.before.before.args in
     let height = got w32 {z = args.start.z_dm} c.before.before.before.before.before.before.before.struct_told.given.1.1.1.1.1.1.0.1 in
     rw c.before.before.before.before.before.before.before.before.before.answer.given.1 (rw (c.before.before.before.before.before.before.run-bytes.ensures, height) at c.before.before.from-tile.ensures)
 
-pub started-by-spec : {M : Type 1} → statement M
-started-by-spec =
+pub started_by_spec : {M : Type 1} → statement M
+started_by_spec =
     tie.close
     (tie.spec
     enum_told

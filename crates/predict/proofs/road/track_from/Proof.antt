@@ -1,6 +1,6 @@
 -- `predict::road::track_from` meets its contract: by the answer of its callee, with the literal read as a whole number.
-use Rattle.geo.proofs.Literals.{literal-0}
-use Rattle.predict.specs.Predict.{trackFrom}
+use Rattle.geo.proofs.Literals.{literal_0}
+use Rattle.predict.specs.Predict.{track_from}
 use Rattle.predict.proofs.road.track_from.Statement.{statement}
 use Rattle.predict.proofs.road.track_from.Tie as tie
 
@@ -8,8 +8,8 @@ first-requires : tie.Need-first-requires
 first-requires c κs = tt
 
 returns : tie.Need-returns
-unfolding trackFrom
-returns c = rw (c.first.ensures, literal-0)
+unfolding track_from
+returns c = rw (c.first.ensures, literal_0)
 
-pub track-from-spec : {M : Type 1} → statement M
-track-from-spec = tie.close (tie.spec first-requires returns)
+pub track_from_spec : {M : Type 1} → statement M
+track_from_spec = tie.close (tie.spec first-requires returns)

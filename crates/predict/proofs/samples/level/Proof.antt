@@ -8,7 +8,7 @@ use mir.Syntax.{w16}
 use mir.Val.{of_z, to_z}
 use borrow.Author.Rules.{rules}
 use Rattle.predict.specs.Samples.{Filled, filled}
-use Rattle.predict.proofs.SampleTurns.{always, fill-out, fill_stop, fill_on}
+use Rattle.predict.proofs.SampleTurns.{always, fill_out, fill_stop, fill_on}
 use Rattle.predict.proofs.samples.level.Statement.{statement}
 use Rattle.predict.proofs.samples.level.Tie as tie
 
@@ -71,12 +71,12 @@ returns-2 c =
     let start = c.before.before in
     let args = start.args in
     let l = c.before.loop in
-    let out = fill-out (always (to_z w16 (of_z w16 args.height))) args.distance (length l.heights - l.len) l.len l.heights (omega arith) in
+    let out = fill_out (always (to_z w16 (of_z w16 args.height))) args.distance (length l.heights - l.len) l.len l.heights (omega arith) in
     let e = rw (to_z-of_z start.ranges.height) at (sym out ∙ l.invariant.1) in
     (ap (λ (x : Filled). x.len) e, ap (λ (x : Filled). x.heights) e)
 
-pub level-spec : {M : Type 1} → statement M
-level-spec =
+pub level_spec : {M : Type 1} → statement M
+level_spec =
     tie.close
     (tie.spec
     invariant-loop

@@ -53,11 +53,11 @@ use Rattle.predict.specs.Samples.{Pushed}
 use Rattle.predict.specs.declared.Mark.{Mark}
 use Rattle.predict.specs.contracts.Mark as T
 use Rattle.predict.proofs.Mark.TheLaws as T'
-use Rattle.predict.proofs.Lent.{R, typed, had, dv, zv, Figures, figures, says_both, hears-both, local}
+use Rattle.predict.proofs.Lent.{R, typed, had, dv, zv, Figures, figures, says_both, hears_both, local}
 use Rattle.predict.specs.contracts.samples.pushed as pushed
-use Rattle.predict.proofs.samples.pushed.Symbol as pushed-def
+use Rattle.predict.proofs.samples.pushed.Symbol as pushed_def
 use Rattle.predict.proofs.samples.pushed.Symbol.{name as #samples·pushed}
-use Rattle.predict.proofs.samples.pushed.Met as pushed-thm
+use Rattle.predict.proofs.samples.pushed.Met as pushed_thm
 use Rattle.predict.specs.contracts.samples.push.Key.{name as #samples·push}
 use Rattle.predict.specs.contracts.samples.push as push
 use Rattle.predict.proofs.samples.push.Statement as stated
@@ -75,7 +75,7 @@ Core 𝓛 mem run = triple_of 𝓛 pushed.signature (pushed.spec 𝓛 mem run)
 
 module _ {M : Type 1} {𝓤 : Ura M} (𝓛 : Logic 𝓤) (at_mem : Memory → SProp 𝓤) (run : Routine → Fun 𝓤)
     (κ κ' : Lft) (q q' : Share) (b o : ℕ) (γ : GName) (h : Mark) (b' o' : ℕ) (γ' : GName) (ys : List ℤ) (d : Float) (z : ℤ)
-    (d-fits : fits binary32 d ≡ true) (z-fits : mag z < 2 ^ hbits w32) where
+    (d_fits : fits binary32 d ≡ true) (z_fits : mag z < 2 ^ hbits w32) where
   -- the lent heights, and what is pushed
   open 𝓛 use {H, A}
 
@@ -105,14 +105,14 @@ module _ {M : Type 1} {𝓤 : Ura M} (𝓛 : Logic 𝓤) (at_mem : Memory → SP
   Post = (walk_of 𝓛 push.ended stayed (push.clauses 𝓛 at_mem run)).post (((κ, (κ', tt)), (q, (q', tt)), tt, a, vals), tt)
 
   -- what `pushed`'s triple binds outside: the heights' own lifetime, share and value
-  abbrev to-pushed : (Core 𝓛 at_mem run).Ghost
-  to-pushed = (((κ', tt), (q', tt), tt, (h, (x, (d, (z, tt)))), (mach ∷ [], (s ∷ [], (dv d ∷ [], (zv z ∷ [], tt))))), tt)
+  abbrev to_pushed : (Core 𝓛 at_mem run).Ghost
+  to_pushed = (((κ', tt), (q', tt), tt, (h, (x, (d, (z, tt)))), (mach ∷ [], (s ∷ [], (dv d ∷ [], (zv z ∷ [], tt))))), tt)
 
   goes : Is R h (mach ∷ []) → ent 𝓤 (sep 𝓤 (sep 𝓤 (A.lft κ' q') (sem 𝓛 ftrue)) (sem 𝓛 ((MutSlice (named 0) κ' i16).own_val x (s ∷ []))))
-      ((Core 𝓛 at_mem run).pre to-pushed)
+      ((Core 𝓛 at_mem run).pre to_pushed)
   goes g =
       qed 𝓛 ((‵ (flft κ' q') ⊛ ‵ ftrue) ∷ ‵ ((MutSlice (named 0) κ' i16).own_val x (s ∷ [])) ∷ []) ∵
-      use0 𝓛 (‵ (Figures d z)) (figures 𝓛 d z d-fits z-fits) $ move ! (2 ∷ 0 ∷ []) $ fjoin ! $
+      use0 𝓛 (‵ (Figures d z)) (figures 𝓛 d z d_fits z_fits) $ move ! (2 ∷ 0 ∷ []) $ fjoin ! $
       use0 𝓛 (‵ (R.own_val h (mach ∷ []))) (had 𝓛 h mach g) $ fjoin ! $ move ! (1 ∷ 0 ∷ []) $ join ! $ frame ! $ done !
 
   -- what `pushed` hands back at the machine value w: the token, some mark, and what is ensured of it, at some last heights
@@ -131,13 +131,13 @@ module _ {M : Type 1} {𝓤 : Ura M} (𝓛 : Logic 𝓤) (at_mem : Memory → SP
   left m zs = ‵ (fobs γ (R.coded.code m)) ∷ ‵ (fbor κ (Body (mem R) b o γ)) ∷ ‵ (flft κ q) ∷ (‵ (flft κ' q') ⊛ ‵ ftrue) ∷ ‵ (finally i16 γ' zs) ∷ []
 
   exits : (m : Mark) (zs : List ℤ) → m ≡ p.mark → zs ≡ p.heights → length zs ≡ length ys → ent 𝓤 (⋆ 𝓛 (left m zs)) (Post vunit)
-  exits m zs is-mark is-heights l =
+  exits m zs is_mark is_heights l =
       qed 𝓛 (left m zs) ∵
       suffices ! _ (ends_at 𝓛 push.ended stayed (push.clauses 𝓛 at_mem run) (((κ, (κ', tt)), (q, (q', tt)), tt, a, vals), tt) vunit tt
       (m, (zs, (tt, (tt, tt)))) (tt, (l, (tt, (tt, tt))))) $
-      says_both ! is-mark is-heights $
+      says_both ! is_mark is_heights $
       move ! (2 ∷ 3 ∷ []) $ join ! $ frame ! $ feq_i ! (List Val) (vptr b o ∷ []) (vptr b o ∷ []) refl $ fjoin3 ! $
-      use0 𝓛 (‵ (Figures d z)) (figures 𝓛 d z d-fits z-fits) $ move ! (2 ∷ 0 ∷ []) $ fjoin ! $ move ! (1 ∷ 0 ∷ []) $ fjoin ! $
+      use0 𝓛 (‵ (Figures d z)) (figures 𝓛 d z d_fits z_fits) $ move ! (2 ∷ 0 ∷ []) $ fjoin ! $ move ! (1 ∷ 0 ∷ []) $ fjoin ! $
       feq_i ! (List Val) (vunit ∷ []) (vunit ∷ []) refl $ move ! (1 ∷ 0 ∷ []) $ done !
 
   module _ (C : Calls 𝓤 H) (Λ : Loops 𝓤 H) (fm : FmC 𝓤 H 𝓛.laws C) (known : Triple 𝓤 (C #samples·pushed) (Core 𝓛 at_mem run)) where
@@ -149,7 +149,7 @@ module _ {M : Type 1} {𝓤 : Ura M} (𝓛 : Logic 𝓤) (at_mem : Memory → SP
         alloc1 ! (λ l₀. alloc1 ! (λ l₁. alloc1 ! (λ l₂. alloc1 ! (λ l₃. alloc1 ! (λ l₄.
         alloc1 ! (λ l₅. alloc1 ! (λ l₆. alloc1 ! (λ l₇. alloc1 ! (λ l₈. alloc0 ! $
         params1 ! $ pass1 ! (init ! 14 refl (tt, tt)) $ pass1 ! (init ! 12 refl (tt, (tt, (record { fits = room.0 }, tt)))) $
-        pass1 ! (init ! 10 refl (tt, passes _ d-fits)) $ pass1 ! (init ! 8 refl ((sint_Lawful 𝓛 w32).typed z _ (refl, z-fits)).0) $ pass0 ! $
+        pass1 ! (init ! 10 refl (tt, passes _ d_fits)) $ pass1 ! (init ! 8 refl ((sint_Lawful 𝓛 w32).typed z _ (refl, z_fits)).0) $ pass0 ! $
         -- the mark's borrow is opened
         move ! (19 ∷ []) $ fsplit ! $ fsplit3 ! $ drop ! $ move ! (21 ∷ []) $ split ! $ move ! (2 ∷ 3 ∷ 0 ∷ []) $
         opens ! tt R {h = h} b o (λ vs.
@@ -164,11 +164,11 @@ module _ {M : Type 1} {𝓤 : Ura M} (𝓛 : Logic 𝓤) (at_mem : Memory → SP
         (and_then ! (load ! (from ! (fld ! refl (stop !))) (look_in ! 19 (sub ! 1 refl (whole !)))) (no_more !))))
         (from ! (stop !)) (init ! 7 refl (tt, (tt, (record { fits = room.0 }, tt)))) $
         -- `pushed`
-        move ! (6 ∷ []) $ fsplit ! $ move ! (7 ∷ 0 ∷ []) $ use2 𝓛 (raw ((Core 𝓛 at_mem run).pre to-pushed)) (goes g) $
-        calls_at ! fm (Core 𝓛 at_mem run) known to-pushed
+        move ! (6 ∷ []) $ fsplit ! $ move ! (7 ∷ 0 ∷ []) $ use2 𝓛 (raw ((Core 𝓛 at_mem run).pre to_pushed)) (goes g) $
+        calls_at ! fm (Core 𝓛 at_mem run) known to_pushed
         (and_then ! (local ! 11 refl) (and_then ! (local ! 7 refl) (and_then ! (local ! 17 refl) (and_then ! (local ! 15 refl) (no_more !))))) (λ w.
         use1 𝓛 (back w) (id⊢ 𝓤 _) $ await ! tt $ pick ! (λ m. split ! $ move ! (1 ∷ []) $ use1 𝓛 (told m) (id⊢ 𝓤 _) $ pick ! (λ ws. split ! $
-        move ! (1 ∷ []) $ hears-both ! (m ≡ p.mark) (ws.1.0 ≡ p.heights) (λ is-mark is-heights.
+        move ! (1 ∷ []) $ hears_both ! (m ≡ p.mark) (ws.1.0 ≡ p.heights) (λ is_mark is_heights.
         fsplit ! $ drop ! $ fsplit ! $ fsplit ! $ move ! (1 ∷ []) $ feq_l ! (λ l.
         -- [the last heights; …; the token and the result; …]
         move ! (2 ∷ []) $ split ! $ move ! (1 ∷ []) $ peeks ! R (Is R) (shows 𝓛 R) m (w ∷ []) (λ is.
@@ -182,14 +182,14 @@ module _ {M : Type 1} {𝓤 : Ura M} (𝓛 : Logic 𝓤) (at_mem : Memory → SP
         move ! (24 ∷ 25 ∷ []) $ free1 ! $ move ! (22 ∷ 23 ∷ []) $ free1 ! $ move ! (20 ∷ 21 ∷ []) $ free1 ! $ move ! (18 ∷ 19 ∷ []) $ free1 ! $
         move ! (16 ∷ 17 ∷ []) $ free1 ! $ move ! (14 ∷ 15 ∷ []) $ free1 ! $ move ! (12 ∷ 13 ∷ []) $ free1 ! $ move ! (10 ∷ 11 ∷ []) $ free1 ! $
         move ! (8 ∷ 9 ∷ []) $ free1 ! $ free0 ! $
-        keep ! (0 ∷ 1 ∷ 2 ∷ 3 ∷ 4 ∷ []) $ by ! (exits m ws.1.0 is-mark is-heights l))))))))))))))))))
+        keep ! (0 ∷ 1 ∷ 2 ∷ 3 ∷ 4 ∷ []) $ by ! (exits m ws.1.0 is_mark is_heights l))))))))))))))))))
 
 module _ {M : Type 1} {𝓤 : Ura M} (𝓛 : Logic 𝓤) (mem : Memory → SProp 𝓤) (run : Routine → Fun 𝓤) where
   open 𝓛 use {H}
 
-  push-walks : (C : Calls 𝓤 H) (Λ : Loops 𝓤 H) → FmC 𝓤 H 𝓛.laws C → Triple 𝓤 (C #samples·pushed) (Core 𝓛 mem run)
+  push_walks : (C : Calls 𝓤 H) (Λ : Loops 𝓤 H) → FmC 𝓤 H 𝓛.laws C → Triple 𝓤 (C #samples·pushed) (Core 𝓛 mem run)
       → Walks 𝓛 push.ended stayed (WpFn 𝓤 H C Λ code.function) (push.clauses 𝓛 mem run)
-  push-walks C Λ fm known = walked 𝓛 push.ended stayed (push.clauses 𝓛 mem run) (WpFn 𝓤 H C Λ code.function)
+  push_walks C Λ fm known = walked 𝓛 push.ended stayed (push.clauses 𝓛 mem run) (WpFn 𝓤 H C Λ code.function)
       (λ κs. (mut_vals, (mut_slice_vals, (float_vals binary32, (sint_vals w32, tt)))))
       (λ κs. (mut_Tells (named 0) κs.0 R, (mut_slice_Tells (named 1) κs.1.0 i16, (float_Tells binary32, (sint_Tells w32, tt)))))
       (λ κs qs bounds a g are. via 𝓤 _ (fst∗ 𝓤 _ (emp 𝓤))
@@ -197,10 +197,10 @@ module _ {M : Type 1} {𝓤 : Ura M} (𝓛 : Logic 𝓤) (mem : Memory → SProp
       a.1.0.ref_ptr.1 a.1.0.ghost_name a.1.0.now a.1.1.0 a.1.1.1.0 are.1.1.0.1 are.1.1.1.0.1 C Λ fm known
       are.1.0.0.1))
 
-push-meets : {M : Type 1} {𝓤 : Ura M} (𝓛 : Logic 𝓤) → (mem : Memory → SProp 𝓤) (run : Routine → Fun 𝓤) (𝓣 : Tables 𝓤 𝓛.H)
+push_meets : {M : Type 1} {𝓤 : Ura M} (𝓛 : Logic 𝓤) → (mem : Memory → SProp 𝓤) (run : Routine → Fun 𝓤) (𝓣 : Tables 𝓤 𝓛.H)
     → Triple 𝓤 (𝓣.C #samples·pushed) (Core 𝓛 mem run)
     → Meets 𝓛 push.signature (WpFn 𝓤 𝓛.H 𝓣.C 𝓣.Λ code.function) (push.spec 𝓛 mem run)
-push-meets {𝓤 = 𝓤} 𝓛 mem run 𝓣 known =
+push_meets {𝓤 = 𝓤} 𝓛 mem run 𝓣 known =
     walk_Meets 𝓛 push.ended stayed (
       Goes-ref 𝓛 2 0 tt (plain (λ _. R)),
       (
@@ -209,13 +209,13 @@ push-meets {𝓤 = 𝓤} 𝓛 mem run 𝓣 known =
       ),
     )
     (push.clauses 𝓛 mem run) (WpFn 𝓤 𝓛.H 𝓣.C 𝓣.Λ code.function) (WpFn-mono 𝓤 𝓛.H 𝓛.laws 𝓣 code.function)
-    (push-walks 𝓛 mem run 𝓣.C 𝓣.Λ (fm_of 𝓤 𝓛.H 𝓛.laws 𝓣) known)
+    (push_walks 𝓛 mem run 𝓣.C 𝓣.Λ (fm_of 𝓤 𝓛.H 𝓛.laws 𝓣) known)
 
 pub push_spec : {M : Type 1} → stated.statement M
 unfolding code.routine tables_of
 push_spec 𝓤 𝓛 𝓜 𝓡 =
     entered 𝓤 𝓛.H (triple_of 𝓛 push.signature (push.spec 𝓛 𝓜.mem 𝓡.run))
     (tables 𝓤 𝓛.H 𝓜 𝓡 code.env).C (tables 𝓤 𝓛.H 𝓜 𝓡 code.env).Λ #samples·push code.function (code.unfolded 𝓤 𝓛.H 𝓜 𝓡)
-    (push-meets 𝓛 𝓜.mem 𝓡.run (tables_of 𝓤 𝓛.H 𝓜 (tables 𝓤 𝓛.H 𝓜 𝓡 code.env))
-    (cited 𝓤 𝓛.H (Core 𝓛 𝓜.mem 𝓡.run) 𝓜 𝓡 code.env #samples·pushed pushed-def.routine code.calls-predict::samples::pushed
-    (pushed-thm.met 𝓤 𝓛 𝓜 𝓡)))
+    (push_meets 𝓛 𝓜.mem 𝓡.run (tables_of 𝓤 𝓛.H 𝓜 (tables 𝓤 𝓛.H 𝓜 𝓡 code.env))
+    (cited 𝓤 𝓛.H (Core 𝓛 𝓜.mem 𝓡.run) 𝓜 𝓡 code.env #samples·pushed pushed_def.routine code.calls-predict::samples::pushed
+    (pushed_thm.met 𝓤 𝓛 𝓜 𝓡)))

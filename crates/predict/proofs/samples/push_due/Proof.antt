@@ -5,7 +5,7 @@ use lib.ListN.{length}
 use mir.Facts.{to_z-of_z}
 use borrow.Author.Rules.{rules}
 use Rattle.predict.specs.Samples.{Pushed}
-use Rattle.predict.proofs.SampleTurns.{push-stop}
+use Rattle.predict.proofs.SampleTurns.{push_stop}
 use Rattle.predict.proofs.samples.push_due.Statement.{statement}
 use Rattle.predict.proofs.samples.push_due.Tie as tie
 
@@ -19,7 +19,7 @@ returns c =
     let heights = args.heights.now in
     let len = args.m.len in
     let past = rw c.before.sample-at.ensures at c.if1.true in
-    let stop = sym (push-stop args.m args.distance args.z (length heights - len) len heights past) in
+    let stop = sym (push_stop args.m args.distance args.z (length heights - len) len heights past) in
     rw (to_z-of_z start.ranges.z) (ap (λ (p : Pushed). p.mark) stop, ap (λ (p : Pushed). p.heights) stop)
 
 push-on-requires : tie.Need-push-on-requires
@@ -35,5 +35,5 @@ returns-2 c =
     let pushes = rw (to_z-of_z start.ranges.z) at push.push-on.ensures in
     (pushes.0, pushes.1)
 
-pub push-due-spec : {M : Type 1} → statement M
-push-due-spec = tie.close (tie.spec sample-at-requires returns push-on-requires same_length returns-2)
+pub push_due_spec : {M : Type 1} → statement M
+push_due_spec = tie.close (tie.spec sample-at-requires returns push-on-requires same_length returns-2)

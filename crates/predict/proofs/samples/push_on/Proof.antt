@@ -55,17 +55,17 @@ use Rattle.predict.specs.Samples.{Pushed}
 use Rattle.predict.specs.declared.Mark.{Mark}
 use Rattle.predict.specs.contracts.Mark as T
 use Rattle.predict.proofs.Mark.TheLaws as T'
-use Rattle.predict.proofs.Lent.{R, typed, had, dv, zv, Figures, figures, lies_in, lies_out, says_both, hears-both, local}
+use Rattle.predict.proofs.Lent.{R, typed, had, dv, zv, Figures, figures, lies_in, lies_out, says_both, hears_both, local}
 use Rattle.predict.specs.contracts.samples.push as push
-use Rattle.predict.proofs.samples.push.Symbol as push-def
+use Rattle.predict.proofs.samples.push.Symbol as push_def
 use Rattle.predict.proofs.samples.push.Symbol.{name as #samples·push}
-use Rattle.predict.proofs.samples.push.Met as push-thm
+use Rattle.predict.proofs.samples.push.Met as push_thm
 use Rattle.predict.specs.contracts.samples.push_on.Key.{name as #samples·push-on}
-use Rattle.predict.specs.contracts.samples.push_on as push-on
+use Rattle.predict.specs.contracts.samples.push_on as push_on
 use Rattle.predict.proofs.samples.push_on.Statement as stated
 use Rattle.predict.proofs.samples.push_on.Code as code
 
-abbrev stayed : Stays (push-on.ended).signature.params (push-on.ended).kept
+abbrev stayed : Stays (push_on.ended).signature.params (push_on.ended).kept
 stayed = (stay_none (λ _. R) yes, (gave_slice (0 ∷ []) tt (plain (λ _. i16)), (stay_none (λ _. f32) yes, (stay_none (λ _. i32) yes, tt))))
 
 -- the contract that the proof cites
@@ -74,7 +74,7 @@ Push 𝓛 mem run = triple_of 𝓛 push.signature (push.spec 𝓛 mem run)
 
 module _ {M : Type 1} {𝓤 : Ura M} (𝓛 : Logic 𝓤) (at_mem : Memory → SProp 𝓤) (run : Routine → Fun 𝓤)
     (κ : Lft) (q : Share) (h : Mark) (b o : ℕ) (γ : GName) (ys : List ℤ) (d : Float) (z : ℤ)
-    (d-fits : fits binary32 d ≡ true) (z-fits : mag z < 2 ^ hbits w32) where
+    (d_fits : fits binary32 d ≡ true) (z_fits : mag z < 2 ^ hbits w32) where
   -- the lent heights, the mark in the local at l, lent under the name δ, and what is pushed
   open 𝓛 use {H, A}
 
@@ -104,11 +104,11 @@ module _ {M : Type 1} {𝓤 : Ura M} (𝓛 : Logic 𝓤) (at_mem : Memory → SP
   vals = (mach ∷ [], (s ∷ [], (dv d ∷ [], (zv z ∷ [], tt))))
 
   abbrev Post : Val → SProp 𝓤
-  Post = (walk_of 𝓛 push-on.ended stayed (push-on.clauses 𝓛 at_mem run)).post (((κ, tt), (q, tt), tt, a, vals), tt)
+  Post = (walk_of 𝓛 push_on.ended stayed (push_on.clauses 𝓛 at_mem run)).post (((κ, tt), (q, tt), tt, a, vals), tt)
 
   -- what `push`'s triple binds outside: the local lent for the lifetime ν, and the heights' own lifetime, share and value
-  abbrev to-push : ℕ → ℕ → GName → (Push 𝓛 at_mem run).Ghost
-  to-push l ν δ = (
+  abbrev to_push : ℕ → ℕ → GName → (Push 𝓛 at_mem run).Ghost
+  to_push l ν δ = (
     (
       (ν ∷ [], (κ, tt)),
       (full_share, (q, tt)),
@@ -125,9 +125,9 @@ module _ {M : Type 1} {𝓤 : Ura M} (𝓛 : Logic 𝓤) (at_mem : Memory → SP
       (‵ (flft (ν ∷ []) full_share) ⊛ ‵ (flft κ q) ⊛ ‵ ftrue) ∷ ‵ ((MutRef (named 0) (ν ∷ []) R).own_val (y l δ) (vptr l 0 ∷ [])) ∷
       ‵ ((MutSlice (named 1) κ i16).own_val x (s ∷ [])) ∷ []
 
-  goes : (l ν : ℕ) (δ : GName) → ent 𝓤 (⋆ 𝓛 (passed l ν δ)) ((Push 𝓛 at_mem run).pre (to-push l ν δ))
+  goes : (l ν : ℕ) (δ : GName) → ent 𝓤 (⋆ 𝓛 (passed l ν δ)) ((Push 𝓛 at_mem run).pre (to_push l ν δ))
   goes l ν δ =
-      qed 𝓛 (passed l ν δ) ∵ use0 𝓛 (‵ (Figures d z)) (figures 𝓛 d z d-fits z-fits) $
+      qed 𝓛 (passed l ν δ) ∵ use0 𝓛 (‵ (Figures d z)) (figures 𝓛 d z d_fits z_fits) $
       move ! (3 ∷ 0 ∷ []) $ fjoin ! $ move ! (2 ∷ 0 ∷ []) $ fjoin ! $ move ! (1 ∷ 0 ∷ []) $ join ! $ frame ! $ done !
 
   -- what is lent: the local's borrow, and the lender's part
@@ -148,16 +148,16 @@ module _ {M : Type 1} {𝓤 : Ura M} (𝓛 : Logic 𝓤) (at_mem : Memory → SP
   exits : Is R h (mach ∷ []) → (m : Mark) (zs : List ℤ) → m ≡ p.mark → zs ≡ p.heights → length zs ≡ length ys
       → ent 𝓤 (sep 𝓤 (sep 𝓤 (A.lft κ q) (sem 𝓛 ftrue)) (sep 𝓤 (sem 𝓛 (finally i16 γ zs)) (sem 𝓛 (R.own_val m (T'.lowered m ∷ [])))))
       (Post (T'.lowered m))
-  exits g m zs is-mark is-heights l =
+  exits g m zs is_mark is_heights l =
       qed 𝓛 ((‵ (flft κ q) ⊛ ‵ ftrue) ∷ ‵ (finally i16 γ zs) ∷ ‵ (R.own_val m (T'.lowered m ∷ [])) ∷ []) ∵
-      suffices ! _ (ends_at 𝓛 push-on.ended stayed (push-on.clauses 𝓛 at_mem run) (((κ, tt), (q, tt), tt, a, vals), tt) (T'.lowered m) m
+      suffices ! _ (ends_at 𝓛 push_on.ended stayed (push_on.clauses 𝓛 at_mem run) (((κ, tt), (q, tt), tt, a, vals), tt) (T'.lowered m) m
       (tt, (zs, (tt, (tt, tt)))) (tt, (l, (tt, (tt, tt))))) $
-      says_both ! is-mark is-heights $ frame ! $
-      use0 𝓛 (‵ (Figures d z)) (figures 𝓛 d z d-fits z-fits) $ move ! (1 ∷ 0 ∷ []) $ fjoin ! $
+      says_both ! is_mark is_heights $ frame ! $
+      use0 𝓛 (‵ (Figures d z)) (figures 𝓛 d z d_fits z_fits) $ move ! (1 ∷ 0 ∷ []) $ fjoin ! $
       use0 𝓛 (‵ (R.own_val h (mach ∷ []))) (had 𝓛 h mach g) $ fjoin ! $ done !
 
   module _ (C : Calls 𝓤 H) (Λ : Loops 𝓤 H) (fm : FmC 𝓤 H 𝓛.laws C) (known : Triple 𝓤 (C #samples·push) (Push 𝓛 at_mem run)) where
-    walk : Is R h (mach ∷ []) → Room i16 (length ys) → ent 𝓤 (on_entry 𝓛 push-on.signature (κ, tt) (q, tt) a vals)
+    walk : Is R h (mach ∷ []) → Room i16 (length ys) → ent 𝓤 (on_entry 𝓛 push_on.signature (κ, tt) (q, tt) a vals)
         (WpFn 𝓤 H C Λ code.function (mach ∷ s ∷ dv d ∷ zv z ∷ []) Post)
     walk g room =
         qed 𝓛 ((‵ (flft κ q) ⊛ ‵ ftrue) ∷ ‵ (owns (R ∷ MutSlice (named 0) κ i16 ∷ f32 ∷ i32 ∷ []) a vals) ∷ []) ∵
@@ -165,7 +165,7 @@ module _ {M : Type 1} {𝓤 : Ura M} (𝓛 : Logic 𝓤) (at_mem : Memory → SP
         alloc1 ! (λ l₀. alloc1 ! (λ l₁. alloc1 ! (λ l₂. alloc1 ! (λ l₃. alloc1 ! (λ l₄.
         alloc1 ! (λ l₅. alloc1 ! (λ l₆. alloc1 ! (λ l₇. alloc1 ! (λ l₈. alloc1 ! (λ l₉. alloc0 ! $
         params1 ! $ pass1 ! (init ! 16 refl (typed 𝓛 h _ g)) $ pass1 ! (init ! 14 refl (tt, (tt, (record { fits = room.0 }, tt)))) $
-        pass1 ! (init ! 12 refl (tt, passes _ d-fits)) $ pass1 ! (init ! 10 refl ((sint_Lawful 𝓛 w32).typed z _ (refl, z-fits)).0) $ pass0 ! $
+        pass1 ! (init ! 12 refl (tt, passes _ d_fits)) $ pass1 ! (init ! 10 refl ((sint_Lawful 𝓛 w32).typed z _ (refl, z_fits)).0) $ pass0 ! $
         -- [_9; …; _8; …; _7; …; _6; …; _5; …; _4; …; _3; …; _2; …; _1; …; room for _0; …; the token; what m, heights, distance and z own]
         assigns ! (of_opd ! (local ! 16 refl)) (from ! (stop !)) (init ! 8 refl (typed 𝓛 h _ g)) $
         assigns ! (addr ! (from ! (stop !))) (from ! (stop !)) (init ! 4 refl (tt, tt)) $
@@ -180,11 +180,11 @@ module _ {M : Type 1} {𝓤 : Ura M} (𝓛 : Logic 𝓤) (at_mem : Memory → SP
         -- [the local's borrow; the lender's part; ν's token; what heights, distance and z own; _9; …; _8; …; _7; …; _6; …; …; _4; …; _3; …; _2; …;
         -- _1; …; room for _0; …; the token]
         move ! (3 ∷ []) $ fsplit ! $ move ! (4 ∷ 24 ∷ 2 ∷ 0 ∷ []) $ join ! $
-        use3 𝓛 (raw ((Push 𝓛 at_mem run).pre (to-push l₅ ν δ))) (goes l₅ ν δ) $
-        calls_at ! fm (Push 𝓛 at_mem run) known (to-push l₅ ν δ)
+        use3 𝓛 (raw ((Push 𝓛 at_mem run).pre (to_push l₅ ν δ))) (goes l₅ ν δ) $
+        calls_at ! fm (Push 𝓛 at_mem run) known (to_push l₅ ν δ)
         (and_then ! (local ! 7 refl) (and_then ! (local ! 3 refl) (and_then ! (local ! 14 refl) (and_then ! (local ! 12 refl) (no_more !))))) (λ w.
         use1 𝓛 (back l₅ ν δ w) (id⊢ 𝓤 _) $ await ! tt $ pick ! (λ r. split ! $ move ! (1 ∷ []) $ use1 𝓛 (told l₅ ν δ) (id⊢ 𝓤 _) $
-        pick ! (λ ws. split ! $ move ! (1 ∷ []) $ hears-both ! (ws.0 ≡ p.mark) (ws.1.0 ≡ p.heights) (λ is-mark is-heights.
+        pick ! (λ ws. split ! $ move ! (1 ∷ []) $ hears_both ! (ws.0 ≡ p.mark) (ws.1.0 ≡ p.heights) (λ is_mark is_heights.
         fsplit ! $ move ! (1 ∷ []) $ fsplit ! $ fsplit ! $ move ! (1 ∷ []) $ feq_l ! (λ l.
         -- [the last heights; …; the last mark; the tokens and the result; …]
         move ! (3 ∷ []) $ split ! $ move ! (1 ∷ []) $ facts ! unit (Is unit) (shows 𝓛 unit) r (w ∷ []) (λ is.
@@ -201,38 +201,38 @@ module _ {M : Type 1} {𝓤 : Ura M} (𝓛 : Logic 𝓤) (at_mem : Memory → SP
         move ! (23 ∷ 24 ∷ []) $ free1 ! $ move ! (21 ∷ 22 ∷ []) $ free1 ! $ move ! (19 ∷ 20 ∷ []) $ free1 ! $ move ! (17 ∷ 18 ∷ []) $ free1 ! $
         move ! (15 ∷ 16 ∷ []) $ free1 ! $ move ! (1 ∷ 14 ∷ []) $ free1 ! $ move ! (11 ∷ 12 ∷ []) $ free1 ! $ move ! (9 ∷ 10 ∷ []) $ free1 ! $
         move ! (7 ∷ 8 ∷ []) $ free1 ! $ move ! (5 ∷ 6 ∷ []) $ free1 ! $ free0 ! $
-        keep ! (1 ∷ 2 ∷ 0 ∷ []) $ by ! (exits g ws.0 ws.1.0 is-mark is-heights l))))))))))))))))))))
+        keep ! (1 ∷ 2 ∷ 0 ∷ []) $ by ! (exits g ws.0 ws.1.0 is_mark is_heights l))))))))))))))))))))
 
 module _ {M : Type 1} {𝓤 : Ura M} (𝓛 : Logic 𝓤) (mem : Memory → SProp 𝓤) (run : Routine → Fun 𝓤) where
   open 𝓛 use {H}
 
-  push-on-walks : (C : Calls 𝓤 H) (Λ : Loops 𝓤 H) → FmC 𝓤 H 𝓛.laws C → Triple 𝓤 (C #samples·push) (Push 𝓛 mem run)
-      → Walks 𝓛 push-on.ended stayed (WpFn 𝓤 H C Λ code.function) (push-on.clauses 𝓛 mem run)
-  push-on-walks C Λ fm known = walked 𝓛 push-on.ended stayed (push-on.clauses 𝓛 mem run) (WpFn 𝓤 H C Λ code.function)
+  push_on_walks : (C : Calls 𝓤 H) (Λ : Loops 𝓤 H) → FmC 𝓤 H 𝓛.laws C → Triple 𝓤 (C #samples·push) (Push 𝓛 mem run)
+      → Walks 𝓛 push_on.ended stayed (WpFn 𝓤 H C Λ code.function) (push_on.clauses 𝓛 mem run)
+  push_on_walks C Λ fm known = walked 𝓛 push_on.ended stayed (push_on.clauses 𝓛 mem run) (WpFn 𝓤 H C Λ code.function)
       (λ κs. (LL.vals T.the_type T'.the_laws, (mut_slice_vals, (float_vals binary32, (sint_vals w32, tt)))))
       (λ κs. (LL.tells T.the_type T'.the_laws, (mut_slice_Tells (named 0) κs.0 i16, (float_Tells binary32, (sint_Tells w32, tt)))))
       (λ κs qs bounds a g are. via 𝓤 _ (fst∗ 𝓤 _ (emp 𝓤))
       (walk 𝓛 mem run κs.0 qs.0 a.0 a.1.0.ref_ptr.0 a.1.0.ref_ptr.1 a.1.0.ghost_name a.1.0.now a.1.1.0 a.1.1.1.0
       are.1.1.0.1 are.1.1.1.0.1 C Λ fm known are.0 are.1.0.0.1))
 
-push-on-meets : {M : Type 1} {𝓤 : Ura M} (𝓛 : Logic 𝓤) → (mem : Memory → SProp 𝓤) (run : Routine → Fun 𝓤) (𝓣 : Tables 𝓤 𝓛.H)
+push_on_meets : {M : Type 1} {𝓤 : Ura M} (𝓛 : Logic 𝓤) → (mem : Memory → SProp 𝓤) (run : Routine → Fun 𝓤) (𝓣 : Tables 𝓤 𝓛.H)
     → Triple 𝓤 (𝓣.C #samples·push) (Push 𝓛 mem run)
-    → Meets 𝓛 push-on.signature (WpFn 𝓤 𝓛.H 𝓣.C 𝓣.Λ code.function) (push-on.spec 𝓛 mem run)
-push-on-meets {𝓤 = 𝓤} 𝓛 mem run 𝓣 known =
-    walk_Meets 𝓛 push-on.ended stayed (
+    → Meets 𝓛 push_on.signature (WpFn 𝓤 𝓛.H 𝓣.C 𝓣.Λ code.function) (push_on.spec 𝓛 mem run)
+push_on_meets {𝓤 = 𝓤} 𝓛 mem run 𝓣 known =
+    walk_Meets 𝓛 push_on.ended stayed (
       Goes-none 𝓛 1 (λ _. R) yes (λ κs x f. refl),
       (
         Goes-gave_slice 𝓛 1 0 tt (plain (λ _. i16)),
         (Goes-none 𝓛 1 (λ _. f32) yes (λ κs x f. refl), (Goes-none 𝓛 1 (λ _. i32) yes (λ κs x f. refl), tt)),
       ),
     )
-    (push-on.clauses 𝓛 mem run) (WpFn 𝓤 𝓛.H 𝓣.C 𝓣.Λ code.function) (WpFn-mono 𝓤 𝓛.H 𝓛.laws 𝓣 code.function)
-    (push-on-walks 𝓛 mem run 𝓣.C 𝓣.Λ (fm_of 𝓤 𝓛.H 𝓛.laws 𝓣) known)
+    (push_on.clauses 𝓛 mem run) (WpFn 𝓤 𝓛.H 𝓣.C 𝓣.Λ code.function) (WpFn-mono 𝓤 𝓛.H 𝓛.laws 𝓣 code.function)
+    (push_on_walks 𝓛 mem run 𝓣.C 𝓣.Λ (fm_of 𝓤 𝓛.H 𝓛.laws 𝓣) known)
 
-pub push-on-spec : {M : Type 1} → stated.statement M
+pub push_on_spec : {M : Type 1} → stated.statement M
 unfolding code.routine tables_of
-push-on-spec 𝓤 𝓛 𝓜 𝓡 =
-    entered 𝓤 𝓛.H (triple_of 𝓛 push-on.signature (push-on.spec 𝓛 𝓜.mem 𝓡.run))
+push_on_spec 𝓤 𝓛 𝓜 𝓡 =
+    entered 𝓤 𝓛.H (triple_of 𝓛 push_on.signature (push_on.spec 𝓛 𝓜.mem 𝓡.run))
     (tables 𝓤 𝓛.H 𝓜 𝓡 code.env).C (tables 𝓤 𝓛.H 𝓜 𝓡 code.env).Λ #samples·push-on code.function (code.unfolded 𝓤 𝓛.H 𝓜 𝓡)
-    (push-on-meets 𝓛 𝓜.mem 𝓡.run (tables_of 𝓤 𝓛.H 𝓜 (tables 𝓤 𝓛.H 𝓜 𝓡 code.env))
-    (cited 𝓤 𝓛.H (Push 𝓛 𝓜.mem 𝓡.run) 𝓜 𝓡 code.env #samples·push push-def.routine code.calls-predict::samples::push (push-thm.met 𝓤 𝓛 𝓜 𝓡)))
+    (push_on_meets 𝓛 𝓜.mem 𝓡.run (tables_of 𝓤 𝓛.H 𝓜 (tables 𝓤 𝓛.H 𝓜 𝓡 code.env))
+    (cited 𝓤 𝓛.H (Push 𝓛 𝓜.mem 𝓡.run) 𝓜 𝓡 code.env #samples·push push_def.routine code.calls-predict::samples::push (push_thm.met 𝓤 𝓛 𝓜 𝓡)))

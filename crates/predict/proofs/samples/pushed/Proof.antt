@@ -7,9 +7,9 @@ use mir.Syntax.{w16, w32}
 use mir.Facts.{to_z-of_z}
 use borrow.Author.Rules.{rules}
 use Rattle.predict.specs.Samples.{Pushed}
-use Rattle.predict.proofs.Signed.{sf, got, widens, gap-fits, gap_is}
-use Rattle.predict.proofs.SampleLiterals.{literal-0}
-use Rattle.predict.proofs.SampleTurns.{push-slope, push-level}
+use Rattle.predict.proofs.Signed.{sf, got, widens, gap_fits, gap_is}
+use Rattle.predict.proofs.SampleLiterals.{literal_0}
+use Rattle.predict.proofs.SampleTurns.{push_slope, push_level}
 use Rattle.predict.proofs.samples.pushed.Statement.{statement}
 use Rattle.predict.proofs.samples.pushed.Tie as tie
 
@@ -22,7 +22,7 @@ cast-f32-of-i64-2 c = widens (sf w32 c.before.before.before.before.args.m.z c.st
 sub-f32-of-i64 : tie.Need-overflow-sub-f32-of-i64
 sub-f32-of-i64 c =
     let start = c.before.before.before.before in
-    gap-fits start.ranges.z (sf w32 start.args.m.z c.struct_told.given.1.1.0.1)
+    gap_fits start.ranges.z (sf w32 start.args.m.z c.struct_told.given.1.1.0.1)
 
 f32-of-i64-requires : tie.Need-f32-of-i64-requires
 f32-of-i64-requires c κs = tt
@@ -46,7 +46,7 @@ returns c =
     let from = sf w32 args.m.z rise.before.struct_told.given.1.1.0.1 in
     let written =
     rw (c.before.before.before.f32-of-i32.ensures, rise.f32-of-i64.ensures, gap_is start.ranges.z from, to_z-of_z from) at c.before.sloped.ensures in
-    let e = push-slope args.m args.distance args.z (rw literal-0 at beyond.if1.true) (length hs - args.m.len) args.m.len hs in (
+    let e = push_slope args.m args.distance args.z (rw literal_0 at beyond.if1.true) (length hs - args.m.len) args.m.len hs in (
       rw (to_z-of_z start.ranges.z, written.0) (ap (λ (p : Pushed). p.mark) (sym e)),
       written.1 ∙ ap (λ (p : Pushed). p.heights) (sym e),
     )
@@ -72,13 +72,13 @@ returns-2 c =
     let hs = args.heights.now in
     let written =
     rw (got w16 height.held.type-inv, height.held.ensures, height.before.f32-of-i322.ensures, to_z-of_z start.ranges.z) at c.before.level.ensures in
-    let e = push-level args.m args.distance args.z (rw literal-0 at there.if1.false) (length hs - args.m.len) args.m.len hs in (
+    let e = push_level args.m args.distance args.z (rw literal_0 at there.if1.false) (length hs - args.m.len) args.m.len hs in (
       rw (to_z-of_z start.ranges.z, written.0) (ap (λ (p : Pushed). p.mark) (sym e)),
       written.1 ∙ ap (λ (p : Pushed). p.heights) (sym e),
     )
 
-pub pushed-spec : {M : Type 1} → statement M
-pushed-spec =
+pub pushed_spec : {M : Type 1} → statement M
+pushed_spec =
     tie.close
     (tie.spec
     cast-f32-of-i64

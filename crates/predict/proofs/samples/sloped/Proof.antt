@@ -6,9 +6,9 @@ use lib.ListN.{length, length-set}
 use mir.Syntax.{w16}
 use mir.Val.{of_z, to_z}
 use borrow.Author.Rules.{rules}
-use Rattle.predict.specs.Samples.{Filled, sampleAt, filled, slope}
+use Rattle.predict.specs.Samples.{Filled, sample_at, filled, slope}
 use Rattle.predict.proofs.Signed.{got}
-use Rattle.predict.proofs.SampleTurns.{fill-out, fill_stop, fill_on}
+use Rattle.predict.proofs.SampleTurns.{fill_out, fill_stop, fill_on}
 use Rattle.predict.proofs.samples.sloped.Statement.{statement}
 use Rattle.predict.proofs.samples.sloped.Tie as tie
 
@@ -61,7 +61,7 @@ loop-again c =
     let f = slope args.base args.rise args.from args.span in (
       omega (arith, l.invariant.0, length-set l.heights l.len (to_z w16 (of_z w16 c.held.result))),
       rw (got w16 c.held.type-inv, c.held.ensures, sample.sample-at.ensures)
-          (fill_on f args.distance _ _ l.len l.heights (omega (arith, length-set l.heights l.len (f (sampleAt l.len))))
+          (fill_on f args.distance _ _ l.len l.heights (omega (arith, length-set l.heights l.len (f (sample_at l.len))))
           (rw (← sample.sample-at.ensures) c.before.if1.false)
           ∙ l.invariant.1),
     )
@@ -73,11 +73,11 @@ returns-2 : tie.Need-returns-2 invariant-loop decreases-loop
 returns-2 c =
     let args = c.before.before.args in
     let l = c.before.loop in
-    let e = sym (fill-out (slope args.base args.rise args.from args.span) args.distance _ l.len l.heights (omega arith)) ∙ l.invariant.1 in
+    let e = sym (fill_out (slope args.base args.rise args.from args.span) args.distance _ l.len l.heights (omega arith)) ∙ l.invariant.1 in
     (ap (λ (x : Filled). x.len) e, ap (λ (x : Filled). x.heights) e)
 
-pub sloped-spec : {M : Type 1} → statement M
-sloped-spec =
+pub sloped_spec : {M : Type 1} → statement M
+sloped_spec =
     tie.close
     (tie.spec
     invariant-loop

@@ -44,8 +44,8 @@ returns : tie.Need-returns
 unfolding edge_of
 returns c = rw (c.byte_at.ensures, c.before.u16-at2.ensures, c.before.before.u16-at.ensures)
 
-pub flags-at-spec : {M : Type 1} → statement M
-flags-at-spec =
+pub flags_at_spec : {M : Type 1} → statement M
+flags_at_spec =
     tie.close
     (tie.spec
     u16-at-requires

@@ -8,5 +8,5 @@ flags-at-requires c κs = tt
 returns : tie.Need-returns
 returns c = rw c.flags-at.ensures
 
-pub has-flag-spec : {M : Type 1} → statement M
-has-flag-spec = tie.close (tie.spec flags-at-requires returns)
+pub has_flag_spec : {M : Type 1} → statement M
+has_flag_spec = tie.close (tie.spec flags-at-requires returns)

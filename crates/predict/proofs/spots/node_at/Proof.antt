@@ -1,7 +1,7 @@
 -- `predict::spots::node_at` meets its contract: each field is what its reader ensures, at the place that `spot_of` gives.
 use borrow.Author.Rules.{rules}
-use Rattle.tile.specs.Layout.{placeAt}
-use Rattle.predict.proofs.SpotLaws.{node-is}
+use Rattle.tile.specs.Layout.{place_at}
+use Rattle.predict.proofs.SpotLaws.{node_is}
 use Rattle.predict.proofs.spots.node_at.Statement.{statement}
 use Rattle.predict.proofs.spots.node_at.Tie as tie
 
@@ -24,12 +24,12 @@ u16-at-requires-3 : tie.Need-u16-at-requires-3
 u16-at-requires-3 c κs = search rules
 
 returns : tie.Need-returns
-unfolding placeAt
+unfolding place_at
 returns c =
     let spot = c.before.before.before in
     let start = spot.before.before in
     rw (c.before.before.u16-at.ensures, c.before.u16-at2.ensures, c.u16-at3.ensures, spot.spot_of_lem.ensures.0, start.requires.1)
-    (node-is start.args.leg start.args.bytes.now start.args.i)
+    (node_is start.args.leg start.args.bytes.now start.args.i)
 
 pub node_at_spec : {M : Type 1} → statement M
 node_at_spec =

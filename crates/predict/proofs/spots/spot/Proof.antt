@@ -38,8 +38,8 @@ add-result-4 c = search rules
 returns-3 : tie.Need-returns-3
 returns-3 c = (rw (ne_eqb _ _ c.before.if1.false, le-ltb _ _ c.if2.false), omega arith)
 
-pub spot-spec : {M : Type 1} → statement M
-spot-spec =
+pub spot_spec : {M : Type 1} → statement M
+spot_spec =
     tie.close
     (tie.spec
     mul-result

@@ -37,8 +37,8 @@ returns-3 : tie.Need-returns-3
 unfolding spot_of
 returns-3 c = (rw c.before.before.before.if1.false c.spot3.ensures.0, c.spot3.ensures.1)
 
-pub spot-of-spec : {M : Type 1} → statement M
-spot-of-spec =
+pub spot_of_spec : {M : Type 1} → statement M
+spot_of_spec =
     tie.close
     (tie.spec
     spot-requires

@@ -25,5 +25,5 @@ returns c =
       got w32 {z = args.b.lon} c.before.struct-told4.given.1.0.1,
     )
 
-pub between-spec : {M : Type 1} → statement M
-between-spec = tie.close (tie.spec part-way-requires part-way-requires-2 returns)
+pub between_spec : {M : Type 1} → statement M
+between_spec = tie.close (tie.spec part-way-requires part-way-requires-2 returns)

@@ -27,5 +27,5 @@ returns-2 c =
 returns-3 : tie.Need-returns-3
 returns-3 c = rw c.before.if1.false
 
-pub first-of-spec : {M : Type 1} → statement M
-first-of-spec = tie.close (tie.spec cast-last add-last add-result returns returns-2 returns-3)
+pub first_of_spec : {M : Type 1} → statement M
+first_of_spec = tie.close (tie.spec cast-last add-last add-result returns returns-2 returns-3)

@@ -7,12 +7,12 @@ use lib.Signed.{lt_z}
 use mir.Facts.{to_z-of_z}
 use mir.Syntax.{w32}
 use mir.Val.{SFits}
-use Rattle.pack.proofs.Signed.{fits, lt-false}
+use Rattle.pack.proofs.Signed.{fits, lt_false}
 use Rattle.predict.proofs.start.held.Statement.{statement}
 use Rattle.predict.proofs.start.held.Tie as tie
 
 held_fits : (z : ℤ) → lt_z z (negsuc 2147483647) ≡ false → lt_z (pos 2147483647) z ≡ false → SFits w32 z
-held_fits z low high = fits w32 z (omega (arith, lt-false z (negsuc 2147483647) low, lt-false (pos 2147483647) z high))
+held_fits z low high = fits w32 z (omega (arith, lt_false z (negsuc 2147483647) low, lt_false (pos 2147483647) z high))
 
 returns : tie.Need-returns
 returns c = rw (rw (to_z-of_z c.before.ranges.z) at c.if1.true)

@@ -6,8 +6,8 @@ use mir.Facts.{to_z-of_z}
 use mir.Syntax.{w32, w64}
 use mir.Val.{SFits, to_z, of_z}
 use Rattle.pack.proofs.Signed.{range, fits, add, sf, got, wide, widens}
-use Rattle.predict.proofs.Signed.{gap-fits, gap_is}
-use Rattle.predict.specs.Start.{partWay}
+use Rattle.predict.proofs.Signed.{gap_fits, gap_is}
+use Rattle.predict.specs.Start.{part_way}
 use Rattle.predict.proofs.start.part_way.Statement.{statement}
 use Rattle.predict.proofs.start.part_way.Tie as tie
 
@@ -26,7 +26,7 @@ cast-f32-of-i64-2 : tie.Need-overflow-cast-f32-of-i64-2
 cast-f32-of-i64-2 c = widens c.ranges.a
 
 sub-f32-of-i64 : tie.Need-overflow-sub-f32-of-i64
-sub-f32-of-i64 c = gap-fits c.ranges.b c.ranges.a
+sub-f32-of-i64 c = gap_fits c.ranges.b c.ranges.a
 
 f32-of-i64-requires : tie.Need-f32-of-i64-requires
 f32-of-i64-requires c κs = tt
@@ -47,7 +47,7 @@ held-requires : tie.Need-held-requires
 held-requires c κs = tt
 
 returns : tie.Need-returns
-unfolding partWay
+unfolding part_way
 returns c =
     let part = c.before.i32-of-f32 in
     let start = c.before.before.before in
@@ -57,8 +57,8 @@ returns c =
       ← part.ensures,
     ) (rw (sum_is start.ranges.a (sf w32 part.result part.type-inv)) at c.held.ensures)
 
-pub part-way-spec : {M : Type 1} → statement M
-part-way-spec =
+pub part_way_spec : {M : Type 1} → statement M
+part_way_spec =
     tie.close
     (tie.spec
     cast-f32-of-i64

@@ -37,8 +37,8 @@ returns c =
       first.before.point.ensures,
     )
 
-pub place-spec : {M : Type 1} → statement M
-place-spec =
+pub place_spec : {M : Type 1} → statement M
+place_spec =
     tie.close
     (tie.spec
     cast-segment

@@ -4,9 +4,9 @@ use lib.Ieee.{binary32, of_bits, le}
 use mir.Facts.{to_z-of_z}
 use mir.Syntax.{w32}
 use borrow.Author.Tests.{lt-ltb, le-ltb, le-leb, lt-leb, not-true, not-false}
-use Rattle.geo.proofs.Literals.{literal-0, literal-1}
-use Rattle.pack.proofs.Signed.{sf, below, not-below}
-use Rattle.predict.specs.Start.{startOk}
+use Rattle.geo.proofs.Literals.{literal_0, literal_1}
+use Rattle.pack.proofs.Signed.{sf, below, not_below}
+use Rattle.predict.specs.Start.{start_ok}
 use Rattle.predict.proofs.start.start_ok.Statement.{statement}
 use Rattle.predict.proofs.start.start_ok.Tie as tie
 
@@ -14,14 +14,14 @@ head-requires : tie.Need-head-requires
 head-requires c κs = tt
 
 returns : tie.Need-returns
-unfolding startOk
+unfolding start_ok
 returns c = rw (le-ltb _ _ (rw c.before.before.before.head.ensures at c.if1.true))
 
 edge-requires : tie.Need-edge-requires
 edge-requires c κs = tt
 
 returns-2 : tie.Need-returns-2
-unfolding startOk
+unfolding start_ok
 returns-2 c =
     let edge = c.before.before.before in
     let first = edge.before in
@@ -31,7 +31,7 @@ returns-2 c =
     )
 
 returns-3 : tie.Need-returns-3
-unfolding startOk
+unfolding start_ok
 returns-3 c =
     let second = c.before.before in
     let edge = second.before.before.before in
@@ -40,12 +40,12 @@ returns-3 c =
     rw (
       lt-ltb _ _ (rw first.before.before.before.head.ensures at first.if1.false),
       le-leb _ _ (rw edge.edge.ensures at second.if2.false),
-      ← literal-0,
+      ← literal_0,
       not-true (le (of_bits binary32 0) m.fraction) c.if3.true,
     )
 
 returns-4 : tie.Need-returns-4
-unfolding startOk
+unfolding start_ok
 returns-4 c =
     let third = c.before.before in
     let second = third.before.before in
@@ -55,14 +55,14 @@ returns-4 c =
     rw (
       lt-ltb _ _ (rw first.before.before.before.head.ensures at first.if1.false),
       le-leb _ _ (rw edge.edge.ensures at second.if2.false),
-      ← literal-0,
+      ← literal_0,
       not-false (le (of_bits binary32 0) m.fraction) third.if3.false,
-      ← literal-1,
+      ← literal_1,
       not-true (le m.fraction (of_bits binary32 1065353216)) c.if4.true,
     )
 
 returns-5 : tie.Need-returns-5
-unfolding startOk
+unfolding start_ok
 returns-5 c =
     let fourth = c.before.before.before in
     let third = fourth.before.before in
@@ -73,15 +73,15 @@ returns-5 c =
     rw (
       lt-ltb _ _ (rw first.before.before.before.head.ensures at first.if1.false),
       le-leb _ _ (rw edge.edge.ensures at second.if2.false),
-      ← literal-0,
+      ← literal_0,
       not-false (le (of_bits binary32 0) m.fraction) third.if3.false,
-      ← literal-1,
+      ← literal_1,
       not-false (le m.fraction (of_bits binary32 1065353216)) fourth.if4.false,
       below (sf w32 m.z_dm c.before.struct_told.given.1.1.1.1.1.1.0.1) (negsuc 999999) c.if5.true,
     )
 
 returns-6 : tie.Need-returns-6
-unfolding startOk
+unfolding start_ok
 returns-6 c =
     let fifth = c.before.before in
     let fourth = fifth.before.before.before in
@@ -94,16 +94,16 @@ returns-6 c =
     rw (
       lt-ltb _ _ (rw first.before.before.before.head.ensures at first.if1.false),
       le-leb _ _ (rw edge.edge.ensures at second.if2.false),
-      ← literal-0,
+      ← literal_0,
       not-false (le (of_bits binary32 0) m.fraction) third.if3.false,
-      ← literal-1,
+      ← literal_1,
       not-false (le m.fraction (of_bits binary32 1065353216)) fourth.if4.false,
-      not-below fits (negsuc 999999) fifth.if5.false,
+      not_below fits (negsuc 999999) fifth.if5.false,
       to_z-of_z fits,
     )
 
-pub start-ok-spec : {M : Type 1} → statement M
-start-ok-spec =
+pub start_ok_spec : {M : Type 1} → statement M
+start_ok_spec =
     tie.close
     (tie.spec
     head-requires

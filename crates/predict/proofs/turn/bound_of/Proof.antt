@@ -15,5 +15,5 @@ returns c = rw c.enum_told.given.1
 returns-2 : tie.Need-returns-2
 returns-2 c = rw c.before.entry.given.1
 
-pub bound-of-spec : {M : Type 1} → statement M
-bound-of-spec = tie.close (tie.spec enum_told enum-known-entry returns returns-2)
+pub bound_of_spec : {M : Type 1} → statement M
+bound_of_spec = tie.close (tie.spec enum_told enum-known-entry returns returns-2)

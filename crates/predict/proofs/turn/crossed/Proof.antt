@@ -12,34 +12,34 @@ use Rattle.predict.specs.declared.Choices.{Choices}
 use Rattle.predict.specs.declared.cost.Bound.{Bound}
 use Rattle.predict.specs.declared.outgoing.Leg.{Leg}
 use Rattle.predict.specs.declared.twins.TwinList.{TwinList}
-use Rattle.predict.specs.Choose.{noChoices}
-use Rattle.predict.specs.Twins.{boundaryTwins}
+use Rattle.predict.specs.Choose.{no_choices}
+use Rattle.predict.specs.Twins.{boundary_twins}
 use Rattle.predict.specs.declared.Crossing.{Crossing}
 use Rattle.predict.specs.Consider.{consider}
 use Rattle.predict.specs.Cross.{crossing, cross}
 use Rattle.predict.specs.declared.Walk.{Walk}
 use Rattle.predict.specs.declared.Track.{Track}
-use Rattle.predict.specs.Vertex.{trackOf}
-use Rattle.predict.specs.Walk.{Stride, turned, boundOf, incomingOf, nodeOf, crossedOver, onward, crossed}
+use Rattle.predict.specs.Vertex.{track_of}
+use Rattle.predict.specs.Walk.{Stride, turned, bound_of, incoming_of, node_of, crossed_over, onward, crossed}
 use Rattle.predict.proofs.turn.crossed.Statement.{statement}
 use Rattle.predict.proofs.turn.crossed.Tie as tie
 
 module _ (looks v arena : List ℕ) (h : Header) (w : Walk) (t : Track) (bs : List ℕ) (leg : Leg) where
-  crossed-is : {head : Head} {incoming : Float} {d : Walk} {bound : Bound} {node : ℕ} {none choices : Choices} {at : Node} {twins : TwinList} {x : Crossing} {s : List ℕ}
+  crossed_is : {head : Head} {incoming : Float} {d : Walk} {bound : Bound} {node : ℕ} {none choices : Choices} {at : Node} {twins : TwinList} {x : Crossing} {s : List ℕ}
       → head ≡ Layout.head_of bs
-      → incoming ≡ incomingOf t w.approach head.lon_um
+      → incoming ≡ incoming_of t w.approach head.lon_um
       → d ≡ turned w leg.edge incoming
-      → bound ≡ boundOf d.entry incoming
-      → node ≡ nodeOf leg
-      → none ≡ noChoices
+      → bound ≡ bound_of d.entry incoming
+      → node ≡ node_of leg
+      → none ≡ no_choices
       → choices ≡ consider none (record { header = h; way = d.way; bound = bound; road = d.road }) v bs d.way.tile node
-      → at ≡ Layout.nodeOf bs node
-      → twins ≡ boundaryTwins at.x at.y (h.tile % 65536)
+      → at ≡ Layout.node_of bs node
+      → twins ≡ boundary_twins at.x at.y (h.tile % 65536)
       → x ≡ crossing (cross arena (record { header = h; way = d.way; bound = bound; road = d.road }) v looks choices twins)
       → s ≡ (cross arena (record { header = h; way = d.way; bound = bound; road = d.road }) v looks choices twins).carried
       → onward s arena h.tile d x ≡ crossed looks v arena h w t bs leg
-  unfolding onward crossedOver crossed cross
-  crossed-is heads comes turns binds nodes nones chosen stands twinned crosses carries =
+  unfolding onward crossed_over crossed cross
+  crossed_is heads comes turns binds nodes nones chosen stands twinned crosses carries =
       rw (crosses, carries, twinned, stands, chosen, nones, nodes, binds, turns, comes, heads)
 
 head-requires : tie.Need-head-requires
@@ -88,8 +88,8 @@ returns c =
     let turn = bound.before.before.before in
     let args = turn.before.before.before.before.before.args in
     let whole =
-    crossed-is args.looks.now args.visited.now args.arena.now args.leg.header args.w
-    (trackOf args.t args.lats.now args.lons.now args.distances.now) args.bytes.now args.leg
+    crossed_is args.looks.now args.visited.now args.arena.now args.leg.header args.w
+    (track_of args.t args.lats.now args.lons.now args.distances.now) args.bytes.now args.leg
     turn.before.before.head.ensures
     turn.before.incoming-of.ensures
     turn.turned.ensures
@@ -103,8 +103,8 @@ returns c =
     junction.cross.ensures.1 in
     (c.onward.ensures.0 ∙ ap (λ (x : Stride (List ℕ)). x.walk) whole, c.onward.ensures.1 ∙ ap (λ (x : Stride (List ℕ)). x.carried) whole)
 
-pub crossed-spec : {M : Type 1} → statement M
-crossed-spec =
+pub crossed_spec : {M : Type 1} → statement M
+crossed_spec =
     tie.close
     (tie.spec
     head-requires

@@ -1,10 +1,10 @@
 -- `predict::turn::decided` meets its contract: each return by whether there is a way on; what its lookup gives is what the reader gives.
 use mathlib.Core.Path.{sym}
 use borrow.Author.Rules.{rules}
-use Rattle.cache.specs.Reader.{inLooks}
+use Rattle.cache.specs.Reader.{in_looks}
 use Rattle.predict.specs.Walk.{taken, decided}
 use Rattle.predict.proofs.Arms.{ended}
-use Rattle.predict.proofs.Looks.{look-carried, taken-ended}
+use Rattle.predict.proofs.Looks.{look_carried, taken_ended}
 use Rattle.predict.proofs.turn.decided.Statement.{statement}
 use Rattle.predict.proofs.turn.decided.Tie as tie
 
@@ -28,17 +28,17 @@ returns c =
     let decide = c.before.before.before.before.before.before.before in
     let args = decide.before.before.args in (
       rw (c.next-by.ensures, found.ensures.0, decide.taken.ensures, told),
-      rw (found.ensures.1, decide.taken.ensures, told) (sym (look-carried args.looks.now args.arena.now args.size args.d.way.tile)),
+      rw (found.ensures.1, decide.taken.ensures, told) (sym (look_carried args.looks.now args.arena.now args.size args.d.way.tile)),
     )
 
 returns-2 : tie.Need-returns-2
 unfolding decided
 returns-2 c =
     let args = c.before.before.before.args in
-    let stays = taken-ended (inLooks args.arena.now args.size) args.d.ending (ended args.d.ending c.match.keys2) in
+    let stays = taken_ended (in_looks args.arena.now args.size) args.d.ending (ended args.d.ending c.match.keys2) in
     (rw (c.before.taken.ensures, stays), rw stays)
 
-pub decided-spec : {M : Type 1} → statement M
-decided-spec =
+pub decided_spec : {M : Type 1} → statement M
+decided_spec =
     tie.close
     (tie.spec taken-requires enum_told look-up-requires next-by-requires returns returns-2)

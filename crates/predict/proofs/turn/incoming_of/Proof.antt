@@ -8,5 +8,5 @@ incoming-requires c κs = tt
 returns : tie.Need-returns
 returns c = c.incoming.ensures
 
-pub incoming-of-spec : {M : Type 1} → statement M
-incoming-of-spec = tie.close (tie.spec incoming-requires returns)
+pub incoming_of_spec : {M : Type 1} → statement M
+incoming_of_spec = tie.close (tie.spec incoming-requires returns)

@@ -3,7 +3,7 @@ use mathlib.Core.Path.{◌≡◌}
 use mathlib.Core.Logic.{⊎_elim}
 use borrow.Author.Rules.{rules}
 use Rattle.cache.specs.declared.Lookup.TheVariants as Lookup
-use Rattle.predict.specs.Walk.{onRoad}
+use Rattle.predict.specs.Walk.{on_road}
 use Rattle.predict.proofs.Arms.{asked}
 use Rattle.predict.proofs.turn.next_by.Statement.{statement}
 use Rattle.predict.proofs.turn.next_by.Tie as tie
@@ -30,7 +30,7 @@ with-ending-requires-2 : tie.Need-with-ending-requires-2
 with-ending-requires-2 c κs = tt
 
 returns : tie.Need-returns
-unfolding onRoad
+unfolding on_road
 returns c = rw (c.before.before.before.before.before.answer.given.1, c.road-of.ensures, c.before.before.edge.ensures, c.before.before.before.run-bytes.ensures)
 
 returns-2 : tie.Need-returns-2
@@ -44,8 +44,8 @@ returns-3 c =
     (λ (e : answer ≡ Lookup.Absent). rw (c.with-ending2.ensures, e))
     (asked answer c.before.match.keys3)
 
-pub next-by-spec : {M : Type 1} → statement M
-next-by-spec =
+pub next_by_spec : {M : Type 1} → statement M
+next_by_spec =
     tie.close
     (tie.spec
     enum-known-answer

@@ -1,9 +1,9 @@
 -- `predict::turn::onward` meets its contract: each return by how the lookups of the junction ended.
 use borrow.Author.Rules.{rules}
-use Rattle.cache.specs.Reader.{inLooks}
+use Rattle.cache.specs.Reader.{in_looks}
 use Rattle.predict.specs.Walk.{decided, onward}
 use Rattle.predict.proofs.Arms.{ended}
-use Rattle.predict.proofs.Looks.{onward-ended}
+use Rattle.predict.proofs.Looks.{onward_ended}
 use Rattle.predict.proofs.turn.onward.Statement.{statement}
 use Rattle.predict.proofs.turn.onward.Tie as tie
 
@@ -30,10 +30,10 @@ returns-2 : tie.Need-returns-2
 unfolding onward
 returns-2 c =
     let args = c.before.before.before.args in
-    let stays = onward-ended (inLooks args.arena.now args.size) args.x.ending (ended args.x.ending c.before.match.keys2) in
+    let stays = onward_ended (in_looks args.arena.now args.size) args.x.ending (ended args.x.ending c.before.match.keys2) in
     (rw (c.with-ending.ensures, stays), rw stays)
 
-pub onward-spec : {M : Type 1} → statement M
-onward-spec =
+pub onward_spec : {M : Type 1} → statement M
+onward_spec =
     tie.close
     (tie.spec enum_told decide-requires decided-requires with-ending-requires returns returns-2)

@@ -12,5 +12,5 @@ returns c = rw (sym c.before.has.ensures ∙ c.if1.true)
 returns-2 : tie.Need-returns-2
 returns-2 c = rw (sym c.before.has.ensures ∙ c.if1.false)
 
-pub road-of-spec : {M : Type 1} → statement M
-road-of-spec = tie.close (tie.spec has-requires returns returns-2)
+pub road_of_spec : {M : Type 1} → statement M
+road_of_spec = tie.close (tie.spec has-requires returns returns-2)

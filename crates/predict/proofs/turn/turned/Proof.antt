@@ -2,7 +2,7 @@
 use mathlib.Core.Path.{sym, ◌∙◌}
 use borrow.Author.Tests.{not-true, not-false}
 use borrow.Author.Rules.{rules}
-use Rattle.predict.specs.Walk.{withEntry, turned}
+use Rattle.predict.specs.Walk.{with_entry, turned}
 use Rattle.predict.proofs.turn.turned.Statement.{statement}
 use Rattle.predict.proofs.turn.turned.Tie as tie
 
@@ -26,15 +26,15 @@ with-entry-requires-2 : tie.Need-with-entry-requires-2
 with-entry-requires-2 c κs = tt
 
 returns-2 : tie.Need-returns-2
-unfolding turned withEntry
+unfolding turned with_entry
 returns-2 c = rw (sym c.before.before.before.has.ensures ∙ not-false _ c.before.before.if1.false, c.enum_told.given.1)
 
 returns-3 : tie.Need-returns-3
 unfolding turned
 returns-3 c = rw (c.with-entry2.ensures, sym c.before.before.before.before.has.ensures ∙ not-false _ c.before.before.before.if1.false, c.before.enum-told2.given.1)
 
-pub turned-spec : {M : Type 1} → statement M
-turned-spec =
+pub turned_spec : {M : Type 1} → statement M
+turned_spec =
     tie.close
     (tie.spec
     has-requires

@@ -4,12 +4,12 @@ use mathlib.Core.Path.{◌≡◌}
 use native.Mathlib.Omega.{arith}
 use borrow.Author.Rules.{rules}
 use Rattle.num.proofs.FoldLaws.{up_start, up_turn}
-use Rattle.predict.specs.Twins.{twinsTo}
+use Rattle.predict.specs.Twins.{twins_to}
 use Rattle.predict.proofs.twins.boundary_twins.Statement.{statement}
 use Rattle.predict.proofs.twins.boundary_twins.Tie as tie
 
 abbrev invariant-loop : tie.invariant-loop
-invariant-loop x y size t₀ i₀ t i = (i ≤ 9) × (t ≡ twinsTo x y size i)
+invariant-loop x y size t₀ i₀ t i = (i ≤ 9) × (t ≡ twins_to x y size i)
 
 abbrev decreases-loop : tie.decreases-loop
 decreases-loop x y size t₀ i₀ t i = 9 - i
@@ -18,7 +18,7 @@ no-twins-requires : tie.Need-no-twins-requires invariant-loop decreases-loop
 no-twins-requires c κs = tt
 
 loop-holds : tie.Need-loop-init invariant-loop decreases-loop
-unfolding twinsTo
+unfolding twins_to
 loop-holds c = (search rules, rw (c.no-twins.ensures, up_start))
 
 twin-step-requires : tie.Need-twin-step-requires invariant-loop decreases-loop
@@ -31,17 +31,17 @@ loop-less : tie.Need-loop-smaller invariant-loop decreases-loop
 loop-less c = search rules
 
 loop-again : tie.Need-loop-preserved invariant-loop decreases-loop
-unfolding twinsTo
+unfolding twins_to
 loop-again c = (omega arith, rw (c.twin-step.ensures, c.before.before.loop.invariant.1, up_turn))
 
 returns : tie.Need-returns invariant-loop decreases-loop
 returns c =
-    let at-loop = c.before.loop in
-    let end : at-loop.i ≡ 9 = omega arith in
-    rw (at-loop.invariant.1, end)
+    let at_loop = c.before.loop in
+    let end : at_loop.i ≡ 9 = omega arith in
+    rw (at_loop.invariant.1, end)
 
-pub boundary-twins-spec : {M : Type 1} → statement M
-boundary-twins-spec =
+pub boundary_twins_spec : {M : Type 1} → statement M
+boundary_twins_spec =
     tie.close
     (tie.spec
     invariant-loop

@@ -3,26 +3,26 @@ use mathlib.Core.Path.{sym, ◌∙◌}
 use mir.Syntax.{w64}
 use borrow.Author.Tests.{eq-eqb, ne_eqb, not-true, not-false}
 use Rattle.pack.proofs.Signed.{got}
-use Rattle.predict.specs.Twins.{twinStep}
+use Rattle.predict.specs.Twins.{twin_step}
 use Rattle.predict.proofs.twins.twin_step.Statement.{statement}
 use Rattle.predict.proofs.twins.twin_step.Tie as tie
 
 returns : tie.Need-returns
-unfolding twinStep
+unfolding twin_step
 returns c = rw (eq-eqb _ _ c.if1.true)
 
 shares-requires : tie.Need-shares-requires
 shares-requires c κs = tt
 
 returns-2 : tie.Need-returns-2
-unfolding twinStep
+unfolding twin_step
 returns-2 c = rw (ne_eqb _ _ c.before.before.if1.false, sym c.before.shares.ensures ∙ not-true _ c.if2.true)
 
 shares-requires-2 : tie.Need-shares-requires-2
 shares-requires-2 c κs = tt
 
 returns-3 : tie.Need-returns-3
-unfolding twinStep
+unfolding twin_step
 returns-3 c =
     let row = c.before.before.before in
     rw (
@@ -41,7 +41,7 @@ push-requires : tie.Need-push-requires
 push-requires c κs = tt
 
 returns-4 : tie.Need-returns-4
-unfolding twinStep
+unfolding twin_step
 returns-4 c =
     let col = c.before.before.before.before.before.before in
     let row = col.before.before in
@@ -56,8 +56,8 @@ returns-4 c =
       got w64 c.before.struct-told2.given.0.1,
     )
 
-pub twin-step-spec : {M : Type 1} → statement M
-twin-step-spec =
+pub twin_step_spec : {M : Type 1} → statement M
+twin_step_spec =
     tie.close
     (tie.spec
     returns

@@ -4,7 +4,7 @@ use borrow.Author.Rules.{rules}
 use mir.Facts.{to_z-of_z}
 use mir.Syntax.{w32}
 use Rattle.predict.proofs.Signed.{sf, got}
-use Rattle.predict.proofs.VertexLaws.{advanced-reach, advanced-pass}
+use Rattle.predict.proofs.VertexLaws.{advanced_reach, advanced_pass}
 use Rattle.predict.proofs.vertex.advance.Statement.{statement}
 use Rattle.predict.proofs.vertex.advance.Tie as tie
 
@@ -40,7 +40,7 @@ returns c =
     let args = node.before.before.args in
     let rider = to_z-of_z (sf w32 args.trip.z_dm less.before.struct_told.given.1.1.0.1) in
     let heights = got w32 less.less.type-inv ∙ (rw (got w32 height.z-dm.type-inv, height.z-dm.ensures, rider) at less.less.ensures) in
-    advanced-reach args.trip args.leg args.bytes.now args.lon-um args.t args.lats.now args.lons.now
+    advanced_reach args.trip args.leg args.bytes.now args.lon-um args.t args.lats.now args.lons.now
     args.distances.now args.i args.heights.now node.node_at.ensures point.point.ensures heights step.step_of_lem.ensures
     _ _ tested.if1.true c.before.reach.ensures.0 c.before.reach.ensures.1
 
@@ -61,12 +61,12 @@ returns-2 c =
     let args = node.before.before.args in
     let rider = to_z-of_z (sf w32 args.trip.z_dm less.before.struct_told.given.1.1.0.1) in
     let heights = got w32 less.less.type-inv ∙ (rw (got w32 height.z-dm.type-inv, height.z-dm.ensures, rider) at less.less.ensures) in
-    advanced-pass args.trip args.leg args.bytes.now args.lon-um args.t args.lats.now args.lons.now
+    advanced_pass args.trip args.leg args.bytes.now args.lon-um args.t args.lats.now args.lons.now
     args.distances.now args.i args.heights.now node.node_at.ensures point.point.ensures heights step.step_of_lem.ensures
     _ _ _ _ _ tested.if1.false c.before.pass.ensures
 
-pub advance-spec : {M : Type 1} → statement M
-advance-spec =
+pub advance_spec : {M : Type 1} → statement M
+advance_spec =
     tie.close
     (tie.spec
     node-at-requires

@@ -1,7 +1,7 @@
 -- `predict::vertex::height_there` meets its contract: a difference of two i32 fits 64 bits.
 use mir.Facts.{to_z-of_z}
 use mir.Syntax.{w32}
-use Rattle.predict.proofs.Signed.{sf, got, widens, gap-fits, gap_is}
+use Rattle.predict.proofs.Signed.{sf, got, widens, gap_fits, gap_is}
 use Rattle.predict.proofs.vertex.height_there.Statement.{statement}
 use Rattle.predict.proofs.vertex.height_there.Tie as tie
 
@@ -14,7 +14,7 @@ cast-f32-of-i64-2 c = widens (sf w32 c.before.before.args.m.z c.struct_told.give
 sub-f32-of-i64 : tie.Need-overflow-sub-f32-of-i64
 sub-f32-of-i64 c =
     let start = c.before.before in
-    gap-fits start.ranges.z (sf w32 start.args.m.z c.struct_told.given.1.1.0.1)
+    gap_fits start.ranges.z (sf w32 start.args.m.z c.struct_told.given.1.1.0.1)
 
 f32-of-i64-requires : tie.Need-f32-of-i64-requires
 f32-of-i64-requires c κs = tt
@@ -39,8 +39,8 @@ returns c =
       to_z-of_z from,
     )
 
-pub height-there-spec : {M : Type 1} → statement M
-height-there-spec =
+pub height_there_spec : {M : Type 1} → statement M
+height_there_spec =
     tie.close
     (tie.spec
     cast-f32-of-i64

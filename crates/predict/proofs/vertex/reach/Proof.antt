@@ -34,5 +34,5 @@ returns c =
     ) at push.push-on.ensures in
     (rw pushes.0, pushes.1)
 
-pub reach-spec : {M : Type 1} → statement M
-reach-spec = tie.close (tie.spec part-of-requires height-there-requires push-on-requires same_length returns)
+pub reach_spec : {M : Type 1} → statement M
+reach_spec = tie.close (tie.spec part-of-requires height-there-requires push-on-requires same_length returns)

@@ -46,8 +46,8 @@ cast-result c = search rules
 returns-3 : tie.Need-returns-3
 returns-3 c = rw (eq-eqb _ _ c.before.before.before.before.before.if1.false, eq-eqb _ _ c.before.before.if2.false)
 
-pub is-followed-spec : {M : Type 1} → statement M
-is-followed-spec =
+pub is_followed_spec : {M : Type 1} → statement M
+is_followed_spec =
     tie.close
     (tie.spec
     mul-if1

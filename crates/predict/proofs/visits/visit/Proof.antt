@@ -1,7 +1,7 @@
 -- `predict::visits::visit` meets its contract: the place is cut to the array, so that every store lies in it, and none but the last changes how many
--- places are taken (`visit-stores`).
+-- places are taken (`visit_stores`).
 use borrow.Author.Rules.{rules}
-use Rattle.predict.proofs.VisitLaws.{visit-stores}
+use Rattle.predict.proofs.VisitLaws.{visit_stores}
 use Rattle.predict.proofs.visits.visit.Statement.{statement}
 use Rattle.predict.proofs.visits.visit.Tie as tie
 
@@ -71,10 +71,10 @@ element-write-visited-5 c = search rules
 returns : tie.Need-returns
 returns c =
     let args = c.before.before.before.before.before.args in
-    rw c.larger.ensures (visit-stores args.visited.now args.key args.edge)
+    rw c.larger.ensures (visit_stores args.visited.now args.key args.edge)
 
-pub visit-spec : {M : Type 1} → statement M
-visit-spec =
+pub visit_spec : {M : Type 1} → statement M
+visit_spec =
     tie.close
     (tie.spec
     element-copy-out-at

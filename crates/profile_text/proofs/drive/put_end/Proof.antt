@@ -84,8 +84,8 @@ returns-6 : tie.Need-returns-6
 unfolding end codes
 returns-6 c = rw c.before.before.before.enum-told6.given.1 (c.put-bytes6.ensures, omega (arith, c.put-bytes6.ensures.ends))
 
-pub put-end-spec : {M : Type 1} → statement M
-put-end-spec =
+pub put_end_spec : {M : Type 1} → statement M
+put_end_spec =
     tie.close
     (tie.spec
     enum_told

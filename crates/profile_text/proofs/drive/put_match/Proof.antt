@@ -29,8 +29,8 @@ returns-2 : tie.Need-returns-2
 unfolding matched codes
 returns-2 c = rw c.before.before.before.place.given.1 c.put-place.ensures
 
-pub put-match-spec : {M : Type 1} → statement M
-put-match-spec =
+pub put_match_spec : {M : Type 1} → statement M
+put_match_spec =
     tie.close
     (tie.spec
     enum_told

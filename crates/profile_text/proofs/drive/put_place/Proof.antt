@@ -2,7 +2,7 @@
 use native.Mathlib.Omega.{arith}
 use borrow.Author.Rules.{rules}
 use Rattle.profile_text.specs.Drive.{place}
-use Rattle.profile_text.proofs.Laws.{append-more}
+use Rattle.profile_text.proofs.Laws.{append_more}
 use Rattle.profile_text.proofs.drive.put_place.Statement.{statement}
 use Rattle.profile_text.proofs.drive.put_place.Tie as tie
 
@@ -28,10 +28,10 @@ returns c =
     let col = c.before.before.before.before.before.before.put-field2.ensures in
     let edge = c.before.before.before.before.put-field3.ensures in
     let way = c.before.before.put-way.ensures in
-    (append-more row.0 (append-more col.0 (append-more edge.0 (append-more way.0 c.put-metres.ensures.0))), omega (arith, row.1, col.1, edge.1, way.1, c.put-metres.ensures.1))
+    (append_more row.0 (append_more col.0 (append_more edge.0 (append_more way.0 c.put-metres.ensures.0))), omega (arith, row.1, col.1, edge.1, way.1, c.put-metres.ensures.1))
 
-pub put-place-spec : {M : Type 1} → statement M
-put-place-spec =
+pub put_place_spec : {M : Type 1} → statement M
+put_place_spec =
     tie.close
     (tie.spec
     put-field-requires

@@ -71,8 +71,8 @@ returns-5 : tie.Need-returns-5
 unfolding status codes
 returns-5 c = rw c.before.before.before.enum-told5.given.1 (c.put-bytes5.ensures, omega (arith, c.put-bytes5.ensures.ends))
 
-pub put-status-spec : {M : Type 1} → statement M
-put-status-spec =
+pub put_status_spec : {M : Type 1} → statement M
+put_status_spec =
     tie.close
     (tie.spec
     enum_told

@@ -45,8 +45,8 @@ returns-3 : tie.Need-returns-3
 unfolding way codes
 returns-3 c = rw c.before.before.before.enum-told3.given.1 (c.put-bytes3.ensures, omega (arith, c.put-bytes3.ensures.ends))
 
-pub put-way-spec : {M : Type 1} → statement M
-put-way-spec =
+pub put_way_spec : {M : Type 1} → statement M
+put_way_spec =
     tie.close
     (tie.spec
     enum_told

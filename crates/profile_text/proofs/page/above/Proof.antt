@@ -22,11 +22,11 @@ module _ {low z : ℤ} (f : SFits w16 low) (g : SFits w16 z) (e : le_z low z ≡
   small : nat_abs (z -ℤ low) < 65536
   small = omega (arith, gap low z e, up-dn low f.sfits, up-dn z g.sfits)
 
-  gap-fits : SFits w32 (z -ℤ low)
-  gap-fits = rw (gap_is low z e) (record { sfits = omega (arith, small) })
+  gap_fits : SFits w32 (z -ℤ low)
+  gap_fits = rw (gap_is low z e) (record { sfits = omega (arith, small) })
 
   difference : to_z w32 (of_z w32 (z -ℤ low)) ≡ pos (nat_abs (z -ℤ low))
-  difference = to_z-of_z gap-fits ∙ gap_is low z e
+  difference = to_z-of_z gap_fits ∙ gap_is low z e
 
 cast-result : tie.Need-overflow-cast-result
 cast-result c = wide c.ranges.z
@@ -35,7 +35,7 @@ cast-result-2 : tie.Need-overflow-cast-result-2
 cast-result-2 c = wide c.ranges.low
 
 sub-result : tie.Need-overflow-sub-result
-sub-result c = let f = c.ranges.low in let g = c.ranges.z in rw (read f, read g) (gap-fits f g c.requires)
+sub-result c = let f = c.ranges.low in let g = c.ranges.z in rw (read f, read g) (gap_fits f g c.requires)
 
 cast-result-3 : tie.Need-overflow-cast-result-3
 cast-result-3 c =
@@ -49,7 +49,7 @@ returns c =
     let g = c.ranges.z in
     rw (read f, read g, difference f g c.requires) (refl, small f g c.requires)
 
-pub above-spec : {M : Type 1} → statement M
-above-spec =
+pub above_spec : {M : Type 1} → statement M
+above_spec =
     tie.close
     (tie.spec cast-result cast-result-2 sub-result cast-result-3 returns)

@@ -7,7 +7,7 @@ use native.Mathlib.Omega.{arith}
 use lib.ListN.{length, take, set, get_or, length-set}
 use lib.Seq.{take_all}
 use Rattle.profile_text.specs.Appended.{Appended}
-use Rattle.profile_text.proofs.Laws.{append-none, append-one, append-next, whole}
+use Rattle.profile_text.proofs.Laws.{append_none, append_one, append_next, whole}
 use Rattle.profile_text.proofs.page.copy.Statement.{statement}
 use Rattle.profile_text.proofs.page.copy.Tie as tie
 
@@ -18,10 +18,10 @@ abbrev decreases-loop : tie.decreases-loop
 decreases-loop text out₀ i₀ out i = length text - i
 
 one_more : (old mid text : List ℕ) (i : ℕ) → i < length text → i < length mid → Appended old 0 (take i text) mid (0 + i) → Appended old 0 (take (i + 1) text) (set mid i (get_or text i 0)) (0 + (i + 1))
-one_more old mid text i h g a = append-next old mid (set mid i (get_or text i 0)) text 0 i (i + 1) h a (rw (zero-add i) (append-one mid i (get_or text i 0) g))
+one_more old mid text i h g a = append_next old mid (set mid i (get_or text i 0)) text 0 i (i + 1) h a (rw (zero-add i) (append_one mid i (get_or text i 0) g))
 
 loop-holds : tie.Need-loop-init invariant-loop decreases-loop
-loop-holds c = (omega arith, (omega arith, rw (zero-add 0) (append-none _ _)))
+loop-holds c = (omega arith, (omega arith, rw (zero-add 0) (append_none _ _)))
 
 shared-slice-read-out : tie.Need-shared-slice-read-out invariant-loop decreases-loop
 shared-slice-read-out c = omega arith

@@ -9,5 +9,5 @@ returns c = let s = c.before.ranges in rw (rw (to_z-of_z s.a, to_z-of_z s.b) at 
 returns-2 : tie.Need-returns-2
 returns-2 c = let s = c.before.ranges in rw (rw (to_z-of_z s.a, to_z-of_z s.b) at c.if1.false) (to_z-of_z s.a)
 
-pub greater-spec : {M : Type 1} → statement M
-greater-spec = tie.close (tie.spec returns returns-2)
+pub greater_spec : {M : Type 1} → statement M
+greater_spec = tie.close (tie.spec returns returns-2)

@@ -14,7 +14,7 @@ use Rattle.profile_text.specs.Appended.{Appended}
 use Rattle.profile_text.specs.Page.{page, page_of}
 use Rattle.profile_text.specs.declared.page.Printed.TheVariants as Printed
 use Rattle.profile_text.proofs.Laws.{whole}
-use Rattle.profile_text.proofs.Pages.{page-is, too_many, too_short, fits}
+use Rattle.profile_text.proofs.Pages.{page_is, too_many, too_short, fits}
 use Rattle.profile_text.proofs.page.page.Statement.{statement}
 use Rattle.profile_text.proofs.page.page.Tie as tie
 
@@ -29,7 +29,7 @@ room : {old new text : List ℕ} {r : ℕ} → Appended old 0 text new r → r �
 room {old} {new} {text} {r} h = omega (arith, (whole h).0, simp length-append at (ap length (whole h).1))
 
 samples : (zs : List ℤ) (p : ℕ) {from to : ℕ} → (from ≤ p * 50) × (from ≤ length zs) → (from < p * 50 → from ≡ length zs) → (to ≤ from + 50) × (to ≤ length zs) → (to < from + 50 → to ≡ length zs) → page_of zs from (take (to - from) (drop from zs)) ≡ page p zs
-samples zs p {from} {to} a short b less = page-is zs p from to (omega arith) a.1 (λ (h : from < 50 * p). short (omega arith)) (after a.1 b.1 less) b.0 less
+samples zs p {from} {to} a short b less = page_is zs p from to (omega arith) a.1 (λ (h : from < 50 * p). short (omega arith)) (after a.1 b.1 less) b.0 less
 
 returns : tie.Need-returns
 returns c = too_many _ _ _ c.if1.true
@@ -80,8 +80,8 @@ returns-3 c =
     let answered = fits a.samples.now a.p c.before.before.before.before.before.before.before.before.before.before.if1.false a.out.now (rw (whole made).0 at c.before.before.before.before.before.if2.false) in
     (ap Printed.Length (whole made).0 ∙ answered.0, c.before.before.copy.ensures ∙ ap (λ t. t ++ drop (length t) a.out.now) made.stands ∙ answered.1)
 
-pub page-spec : {M : Type 1} → statement M
-page-spec =
+pub page_spec : {M : Type 1} → statement M
+page_spec =
     tie.close
     (tie.spec
     returns

@@ -8,16 +8,16 @@ use lib.ListN.{length, replicate, length-replicate}
 use borrow.Author.Rules.{rules}
 use Rattle.profile_text.specs.Appended.{Appended}
 use Rattle.profile_text.specs.Text.{decimal}
-use Rattle.profile_text.specs.Page.{ahead, rightIn}
-use Rattle.profile_text.proofs.Laws.{append-more, length-decimal}
+use Rattle.profile_text.specs.Page.{ahead, right_in}
+use Rattle.profile_text.proofs.Laws.{append_more, length-decimal}
 use Rattle.profile_text.proofs.Pages.{length-ahead}
 use Rattle.profile_text.proofs.page.put_ahead.Statement.{statement}
 use Rattle.profile_text.proofs.page.put_ahead.Tie as tie
 
 module _ {old mid new : List ℕ} {at r s i w : ℕ} (l : i < 501) (e : w ≡ length (decimal (i * 20))) (h : Appended old at (replicate (6 - w) 32) mid r) (g : Appended mid r (decimal (i * 20)) new s) where
   text : Appended old at (ahead i) new s
-  unfolding ahead rightIn
-  text = rw (mul_comm 20 i, ← e) (append-more h g)
+  unfolding ahead right_in
+  text = rw (mul_comm 20 i, ← e) (append_more h g)
 
   right : Appended old at (ahead i) new s × (s ≡ at + 6)
   right = (text, omega (arith, text.ends, length-ahead i l))
@@ -43,8 +43,8 @@ put-number-requires c κs = omega (arith, c.before.put-many.ensures.ends, length
 returns : tie.Need-returns
 returns c = right c.before.before.before.before.before.requires.0 c.before.before.before.width.ensures c.before.before.put-many.ensures c.put-number.ensures
 
-pub put-ahead-spec : {M : Type 1} → statement M
-put-ahead-spec =
+pub put_ahead_spec : {M : Type 1} → statement M
+put_ahead_spec =
     tie.close
     (tie.spec
     mul-metres

@@ -6,16 +6,16 @@ use native.Mathlib.Omega.{arith}
 use lib.ListN.{replicate, length-replicate}
 use borrow.Author.Rules.{rules}
 use Rattle.profile_text.specs.Appended.{Appended}
-use Rattle.profile_text.specs.Page.{bar, leftIn}
-use Rattle.profile_text.proofs.Laws.{append-more}
+use Rattle.profile_text.specs.Page.{bar, left_in}
+use Rattle.profile_text.proofs.Laws.{append_more}
 use Rattle.profile_text.proofs.Pages.{length-bar}
 use Rattle.profile_text.proofs.page.put_bar.Statement.{statement}
 use Rattle.profile_text.proofs.page.put_bar.Tie as tie
 
 module _ {old mid far new : List ℕ} {at r t s n : ℕ} (l : n ≤ 25) (h : Appended old at (replicate n 35) mid r) (g : Appended mid r (replicate (25 - n) 32) far t) (k : Appended far t (10 ∷ []) new s) where
   text : Appended old at (bar n) new s
-  unfolding bar leftIn
-  text = rw (length-replicate {A = ℕ} n 35) (append-more (append-more h g) k)
+  unfolding bar left_in
+  text = rw (length-replicate {A = ℕ} n 35) (append_more (append_more h g) k)
 
   filled : Appended old at (bar n) new s × (s ≡ at + 26)
   filled = (text, omega (arith, text.ends, length-bar n l))
@@ -37,6 +37,6 @@ put-requires c κs =
 returns : tie.Need-returns
 returns c = filled c.before.before.before.before.before.before.requires.0 c.before.before.before.before.put-many.ensures c.before.before.put-many2.ensures c.put.ensures
 
-pub put-bar-spec : {M : Type 1} → statement M
-put-bar-spec =
+pub put_bar_spec : {M : Type 1} → statement M
+put_bar_spec =
     tie.close (tie.spec put-many-requires sub-put-many put-many-requires-2 put-requires returns)

@@ -13,10 +13,10 @@ use mir.Val.{to_z, of_z}
 use borrow.Author.Rules.{rules}
 use Rattle.profile_text.specs.Codes.{codes}
 use Rattle.profile_text.specs.Appended.{Appended}
-use Rattle.profile_text.specs.Text.{linesBy}
-use Rattle.profile_text.specs.Page.{lowest, highest, pageLine, pageHeading, page_of, rightIn, leftIn, bar}
-use Rattle.profile_text.proofs.Laws.{append-none, append-more, lines_more}
-use Rattle.profile_text.proofs.Order.{lowest-each, highest-each}
+use Rattle.profile_text.specs.Text.{lines_by}
+use Rattle.profile_text.specs.Page.{lowest, highest, page_line, page_heading, page_of, right_in, left_in, bar}
+use Rattle.profile_text.proofs.Laws.{append_none, append_more, lines_more}
+use Rattle.profile_text.proofs.Order.{lowest_each, highest_each}
 use Rattle.profile_text.proofs.page.put_page.Statement.{statement}
 use Rattle.profile_text.proofs.page.put_page.Tie as tie
 
@@ -24,21 +24,21 @@ read : {z : ℤ} → mag z < 32768 → to_z w16 (of_z w16 z) ≡ z
 read h = to_z-of_z {w = w16} (record { sfits = h })
 
 abbrev row : List ℤ → ℕ → ℤ → List ℕ
-row zs = pageLine (lowest zs) (highest zs)
+row zs = page_line (lowest zs) (highest zs)
 
 record Lined (zs : List ℤ) (from to : ℕ) (old : List ℕ) (first : ℕ) (out : List ℕ) (at i : ℕ) : Type 0 where
   after : from ≤ i
   within : i ≤ to
   ends : at ≡ first + 41 * (i - from)
-  text : Appended old first (linesBy (row zs) from (take (i - from) (drop from zs))) out at
+  text : Appended old first (lines_by (row zs) from (take (i - from) (drop from zs))) out at
 
 start : (zs : List ℤ) (from to : ℕ) (old : List ℕ) (at : ℕ) → from ≤ to → Lined zs from to old at old at from
-unfolding linesBy
+unfolding lines_by
 start zs from to old at h =
     let none : from - from ≡ 0 = omega arith in
-    record { after = omega arith; within = h; ends = omega arith; text = rw none (append-none old at) }
+    record { after = omega arith; within = h; ends = omega arith; text = rw none (append_none old at) }
 
-one_more : (zs : List ℤ) (from i : ℕ) → from ≤ i → i < length zs → linesBy (row zs) from (take (i + 1 - from) (drop from zs)) ≡ linesBy (row zs) from (take (i - from) (drop from zs)) ++ row zs i (get_or zs i (pos 0))
+one_more : (zs : List ℤ) (from i : ℕ) → from ≤ i → i < length zs → lines_by (row zs) from (take (i + 1 - from) (drop from zs)) ≡ lines_by (row zs) from (take (i - from) (drop from zs)) ++ row zs i (get_or zs i (pos 0))
 one_more zs from i a h =
     let count : i + 1 - from ≡ suc (i - from) = omega arith in
     let here : from + (i - from) ≡ i = omega arith in
@@ -50,7 +50,7 @@ next zs from to old first out new at i r l m inv h e =
       after = omega (arith, inv.after);
       within = omega arith;
       ends = omega (arith, inv.ends, inv.after);
-      text = rw (one_more zs from i inv.after (omega arith)) (append-more inv.text h);
+      text = rw (one_more zs from i inv.after (omega arith)) (append_more inv.text h);
     }
 
 abbrev invariant-loop : tie.invariant-loop
@@ -68,7 +68,7 @@ slice-aggregate-put-bytes c = search rules
 put-bytes-requires : tie.Need-put-bytes-requires invariant-loop decreases-loop
 put-bytes-requires c κs = omega arith
 
-done : (zs : List ℤ) (from to : ℕ) (old : List ℕ) (first : ℕ) (out : List ℕ) (at i : ℕ) → to ≤ i → Lined zs from to old first out at i → Appended old first (linesBy (row zs) from (take (to - from) (drop from zs))) out at
+done : (zs : List ℤ) (from to : ℕ) (old : List ℕ) (first : ℕ) (out : List ℕ) (at i : ℕ) → to ≤ i → Lined zs from to old first out at i → Appended old first (lines_by (row zs) from (take (to - from) (drop from zs))) out at
 done zs from to old first out at i h inv = let end : to ≡ i = omega (arith, inv.within) in rw end inv.text
 
 loop-holds : tie.Need-loop-init invariant-loop decreases-loop
@@ -88,7 +88,7 @@ put-page-line-requires c κs =
     let h = c.before.before.before.before.before.before.before.before.before.range in
     let there : l.i < length zs = omega (arith, s.requires) in (
       omega (arith, l.invariant.ends, l.invariant.within, c.before.before.before.before.before.before.put-bytes.ensures.ends, s.requires),
-      rw (read c.before.struct_told.given.0.1, read c.before.before.put-page-line-arg2.given, read c.struct-told2.given.1.0.1, h.ensures.0, h.ensures.1) (lowest-each zs l.i there, highest-each zs l.i there),
+      rw (read c.before.struct_told.given.0.1, read c.before.before.put-page-line-arg2.given, read c.struct-told2.given.1.0.1, h.ensures.0, h.ensures.1) (lowest_each zs l.i there, highest_each zs l.i there),
     )
 
 add-i : tie.Need-overflow-add-i invariant-loop decreases-loop
@@ -106,11 +106,11 @@ loop-again c =
     next _ _ _ _ _ _ _ _ _ _ c.before.before.before.before.before.loop-test.true s.requires.1.1.0 l.invariant line c.put-page-line.ensures.1
 
 returns : tie.Need-returns invariant-loop decreases-loop
-unfolding page_of pageHeading rightIn leftIn bar codes
-returns c = let l = c.before.loop in append-more c.before.before.put-bytes.ensures (done _ _ _ _ _ _ _ l.i c.loop-test.false l.invariant)
+unfolding page_of page_heading right_in left_in bar codes
+returns c = let l = c.before.loop in append_more c.before.before.put-bytes.ensures (done _ _ _ _ _ _ _ l.i c.loop-test.false l.invariant)
 
-pub put-page-spec : {M : Type 1} → statement M
-put-page-spec =
+pub put_page_spec : {M : Type 1} → statement M
+put_page_spec =
     tie.close
     (tie.spec
     invariant-loop

@@ -10,21 +10,21 @@ use mir.Facts.{to_z-of_z}
 use borrow.Author.Rules.{rules}
 use Rattle.profile_text.specs.Appended.{Appended}
 use Rattle.profile_text.specs.Text.{decimal}
-use Rattle.profile_text.specs.Page.{rightIn, rise, sign, tenths}
-use Rattle.profile_text.proofs.Laws.{append-more, length-decimal}
+use Rattle.profile_text.specs.Page.{right_in, rise, sign, tenths}
+use Rattle.profile_text.proofs.Laws.{append_more, length-decimal}
 use Rattle.profile_text.proofs.Pages.{length-tenths, length-rise}
 use Rattle.profile_text.proofs.page.put_rise.Statement.{statement}
 use Rattle.profile_text.proofs.page.put_rise.Tie as tie
 
-module _ {old mid far new : List ℕ} {at r t s n w b : ℕ} (z : ℤ) (l : mag z < 32768) (n-is : n ≡ nat_abs z) (b-is : b ≡ sign z) (w-is : w ≡ length (decimal (n / 10))) (h : Appended old at (replicate (6 - w) 32) mid r) (g : Appended mid r (b ∷ []) far t) (k : Appended far t (tenths n) new s) where
+module _ {old mid far new : List ℕ} {at r t s n w b : ℕ} (z : ℤ) (l : mag z < 32768) (n_is : n ≡ nat_abs z) (b_is : b ≡ sign z) (w_is : w ≡ length (decimal (n / 10))) (h : Appended old at (replicate (6 - w) 32) mid r) (g : Appended mid r (b ∷ []) far t) (k : Appended far t (tenths n) new s) where
   missing : 9 - suc (length (tenths n)) ≡ 6 - w
   missing = omega (arith, length-tenths n)
 
-  text : Appended old at (rightIn 9 (rise z)) new s
-  unfolding rightIn rise
-  text = rw (← b-is, ← n-is, missing) (append-more h (append-more g k))
+  text : Appended old at (right_in 9 (rise z)) new s
+  unfolding right_in rise
+  text = rw (← b_is, ← n_is, missing) (append_more h (append_more g k))
 
-  right : Appended old at (rightIn 9 (rise z)) new s × (s ≡ at + 9)
+  right : Appended old at (right_in 9 (rise z)) new s × (s ≡ at + 9)
   right = (text, omega (arith, text.ends, length-rise z l))
 
 size-requires : tie.Need-size-requires
@@ -62,8 +62,8 @@ returns c =
     let s = rw (to_z-of_z f) at c.before.before.before.sign.ensures in
     right c.before.before.before.before.before.before.before.before.before.args.z f.sfits n s c.before.before.before.before.before.before.width.ensures c.before.before.before.before.before.put-many.ensures c.before.before.put.ensures c.put-tenths.ensures
 
-pub put-rise-spec : {M : Type 1} → statement M
-put-rise-spec =
+pub put_rise_spec : {M : Type 1} → statement M
+put_rise_spec =
     tie.close
     (tie.spec
     size-requires

@@ -3,7 +3,7 @@ use Prim.Native.Nat.{◌/◌}
 use native.Mathlib.Omega.{arith}
 use borrow.Author.Rules.{rules}
 use Rattle.profile_text.specs.Page.{tenths}
-use Rattle.profile_text.proofs.Laws.{append-more, length-decimal}
+use Rattle.profile_text.proofs.Laws.{append_more, length-decimal}
 use Rattle.profile_text.proofs.page.put_tenths.Statement.{statement}
 use Rattle.profile_text.proofs.page.put_tenths.Tie as tie
 
@@ -24,9 +24,9 @@ put-number-requires-2 c κs =
 
 returns : tie.Need-returns
 unfolding tenths
-returns c = append-more c.before.before.before.before.put-number.ensures (append-more c.before.before.put.ensures c.put-number2.ensures)
+returns c = append_more c.before.before.before.before.put-number.ensures (append_more c.before.before.put.ensures c.put-number2.ensures)
 
-pub put-tenths-spec : {M : Type 1} → statement M
-put-tenths-spec =
+pub put_tenths_spec : {M : Type 1} → statement M
+put_tenths_spec =
     tie.close
     (tie.spec put-number-requires put-requires put-number-requires-2 returns)

@@ -11,7 +11,7 @@ use lib.Signed.{mag}
 use mir.Facts.{to_z-of_z}
 use mir.Syntax.{w16}
 use mir.Val.{to_z, of_z}
-use Rattle.profile_text.specs.Page.{lowest, highest, lowestOf, highestOf, lesser, greater}
+use Rattle.profile_text.specs.Page.{lowest, highest, lowest_of, highest_of, lesser, greater}
 use Rattle.profile_text.proofs.page.range.Statement.{statement}
 use Rattle.profile_text.proofs.page.range.Tie as tie
 
@@ -20,18 +20,18 @@ read h = to_z-of_z {w = w16} (record { sfits = h })
 
 record Ranged (zs : List ℤ) (low high : ℤ) (i : ℕ) : Type 0 where
   within : i ≤ length zs
-  lows : lowestOf low (drop i zs) ≡ lowest zs
-  highs : highestOf high (drop i zs) ≡ highest zs
+  lows : lowest_of low (drop i zs) ≡ lowest zs
+  highs : highest_of high (drop i zs) ≡ highest zs
 
-lowest-none : (zs : List ℤ) → length zs ≡ 0 → pos 0 ≡ lowest zs
+lowest_none : (zs : List ℤ) → length zs ≡ 0 → pos 0 ≡ lowest zs
 unfolding lowest
-lowest-none [] e = refl
-lowest-none (z ∷ zs) e = absurd (omega arith)
+lowest_none [] e = refl
+lowest_none (z ∷ zs) e = absurd (omega arith)
 
-highest-none : (zs : List ℤ) → length zs ≡ 0 → pos 0 ≡ highest zs
+highest_none : (zs : List ℤ) → length zs ≡ 0 → pos 0 ≡ highest zs
 unfolding highest
-highest-none [] e = refl
-highest-none (z ∷ zs) e = absurd (omega arith)
+highest_none [] e = refl
+highest_none (z ∷ zs) e = absurd (omega arith)
 
 first : (zs : List ℤ) → (length zs ≡ 0 → ⊥) → Ranged zs (get_or zs 0 (pos 0)) (get_or zs 0 (pos 0)) 1
 unfolding lowest highest
@@ -39,17 +39,17 @@ first [] h = absurd (h refl)
 first (z ∷ zs) h = record { within = omega arith; lows = refl; highs = refl }
 
 next : (zs : List ℤ) (low high : ℤ) (i : ℕ) → i < length zs → Ranged zs low high i → Ranged zs (lesser low (get_or zs i (pos 0))) (greater high (get_or zs i (pos 0))) (i + 1)
-unfolding lowestOf highestOf
+unfolding lowest_of highest_of
 next zs low high i h r =
     let step : drop i zs ≡ get_or zs i (pos 0) ∷ drop (i + 1) zs = drop-cons zs i (pos 0) h ∙ ap (λ k. get_or zs i (pos 0) ∷ drop k zs) (sym (add-one i)) in
-    record { within = omega arith; lows = ap (lowestOf low) (sym step) ∙ r.lows; highs = ap (highestOf high) (sym step) ∙ r.highs }
+    record { within = omega arith; lows = ap (lowest_of low) (sym step) ∙ r.lows; highs = ap (highest_of high) (sym step) ∙ r.highs }
 
 last : (zs : List ℤ) (low high : ℤ) (i : ℕ) → length zs ≤ i → Ranged zs low high i → (low ≡ lowest zs) × (high ≡ highest zs)
-unfolding lowestOf highestOf
+unfolding lowest_of highest_of
 last zs low high i h r =
     let end : i ≡ length zs = omega (arith, r.within) in
     let none : drop i zs ≡ [] = ap (λ k. drop k zs) end ∙ drop-length zs in
-    (ap (lowestOf low) (sym none) ∙ r.lows, ap (highestOf high) (sym none) ∙ r.highs)
+    (ap (lowest_of low) (sym none) ∙ r.lows, ap (highest_of high) (sym none) ∙ r.highs)
 
 abbrev invariant-loop : tie.invariant-loop
 invariant-loop samples first r₀ i₀ r i = Ranged samples r.low r.high i
@@ -58,7 +58,7 @@ abbrev decreases-loop : tie.decreases-loop
 decreases-loop samples first r₀ i₀ r i = length samples - i
 
 returns : tie.Need-returns invariant-loop decreases-loop
-returns c = (lowest-none _ c.if1.true, highest-none _ c.if1.true)
+returns c = (lowest_none _ c.if1.true, highest_none _ c.if1.true)
 
 shared-slice-copy-out-first : tie.Need-shared-slice-copy-out-first invariant-loop decreases-loop
 shared-slice-copy-out-first c = omega arith
@@ -96,8 +96,8 @@ loop-again c =
 returns-2 : tie.Need-returns-2 invariant-loop decreases-loop
 returns-2 c = last _ c.before.loop.r.low c.before.loop.r.high c.before.loop.i c.loop-test.false c.before.loop.invariant
 
-pub range-spec : {M : Type 1} → statement M
-range-spec =
+pub range_spec : {M : Type 1} → statement M
+range_spec =
     tie.close
     (tie.spec
     invariant-loop

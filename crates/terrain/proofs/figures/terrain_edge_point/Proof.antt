@@ -30,8 +30,8 @@ returns-2 c =
     let called = c.before.before.before.before in
     rw (← (rw (called.before.header_of.ensures, called.Edge-of.ensures) at c.before.before.before.edge-point.ensures), c.before.answer2.given.1)
 
-pub terrain-edge-point-spec : {M : Type 1} → statement M
-terrain-edge-point-spec =
+pub terrain_edge_point_spec : {M : Type 1} → statement M
+terrain_edge_point_spec =
     tie.close
     (tie.spec
     header-of-requires

@@ -11,5 +11,5 @@ figure-out-requires c κs = tt
 returns : tie.Need-returns
 returns c = rw c.before.length.ensures at c.figure-out.ensures
 
-pub terrain-length-spec : {M : Type 1} → statement M
-terrain-length-spec = tie.close (tie.spec length-requires figure-out-requires returns)
+pub terrain_length_spec : {M : Type 1} → statement M
+terrain_length_spec = tie.close (tie.spec length-requires figure-out-requires returns)

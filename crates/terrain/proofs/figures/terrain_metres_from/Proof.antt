@@ -28,8 +28,8 @@ returns-2 c =
     let called = c.before.before.before.before in
     rw (← (rw (called.before.point-of.ensures, called.point-of2.ensures) at c.before.before.before.metres-from.ensures), c.before.answer2.given.1)
 
-pub terrain-metres-from-spec : {M : Type 1} → statement M
-terrain-metres-from-spec =
+pub terrain_metres_from_spec : {M : Type 1} → statement M
+terrain_metres_from_spec =
     tie.close
     (tie.spec
     point-of-requires

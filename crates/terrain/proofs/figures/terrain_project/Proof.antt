@@ -31,8 +31,8 @@ returns-2 c =
     let called = c.before.before.before.before in
     rw (← (rw (called.before.before.metres-of.ensures, called.before.metres-of2.ensures, called.metres-of3.ensures) at c.before.before.before.project.ensures), c.before.answer2.given.1)
 
-pub terrain-project-spec : {M : Type 1} → statement M
-terrain-project-spec =
+pub terrain_project_spec : {M : Type 1} → statement M
+terrain_project_spec =
     tie.close
     (tie.spec
     metres-of-requires

@@ -11,5 +11,5 @@ figure-out-requires c κs = tt
 returns : tie.Need-returns
 returns c = rw c.before.turn.ensures at c.figure-out.ensures
 
-pub terrain-turn-spec : {M : Type 1} → statement M
-terrain-turn-spec = tie.close (tie.spec turn-requires figure-out-requires returns)
+pub terrain_turn_spec : {M : Type 1} → statement M
+terrain_turn_spec = tie.close (tie.spec turn-requires figure-out-requires returns)

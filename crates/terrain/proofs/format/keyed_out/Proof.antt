@@ -24,8 +24,8 @@ returns-2 c = rw c.enum_told.given.1
 returns-3 : tie.Need-returns-3
 returns-3 c = rw c.before.answer2.given.1
 
-pub keyed-out-spec : {M : Type 1} → statement M
-keyed-out-spec =
+pub keyed_out_spec : {M : Type 1} → statement M
+keyed_out_spec =
     tie.close
     (tie.spec
     enum-known-answer

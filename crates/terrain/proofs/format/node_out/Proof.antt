@@ -15,5 +15,5 @@ returns c = rw c.before.answer.given.1
 returns-2 : tie.Need-returns-2
 returns-2 c = rw c.before.answer2.given.1
 
-pub node-out-spec : {M : Type 1} → statement M
-node-out-spec = tie.close (tie.spec enum-known-answer enum-known-answer-2 returns returns-2)
+pub node_out_spec : {M : Type 1} → statement M
+node_out_spec = tie.close (tie.spec enum-known-answer enum-known-answer-2 returns returns-2)

@@ -15,6 +15,6 @@ keyed-out-requires c κs = tt
 returns : tie.Need-returns
 returns c = rw (c.before.checked.ensures, c.before.before.header_of.ensures, to_z-of_z c.before.before.before.ranges.row, to_z-of_z c.before.before.before.ranges.col) at c.keyed-out.ensures
 
-pub terrain-header-checked-spec : {M : Type 1} → statement M
-terrain-header-checked-spec =
+pub terrain_header_checked_spec : {M : Type 1} → statement M
+terrain_header_checked_spec =
     tie.close (tie.spec header-of-requires checked-requires keyed-out-requires returns)

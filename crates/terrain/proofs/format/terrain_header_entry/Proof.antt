@@ -28,8 +28,8 @@ returns-2 c =
     let called = c.before.before.before.before in
     rw (← (rw (called.before.header_of.ensures, called.key_of.ensures) at c.before.before.before.entry.ensures), c.before.answer2.given.1)
 
-pub terrain-header-entry-spec : {M : Type 1} → statement M
-terrain-header-entry-spec =
+pub terrain_header_entry_spec : {M : Type 1} → statement M
+terrain_header_entry_spec =
     tie.close
     (tie.spec
     header-of-requires

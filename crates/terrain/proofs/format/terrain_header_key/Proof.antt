@@ -18,6 +18,6 @@ returns c =
     let called = c.before.before.before.before in
     rw (c.before.key.ensures, called.header_of.ensures, got w32 c.before.before.before.struct_told.given.0.1, got w32 c.before.before.struct-told2.given.1.0.1) at c.keyed-out.ensures
 
-pub terrain-header-key-spec : {M : Type 1} → statement M
-terrain-header-key-spec =
+pub terrain_header_key_spec : {M : Type 1} → statement M
+terrain_header_key_spec =
     tie.close (tie.spec header-of-requires key-requires keyed-out-requires returns)

@@ -27,8 +27,8 @@ returns-2 c = rw (← (rw c.before.before.before.header_of.ensures at c.before.b
 returns-3 : tie.Need-returns-3
 returns-3 c = rw (← (rw c.before.before.before.before.header_of.ensures at c.before.before.before.locate.ensures), c.before.answer2.given.1)
 
-pub terrain-header-locate-spec : {M : Type 1} → statement M
-terrain-header-locate-spec =
+pub terrain_header_locate_spec : {M : Type 1} → statement M
+terrain_header_locate_spec =
     tie.close
     (tie.spec
     header-of-requires

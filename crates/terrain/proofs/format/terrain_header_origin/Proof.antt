@@ -30,8 +30,8 @@ returns-2 c =
     let called = c.before.before.before.before in
     rw (← (rw (called.before.header_of.ensures, called.key_of.ensures) at c.before.before.before.origin.ensures), c.before.answer2.given.1)
 
-pub terrain-header-origin-spec : {M : Type 1} → statement M
-terrain-header-origin-spec =
+pub terrain_header_origin_spec : {M : Type 1} → statement M
+terrain_header_origin_spec =
     tie.close
     (tie.spec
     header-of-requires

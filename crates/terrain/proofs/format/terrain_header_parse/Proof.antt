@@ -21,7 +21,7 @@ returns c = rw (← c.before.before.before.parse.ensures, c.enum_told.given.1, c
 returns-2 : tie.Need-returns-2
 returns-2 c = rw (← c.before.before.before.before.parse.ensures, c.before.answer.given.1, c.before.before.before.header-out.ensures)
 
-pub terrain-header-parse-spec : {M : Type 1} → statement M
-terrain-header-parse-spec =
+pub terrain_header_parse_spec : {M : Type 1} → statement M
+terrain_header_parse_spec =
     tie.close
     (tie.spec parse-requires header-out-requires enum_told enum-known-answer returns returns-2)

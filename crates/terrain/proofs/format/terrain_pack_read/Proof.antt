@@ -18,6 +18,6 @@ returns c = rw (← c.before.before.before.read.ensures, c.before.answer.given.1
 returns-2 : tie.Need-returns-2
 returns-2 c = rw (← c.before.before.before.read.ensures, c.before.answer2.given.1)
 
-pub terrain-pack-read-spec : {M : Type 1} → statement M
-terrain-pack-read-spec =
+pub terrain_pack_read_spec : {M : Type 1} → statement M
+terrain_pack_read_spec =
     tie.close (tie.spec read-requires enum-known-answer enum-known-answer-2 returns returns-2)

@@ -24,8 +24,8 @@ returns c = rw (← c.before.before.before.before.edge.ensures, c.before.before.
 returns-2 : tie.Need-returns-2
 returns-2 c = rw (← c.before.before.before.before.edge.ensures, c.before.before.answer2.given.1, c.no_edge.ensures)
 
-pub terrain-tile-edge-spec : {M : Type 1} → statement M
-terrain-tile-edge-spec =
+pub terrain_tile_edge_spec : {M : Type 1} → statement M
+terrain_tile_edge_spec =
     tie.close
     (tie.spec
     edge-requires

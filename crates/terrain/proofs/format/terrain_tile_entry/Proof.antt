@@ -18,7 +18,7 @@ returns c = rw (← c.before.before.before.incident-entry.ensures, c.before.answ
 returns-2 : tie.Need-returns-2
 returns-2 c = rw (← c.before.before.before.incident-entry.ensures, c.before.answer2.given.1)
 
-pub terrain-tile-entry-spec : {M : Type 1} → statement M
-terrain-tile-entry-spec =
+pub terrain_tile_entry_spec : {M : Type 1} → statement M
+terrain_tile_entry_spec =
     tie.close
     (tie.spec incident-entry-requires enum-known-answer enum-known-answer-2 returns returns-2)

@@ -18,6 +18,6 @@ returns c = rw (← c.before.before.before.incident.ensures, c.before.answer.giv
 returns-2 : tie.Need-returns-2
 returns-2 c = rw (← c.before.before.before.incident.ensures, c.before.answer2.given.1)
 
-pub terrain-tile-incident-spec : {M : Type 1} → statement M
-terrain-tile-incident-spec =
+pub terrain_tile_incident_spec : {M : Type 1} → statement M
+terrain_tile_incident_spec =
     tie.close (tie.spec incident-requires enum-known-answer enum-known-answer-2 returns returns-2)

@@ -11,5 +11,5 @@ node-out-requires c κs = tt
 returns : tie.Need-returns
 returns c = rw c.before.node.ensures at c.node-out.ensures
 
-pub terrain-tile-node-spec : {M : Type 1} → statement M
-terrain-tile-node-spec = tie.close (tie.spec node-requires node-out-requires returns)
+pub terrain_tile_node_spec : {M : Type 1} → statement M
+terrain_tile_node_spec = tie.close (tie.spec node-requires node-out-requires returns)

@@ -18,6 +18,6 @@ returns c = rw (← c.before.before.before.node_at.ensures, c.before.answer.give
 returns-2 : tie.Need-returns-2
 returns-2 c = rw (← c.before.before.node_at.ensures, c.enum_told.given.1)
 
-pub terrain-tile-node-at-spec : {M : Type 1} → statement M
-terrain-tile-node-at-spec =
+pub terrain_tile_node_at_spec : {M : Type 1} → statement M
+terrain_tile_node_at_spec =
     tie.close (tie.spec node-at-requires enum-known-answer enum_told returns returns-2)

@@ -26,8 +26,8 @@ returns c =
 returns-2 : tie.Need-returns-2
 returns-2 c = rw (← (rw c.before.before.before.before.key_of.ensures at c.before.before.before.parse.ensures), c.before.answer2.given.1)
 
-pub terrain-tile-parse-spec : {M : Type 1} → statement M
-terrain-tile-parse-spec =
+pub terrain_tile_parse_spec : {M : Type 1} → statement M
+terrain_tile_parse_spec =
     tie.close
     (tie.spec
     key-of-requires

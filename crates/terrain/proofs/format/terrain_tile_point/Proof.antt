@@ -14,6 +14,6 @@ node-out-requires c κs = tt
 returns : tie.Need-returns
 returns c = rw (c.before.point.ensures, c.before.before.Edge-of.ensures) at c.node-out.ensures
 
-pub terrain-tile-point-spec : {M : Type 1} → statement M
-terrain-tile-point-spec =
+pub terrain_tile_point_spec : {M : Type 1} → statement M
+terrain_tile_point_spec =
     tie.close (tie.spec edge-of-requires point-requires node-out-requires returns)

@@ -21,7 +21,7 @@ returns c = search rules
 returns-2 : tie.Need-returns-2
 returns-2 c = rw (c.matched.ensures, c.before.before.c.given.1)
 
-pub current-spec : {M : Type 1} → statement M
-current-spec =
+pub current_spec : {M : Type 1} → statement M
+current_spec =
     tie.close
     (tie.spec enum_told unmatched-requires enum-known-c matched-requires returns returns-2)

@@ -21,7 +21,7 @@ returns-2 c = rw c.before.answer.given.1
 returns-3 : tie.Need-returns-3
 returns-3 c = rw c.before.answer2.given.1
 
-pub heading-spec : {M : Type 1} → statement M
-heading-spec =
+pub heading_spec : {M : Type 1} → statement M
+heading_spec =
     tie.close
     (tie.spec enum_told enum-known-answer enum-known-answer-2 returns returns-2 returns-3)

@@ -21,6 +21,6 @@ returns-2 c = rw c.enum-told2.given.1
 returns-3 : tie.Need-returns-3
 returns-3 c = rw c.before.answer.given.1
 
-pub known-spec : {M : Type 1} → statement M
-known-spec =
+pub known_spec : {M : Type 1} → statement M
+known_spec =
     tie.close (tie.spec enum_told enum-told-2 enum-known-answer returns returns-2 returns-3)

@@ -11,5 +11,5 @@ forward-requires c κs = search rules
 returns : tie.Need-returns
 returns c = rw (c.before.forward.ensures, got w32 c.struct_told.given.1.1.1.1.1.1.0.1)
 
-pub matched-spec : {M : Type 1} → statement M
-matched-spec = tie.close (tie.spec forward-requires returns)
+pub matched_spec : {M : Type 1} → statement M
+matched_spec = tie.close (tie.spec forward-requires returns)

@@ -1,12 +1,12 @@
 -- `host::no_road` meets its contract.
-use Rattle.engine.specs.Publish.{nothingAhead}
-use Rattle.geo.proofs.Literals.{literal-0}
+use Rattle.engine.specs.Publish.{nothing_ahead}
+use Rattle.geo.proofs.Literals.{literal_0}
 use Rattle.terrain.proofs.host.no_road.Statement.{statement}
 use Rattle.terrain.proofs.host.no_road.Tie as tie
 
 returns : tie.Need-returns
-unfolding nothingAhead
-returns c = rw literal-0
+unfolding nothing_ahead
+returns c = rw literal_0
 
-pub no-road-spec : {M : Type 1} → statement M
-no-road-spec = tie.close (tie.spec returns)
+pub no_road_spec : {M : Type 1} → statement M
+no_road_spec = tie.close (tie.spec returns)

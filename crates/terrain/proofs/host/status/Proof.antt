@@ -54,8 +54,8 @@ returns-5 c = rw c.before.answer.given.1
 returns-6 : tie.Need-returns-6
 returns-6 c = rw (c.told5.ensures, c.before.before.answer2.given.1)
 
-pub status-spec : {M : Type 1} → statement M
-status-spec =
+pub status_spec : {M : Type 1} → statement M
+status_spec =
     tie.close
     (tie.spec
     enum_told

@@ -32,8 +32,8 @@ returns-2 : tie.Need-returns-2
 unfolding ahead
 returns-2 c = rw (sym c.before.before.before.before.before.before.before.read.ensures.0 ∙ not-false _ c.before.before.before.before.before.if1.false, c.road2.ensures, c.before.before.known.ensures, c.before.before.before.ahead.ensures, c.before.before.before.before.before.before.before.read.ensures.1)
 
-pub terrain-ahead-spec : {M : Type 1} → statement M
-terrain-ahead-spec =
+pub terrain_ahead_spec : {M : Type 1} → statement M
+terrain_ahead_spec =
     tie.close
     (tie.spec
     read-requires

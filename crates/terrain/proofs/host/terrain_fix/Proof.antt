@@ -24,6 +24,6 @@ returns-2 : tie.Need-returns-2
 unfolding fix
 returns-2 c = (rw (sym c.before.before.before.before.before.before.read.ensures.0 ∙ not-false _ c.before.before.before.before.if1.false, c.changed.ensures.0, c.before.before.fix.ensures, to_z-of_z c.before.before.before.before.before.before.before.before.before.ranges.lat, to_z-of_z c.before.before.before.before.before.before.before.before.before.ranges.lon, c.before.before.before.before.before.before.read.ensures.1), rw (sym c.before.before.before.before.before.before.read.ensures.0 ∙ not-false _ c.before.before.before.before.if1.false, c.changed.ensures.1, c.before.before.fix.ensures, to_z-of_z c.before.before.before.before.before.before.before.before.before.ranges.lat, to_z-of_z c.before.before.before.before.before.before.before.before.before.ranges.lon, c.before.before.before.before.before.before.read.ensures.1))
 
-pub terrain-fix-spec : {M : Type 1} → statement M
-terrain-fix-spec =
+pub terrain_fix_spec : {M : Type 1} → statement M
+terrain_fix_spec =
     tie.close (tie.spec read-requires returns fix-requires changed-requires returns-2)

@@ -12,5 +12,5 @@ from-e7-requires c κs = search rules
 returns : tie.Need-returns
 returns c = rw (got w32 c.struct_told.given.0.1, got w32 c.struct_told.given.1.0.1, c.before.from-e7.ensures, to_z-of_z c.before.before.ranges.lat-e7, to_z-of_z c.before.before.ranges.lon-e7)
 
-pub terrain-from-e7-spec : {M : Type 1} → statement M
-terrain-from-e7-spec = tie.close (tie.spec from-e7-requires returns)
+pub terrain_from_e7_spec : {M : Type 1} → statement M
+terrain_from_e7_spec = tie.close (tie.spec from-e7-requires returns)

@@ -35,8 +35,8 @@ returns-2 : tie.Need-returns-2
 unfolding header
 returns-2 c = rw (sym c.before.before.before.before.before.before.before.read.ensures.0 ∙ not-false _ c.before.before.before.before.before.if1.false, c.header3.ensures, c.before.before.known2.ensures, c.before.before.before.header2.ensures, c.before.before.before.before.before.before.before.read.ensures.1)
 
-pub terrain-header-spec : {M : Type 1} → statement M
-terrain-header-spec =
+pub terrain_header_spec : {M : Type 1} → statement M
+terrain_header_spec =
     tie.close
     (tie.spec
     read-requires

@@ -23,6 +23,6 @@ returns-2 : tie.Need-returns-2
 unfolding heading
 returns-2 c = rw (sym c.before.before.before.before.before.read.ensures.0 ∙ not-false _ c.before.before.before.if1.false, c.heading2.ensures, c.before.heading.ensures, c.before.before.before.before.before.read.ensures.1)
 
-pub terrain-heading-spec : {M : Type 1} → statement M
-terrain-heading-spec =
+pub terrain_heading_spec : {M : Type 1} → statement M
+terrain_heading_spec =
     tie.close (tie.spec read-requires returns heading-requires heading-requires-2 returns-2)

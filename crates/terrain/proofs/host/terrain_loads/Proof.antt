@@ -26,7 +26,7 @@ returns-2 : tie.Need-returns-2
 unfolding loads
 returns-2 c = rw (sym c.before.before.before.before.before.read.ensures.0 ∙ not-false _ c.before.before.before.if1.false, c.counted2.ensures, c.before.loads.ensures, c.before.before.before.before.before.read.ensures.1)
 
-pub terrain-loads-spec : {M : Type 1} → statement M
-terrain-loads-spec =
+pub terrain_loads_spec : {M : Type 1} → statement M
+terrain_loads_spec =
     tie.close
     (tie.spec read-requires counted-requires returns loads-requires counted-requires-2 returns-2)

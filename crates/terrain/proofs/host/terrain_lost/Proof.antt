@@ -23,6 +23,6 @@ returns-2 : tie.Need-returns-2
 unfolding lost
 returns-2 c = (rw (sym c.before.before.before.before.before.before.read.ensures.0 ∙ not-false _ c.before.before.before.before.if1.false, c.changed.ensures.0, c.before.before.lost.ensures, c.before.before.before.before.before.before.read.ensures.1), rw (sym c.before.before.before.before.before.before.read.ensures.0 ∙ not-false _ c.before.before.before.before.if1.false, c.changed.ensures.1, c.before.before.lost.ensures, c.before.before.before.before.before.before.read.ensures.1))
 
-pub terrain-lost-spec : {M : Type 1} → statement M
-terrain-lost-spec =
+pub terrain_lost_spec : {M : Type 1} → statement M
+terrain_lost_spec =
     tie.close (tie.spec read-requires returns lost-requires changed-requires returns-2)

@@ -14,5 +14,5 @@ returns : tie.Need-returns
 unfolding new
 returns c = rw (c.write.ensures, c.before.before.new.ensures)
 
-pub terrain-new-spec : {M : Type 1} → statement M
-terrain-new-spec = tie.close (tie.spec new-requires write-requires returns)
+pub terrain_new_spec : {M : Type 1} → statement M
+terrain_new_spec = tie.close (tie.spec new-requires write-requires returns)

@@ -23,6 +23,6 @@ returns-2 : tie.Need-returns-2
 unfolding reset
 returns-2 c = (rw (sym c.before.before.before.before.before.before.read.ensures.0 ∙ not-false _ c.before.before.before.before.if1.false, c.changed.ensures.0, c.before.before.reset.ensures, c.before.before.before.before.before.before.read.ensures.1), rw (sym c.before.before.before.before.before.before.read.ensures.0 ∙ not-false _ c.before.before.before.before.if1.false, c.changed.ensures.1, c.before.before.reset.ensures, c.before.before.before.before.before.before.read.ensures.1))
 
-pub terrain-reset-spec : {M : Type 1} → statement M
-terrain-reset-spec =
+pub terrain_reset_spec : {M : Type 1} → statement M
+terrain_reset_spec =
     tie.close (tie.spec read-requires returns reset-requires changed-requires returns-2)

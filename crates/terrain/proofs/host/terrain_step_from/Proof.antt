@@ -1,7 +1,7 @@
 -- `host::terrain_step_from` meets its contract: the words' own call, its answer as a record.
 use mathlib.Core.Path.{◌∙◌}
 use borrow.Author.Rules.{rules}
-use Rattle.terrain.proofs.HostLaws.{from_told, from-words, from-arena}
+use Rattle.terrain.proofs.HostLaws.{from_told, from_words, from_arena}
 use Rattle.terrain.proofs.host.terrain_step_from.Statement.{statement}
 use Rattle.terrain.proofs.host.terrain_step_from.Tie as tie
 
@@ -15,7 +15,7 @@ same_length : tie.Need-same-length
 same_length c = search rules
 
 returns : tie.Need-returns
-returns c = (rw (c.status.ensures, c.before.before.before.step_from.ensures.0) (from_told _ _ _), (c.before.before.before.step_from.ensures.1.0 ∙ from-words _ _ _, c.before.before.before.step_from.ensures.1.1 ∙ from-arena _ _ _))
+returns c = (rw (c.status.ensures, c.before.before.before.step_from.ensures.0) (from_told _ _ _), (c.before.before.before.step_from.ensures.1.0 ∙ from_words _ _ _, c.before.before.before.step_from.ensures.1.1 ∙ from_arena _ _ _))
 
-pub terrain-step-from-spec : {M : Type 1} → statement M
-terrain-step-from-spec = tie.close (tie.spec step-from-requires status-requires same_length returns)
+pub terrain_step_from_spec : {M : Type 1} → statement M
+terrain_step_from_spec = tie.close (tie.spec step-from-requires status-requires same_length returns)

@@ -18,6 +18,6 @@ returns c = rw (← c.before.before.before.bearing.ensures, c.before.answer.give
 returns-2 : tie.Need-returns-2
 returns-2 c = rw (← c.before.before.before.bearing.ensures, c.before.answer2.given.1)
 
-pub terrain-bearing-spec : {M : Type 1} → statement M
-terrain-bearing-spec =
+pub terrain_bearing_spec : {M : Type 1} → statement M
+terrain_bearing_spec =
     tie.close (tie.spec bearing-requires enum-known-answer enum-known-answer-2 returns returns-2)

@@ -20,5 +20,5 @@ returns c =
     let wide : SFits w32 c.i16-of-f32.result = record { sfits = omega (arith, c.i16-of-f32.type-inv) } in
     rw (to_z-of_z narrow, to_z-of_z wide) c.i16-of-f32.ensures
 
-pub terrain-i16-of-f32-spec : {M : Type 1} → statement M
-terrain-i16-of-f32-spec = tie.close (tie.spec i16-of-f32-requires cast-result returns)
+pub terrain_i16_of_f32_spec : {M : Type 1} → statement M
+terrain_i16_of_f32_spec = tie.close (tie.spec i16-of-f32-requires cast-result returns)

@@ -20,5 +20,5 @@ returns c =
     let wide : SFits w32 c.i16-of-i32.result = record { sfits = omega (arith, c.i16-of-i32.type-inv) } in
     rw (to_z-of_z narrow, to_z-of_z wide) (rw (to_z-of_z c.before.ranges.z) at c.i16-of-i32.ensures)
 
-pub terrain-i16-of-i32-spec : {M : Type 1} → statement M
-terrain-i16-of-i32-spec = tie.close (tie.spec i16-of-i32-requires cast-result returns)
+pub terrain_i16_of_i32_spec : {M : Type 1} → statement M
+terrain_i16_of_i32_spec = tie.close (tie.spec i16-of-i32-requires cast-result returns)

@@ -9,5 +9,5 @@ lon-scale-um-requires c κs = tt
 returns : tie.Need-returns
 returns c = rw (to_z-of_z c.before.ranges.lat) at c.lon-scale-um.ensures
 
-pub terrain-lon-scale-um-spec : {M : Type 1} → statement M
-terrain-lon-scale-um-spec = tie.close (tie.spec lon-scale-um-requires returns)
+pub terrain_lon_scale_um_spec : {M : Type 1} → statement M
+terrain_lon_scale_um_spec = tie.close (tie.spec lon-scale-um-requires returns)

@@ -9,5 +9,5 @@ u32-of-i32-requires c κs = tt
 returns : tie.Need-returns
 returns c = rw (to_z-of_z c.before.ranges.z) at c.u32-of-i32.ensures
 
-pub terrain-u32-of-i32-spec : {M : Type 1} → statement M
-terrain-u32-of-i32-spec = tie.close (tie.spec u32-of-i32-requires returns)
+pub terrain_u32_of_i32_spec : {M : Type 1} → statement M
+terrain_u32_of_i32_spec = tie.close (tie.spec u32-of-i32-requires returns)

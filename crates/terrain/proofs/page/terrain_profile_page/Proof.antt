@@ -28,8 +28,8 @@ returns-2 c =
     let called = c.before.before.before.before.before in
     (rw (← called.page.ensures.0, c.before.answer2.given.1), called.page.ensures.1)
 
-pub terrain-profile-page-spec : {M : Type 1} → statement M
-terrain-profile-page-spec =
+pub terrain_profile_page_spec : {M : Type 1} → statement M
+terrain_profile_page_spec =
     tie.close
     (tie.spec
     page-requires

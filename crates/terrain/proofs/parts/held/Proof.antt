@@ -1,6 +1,6 @@
 -- `parts::held` meets its contract: what the callees ensure.
 use mathlib.Core.Path.{◌∙◌}
-use Rattle.terrain.proofs.PartLaws.{cache-held}
+use Rattle.terrain.proofs.PartLaws.{cache_held}
 use Rattle.terrain.proofs.parts.held.Statement.{statement}
 use Rattle.terrain.proofs.parts.held.Tie as tie
 
@@ -11,7 +11,7 @@ cache-requires : tie.Need-cache-requires
 cache-requires c κs = tt
 
 returns : tie.Need-returns
-returns c = (c.before.accepted.ensures, c.cache.ensures ∙ cache-held _)
+returns c = (c.before.accepted.ensures, c.cache.ensures ∙ cache_held _)
 
 pub held_spec : {M : Type 1} → statement M
 held_spec = tie.close (tie.spec accepted-requires cache-requires returns)

@@ -36,8 +36,8 @@ returns-3 c = rw (c.before.enum-told2.given.1, c.lookup2.ensures)
 returns-4 : tie.Need-returns-4
 returns-4 c = rw (c.before.before.answer2.given.1, c.lookup3.ensures)
 
-pub lookup-out-spec : {M : Type 1} → statement M
-lookup-out-spec =
+pub lookup_out_spec : {M : Type 1} → statement M
+lookup_out_spec =
     tie.close
     (tie.spec
     enum-known-answer

@@ -39,8 +39,8 @@ returns-3 c = rw (c.before.before.answer.given.1, c.progress3.ensures)
 returns-4 : tie.Need-returns-4
 returns-4 c = rw (c.before.before.answer2.given.1, c.progress4.ensures)
 
-pub progress-out-spec : {M : Type 1} → statement M
-progress-out-spec =
+pub progress_out_spec : {M : Type 1} → statement M
+progress_out_spec =
     tie.close
     (tie.spec
     enum_told

@@ -27,8 +27,8 @@ returns-2 c = rw c.before.answer.given.1
 returns-3 : tie.Need-returns-3
 returns-3 c = rw (c.before.before.answer2.given.1, c.request2.ensures)
 
-pub request-out-spec : {M : Type 1} → statement M
-request-out-spec =
+pub request_out_spec : {M : Type 1} → statement M
+request_out_spec =
     tie.close
     (tie.spec
     enum_told

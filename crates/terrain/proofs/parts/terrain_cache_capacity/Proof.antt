@@ -24,8 +24,8 @@ returns-2 c =
     let called = c.before.before.before.before in
     rw (sym called.held.ensures.0 ∙ not-false _ c.before.before.if1.false) (rw (c.before.capacity.ensures, called.held.ensures.1) at c.count-out2.ensures)
 
-pub terrain-cache-capacity-spec : {M : Type 1} → statement M
-terrain-cache-capacity-spec =
+pub terrain_cache_capacity_spec : {M : Type 1} → statement M
+terrain_cache_capacity_spec =
     tie.close
     (tie.spec
     held-requires

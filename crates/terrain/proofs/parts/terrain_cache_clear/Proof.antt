@@ -24,7 +24,7 @@ returns-2 c =
     let called = c.before.before.before.before in
     rw (sym called.before.before.held.ensures.0 ∙ not-false _ called.if1.false) (rw (c.before.before.before.clear.ensures, called.before.before.held.ensures.1) at c.clearing-out.ensures, rw (c.before.before.before.clear.ensures, called.before.before.held.ensures.1) at c.before.leave.ensures)
 
-pub terrain-cache-clear-spec : {M : Type 1} → statement M
-terrain-cache-clear-spec =
+pub terrain_cache_clear_spec : {M : Type 1} → statement M
+terrain_cache_clear_spec =
     tie.close
     (tie.spec held-requires returns clear-requires leave-requires clearing-out-requires returns-2)

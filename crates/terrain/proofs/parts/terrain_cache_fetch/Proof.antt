@@ -30,8 +30,8 @@ returns-2 c =
     let called = c.before.before.before.before in
     rw (sym called.before.before.held.ensures.0 ∙ not-false _ called.if1.false) (rw (c.before.fetch.ensures, called.before.before.held.ensures.1, c.before.before.before.header_of.ensures, c.before.before.key_of.ensures) at c.request-out.ensures)
 
-pub terrain-cache-fetch-spec : {M : Type 1} → statement M
-terrain-cache-fetch-spec =
+pub terrain_cache_fetch_spec : {M : Type 1} → statement M
+terrain_cache_fetch_spec =
     tie.close
     (tie.spec
     held-requires

@@ -33,8 +33,8 @@ returns-2 c =
     let called = c.before.before.before.before in
     rw (sym called.before.before.before.before.held.ensures.0 ∙ not-false _ called.before.before.if1.false) (rw (c.before.before.before.get.ensures, called.before.before.before.before.held.ensures.1, called.before.header_of.ensures, called.key_of.ensures) at c.lookup-out.ensures, rw (c.before.before.before.get.ensures, called.before.before.before.before.held.ensures.1, called.before.header_of.ensures, called.key_of.ensures) at c.before.leave.ensures)
 
-pub terrain-cache-get-spec : {M : Type 1} → statement M
-terrain-cache-get-spec =
+pub terrain_cache_get_spec : {M : Type 1} → statement M
+terrain_cache_get_spec =
     tie.close
     (tie.spec
     held-requires

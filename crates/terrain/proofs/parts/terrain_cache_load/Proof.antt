@@ -37,8 +37,8 @@ returns-2 c =
     let called = c.before.before.before.before.before in
     rw (sym called.before.before.before.before.before.before.held.ensures.0 ∙ not-false _ called.before.before.before.before.if1.false) (rw (called.load.ensures.0, called.before.before.before.before.before.before.held.ensures.1, called.before.before.before.header_of.ensures, called.before.before.key_of.ensures) at c.progress-out.ensures, (rw (called.load.ensures.0, called.before.before.before.before.before.before.held.ensures.1, called.before.before.before.header_of.ensures, called.before.before.key_of.ensures) at c.before.leave.ensures, rw (called.before.before.before.before.before.before.held.ensures.1, called.before.before.before.header_of.ensures, called.before.before.key_of.ensures) at called.load.ensures.1))
 
-pub terrain-cache-load-spec : {M : Type 1} → statement M
-terrain-cache-load-spec =
+pub terrain_cache_load_spec : {M : Type 1} → statement M
+terrain_cache_load_spec =
     tie.close
     (tie.spec
     held-requires

@@ -30,8 +30,8 @@ returns-2 c =
     let called = c.before.before.before.before in
     rw (sym called.before.before.held.ensures.0 ∙ not-false _ called.if1.false) (rw (c.before.pages.ensures, called.before.before.held.ensures.1, c.before.before.before.header_of.ensures, c.before.before.key_of.ensures) at c.count-out2.ensures)
 
-pub terrain-cache-pages-spec : {M : Type 1} → statement M
-terrain-cache-pages-spec =
+pub terrain_cache_pages_spec : {M : Type 1} → statement M
+terrain_cache_pages_spec =
     tie.close
     (tie.spec
     held-requires

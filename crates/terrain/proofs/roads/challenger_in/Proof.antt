@@ -39,8 +39,8 @@ returns c =
 returns-2 : tie.Need-returns-2
 returns-2 c = rw (ne_eqb _ _ c.if1.false)
 
-pub challenger-in-spec : {M : Type 1} → statement M
-challenger-in-spec =
+pub challenger_in_spec : {M : Type 1} → statement M
+challenger_in_spec =
     tie.close
     (tie.spec
     element-copy-out-if1

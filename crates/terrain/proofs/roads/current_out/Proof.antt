@@ -30,8 +30,8 @@ returns-2 c = rw (c.before.before.answer.given.1, c.matched.ensures)
 returns-3 : tie.Need-returns-3
 returns-3 c = rw (c.before.before.answer2.given.1, c.unmatched2.ensures)
 
-pub current-out-spec : {M : Type 1} → statement M
-current-out-spec =
+pub current_out_spec : {M : Type 1} → statement M
+current_out_spec =
     tie.close
     (tie.spec
     enum_told

@@ -10,5 +10,5 @@ forward-requires c κs = tt
 returns : tie.Need-returns
 returns c = rw (c.before.forward.ensures, got w32 c.struct_told.given.1.1.1.1.1.1.1.1.1.1.0.1)
 
-pub given-spec : {M : Type 1} → statement M
-given-spec = tie.close (tie.spec forward-requires returns)
+pub given_spec : {M : Type 1} → statement M
+given_spec = tie.close (tie.spec forward-requires returns)

@@ -1,5 +1,5 @@
 -- `roads::is_matcher` meets its contract: what the callee ensures, of the records it is given.
-use Rattle.terrain.specs.Roads.{isMatcher}
+use Rattle.terrain.specs.Roads.{is_matcher}
 -- `roads::is_matcher` meets its contract: what is read from the words, its words, and whether they are the same.
 use borrow.Author.Rules.{rules}
 use Rattle.terrain.proofs.roads.is_matcher.Statement.{statement}
@@ -18,11 +18,11 @@ same-requires : tie.Need-same-requires
 same-requires c κs = tt
 
 returns : tie.Need-returns
-unfolding isMatcher
+unfolding is_matcher
 returns c = rw (c.before.before.before.matcher-out.ensures, c.before.before.before.before.matcher-in.ensures) at c.same.ensures
 
-pub is-matcher-spec : {M : Type 1} → statement M
-is-matcher-spec =
+pub is_matcher_spec : {M : Type 1} → statement M
+is_matcher_spec =
     tie.close
     (tie.spec
     matcher-in-requires

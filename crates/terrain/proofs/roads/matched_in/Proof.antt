@@ -82,8 +82,8 @@ returns c =
     let called = c.before.before.before.before in
     rw (called.before.before.before.before.before.before.before.before.before.before.before.before.before.before.before.before.id.ensures, called.before.before.before.before.before.before.before.before.before.before.before.before.before.before.forward.ensures, called.before.before.before.before.before.before.before.before.before.before.before.before.short.ensures, called.before.before.before.before.before.before.before.before.before.before.short2.ensures, called.before.before.before.before.before.before.before.before.float.ensures, called.before.before.before.before.before.before.float2.ensures, got w32 called.before.before.before.before.signed-32.type-inv, called.before.before.before.before.signed-32.ensures, called.before.before.byte.ensures, called.byte2.ensures, c.before.before.byte3.ensures, c.float3.ensures)
 
-pub matched-in-spec : {M : Type 1} → statement M
-matched-in-spec =
+pub matched_in_spec : {M : Type 1} → statement M
+matched_in_spec =
     tie.close
     (tie.spec
     element-copy-out-id

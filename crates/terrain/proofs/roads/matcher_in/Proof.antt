@@ -1,5 +1,5 @@
 -- `roads::matcher_in` meets its contract: what the callee ensures, of the records it is given.
-use Rattle.words.specs.Words.{matcherOf}
+use Rattle.words.specs.Words.{matcher_of}
 use borrow.Author.Rules.{rules}
 use Rattle.terrain.proofs.roads.matcher_in.Statement.{statement}
 use Rattle.terrain.proofs.roads.matcher_in.Tie as tie
@@ -23,13 +23,13 @@ float-requires : tie.Need-float-requires
 float-requires c κs = tt
 
 returns : tie.Need-returns
-unfolding matcherOf
+unfolding matcher_of
 returns c =
     let called = c.before.before.before.before in
     rw (called.before.current-in.ensures, called.challenger-in.ensures, c.before.before.byte.ensures, c.float.ensures)
 
-pub matcher-in-spec : {M : Type 1} → statement M
-matcher-in-spec =
+pub matcher_in_spec : {M : Type 1} → statement M
+matcher_in_spec =
     tie.close
     (tie.spec
     current-in-requires

@@ -1,7 +1,7 @@
 -- `roads::matcher_out` meets its contract: what the callee ensures, of the records it is given.
 use mathlib.Core.List.{[], ◌∷◌}
-use Rattle.words.specs.Words.{floatWord, matcherWords}
-use Rattle.words.proofs.MatcherLaws.{taken-all}
+use Rattle.words.specs.Words.{float_word, matcher_words}
+use Rattle.words.proofs.MatcherLaws.{taken_all}
 use borrow.Author.Rules.{rules}
 use Rattle.terrain.proofs.roads.matcher_out.Statement.{statement}
 use Rattle.terrain.proofs.roads.matcher_out.Tie as tie
@@ -79,14 +79,14 @@ array-read-t69 : tie.Need-array-read-t69
 array-read-t69 c = search rules
 
 returns : tie.Need-returns
-unfolding matcherWords
+unfolding matcher_words
 returns c =
     let called = c.before.before.before in
     let m = called.before.args.m in
-    rw (called.current.ensures, c.before.before.challenger.ensures, c.before.byte.ensures, c.pattern.ensures) (taken-all m.current m.challenger (m.misses ∷ floatWord m.run_from_m ∷ []))
+    rw (called.current.ensures, c.before.before.challenger.ensures, c.before.byte.ensures, c.pattern.ensures) (taken_all m.current m.challenger (m.misses ∷ float_word m.run_from_m ∷ []))
 
-pub matcher-out-spec : {M : Type 1} → statement M
-matcher-out-spec =
+pub matcher_out_spec : {M : Type 1} → statement M
+matcher_out_spec =
     tie.close
     (tie.spec
     current-requires

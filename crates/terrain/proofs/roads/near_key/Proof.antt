@@ -18,5 +18,5 @@ returns c = rw c.enum_told.given.1
 returns-2 : tie.Need-returns-2
 returns-2 c = rw (c.before.before.key.given.1, c.key-out.ensures)
 
-pub near-key-spec : {M : Type 1} → statement M
-near-key-spec = tie.close (tie.spec enum_told enum-known-key key-out-requires returns returns-2)
+pub near_key_spec : {M : Type 1} → statement M
+near_key_spec = tie.close (tie.spec enum_told enum-known-key key-out-requires returns returns-2)

@@ -8,5 +8,5 @@ unmatched-requires c κs = tt
 returns : tie.Need-returns
 returns c = rw c.unmatched.ensures
 
-pub no-match-spec : {M : Type 1} → statement M
-no-match-spec = tie.close (tie.spec unmatched-requires returns)
+pub no_match_spec : {M : Type 1} → statement M
+no_match_spec = tie.close (tie.spec unmatched-requires returns)

@@ -42,8 +42,8 @@ returns-3 c = rw (c.before.enum_told.given.1, c.no-road2.ensures)
 returns-4 : tie.Need-returns-4
 returns-4 c = rw (c.before.before.answer3.given.1, c.no-road3.ensures)
 
-pub predicted-out-spec : {M : Type 1} → statement M
-predicted-out-spec =
+pub predicted_out_spec : {M : Type 1} → statement M
+predicted_out_spec =
     tie.close
     (tie.spec
     enum-known-answer

@@ -8,5 +8,5 @@ end-requires c κs = tt
 returns : tie.Need-returns
 returns c = rw c.end.ensures
 
-pub road-spec : {M : Type 1} → statement M
-road-spec = tie.close (tie.spec end-requires returns)
+pub road_spec : {M : Type 1} → statement M
+road_spec = tie.close (tie.spec end-requires returns)

@@ -6,7 +6,7 @@ use lib.ListN.{length, drop}
 use borrow.Author.Rules.{rules}
 use Rattle.words.specs.Words.{same_words}
 use Rattle.words.proofs.MatcherLaws.{same_length}
-use Rattle.words.proofs.SameLaws.{same-on, same-miss, same_end}
+use Rattle.words.proofs.SameLaws.{same_on, same_miss, same_end}
 use Rattle.terrain.proofs.roads.same.Statement.{statement}
 use Rattle.terrain.proofs.roads.same.Tie as tie
 
@@ -37,7 +37,7 @@ shared-slice-read-if2-2 c = search rules
 returns-2 : tie.Need-returns-2 invariant-loop decreases-loop
 returns-2 c =
     let at = c.before.before.before.before in
-    sym (same-miss at.before.before.args.a.now at.before.before.args.b.now at.loop.i c.before.before.before.loop-test.true (omega (arith, c.before.before.before.loop-test.true, at.before.if1.false)) c.if2.true) ∙ at.loop.invariant.1
+    sym (same_miss at.before.before.args.a.now at.before.before.args.b.now at.loop.i c.before.before.before.loop-test.true (omega (arith, c.before.before.before.loop-test.true, at.before.if1.false)) c.if2.true) ∙ at.loop.invariant.1
 
 add-i : tie.Need-overflow-add-i invariant-loop decreases-loop
 add-i c = search rules
@@ -48,7 +48,7 @@ loop-less c = search rules
 loop-again : tie.Need-loop-preserved invariant-loop decreases-loop
 loop-again c =
     let at = c.before.before.before.before in
-    (omega (arith, c.before.before.before.loop-test.true), (same-on at.before.before.args.a.now at.before.before.args.b.now at.loop.i c.before.before.before.loop-test.true (omega (arith, c.before.before.before.loop-test.true, at.before.if1.false)) c.if2.false) ∙ at.loop.invariant.1)
+    (omega (arith, c.before.before.before.loop-test.true), (same_on at.before.before.args.a.now at.before.before.args.b.now at.loop.i c.before.before.before.loop-test.true (omega (arith, c.before.before.before.loop-test.true, at.before.if1.false)) c.if2.false) ∙ at.loop.invariant.1)
 
 returns-3 : tie.Need-returns-3 invariant-loop decreases-loop
 returns-3 c =

@@ -28,8 +28,8 @@ returns-2 c =
     let called = c.before.before.before.before in
     rw (sym called.is-matcher.ensures ∙ not-false _ c.before.before.before.if1.false) (rw (c.before.current.ensures, c.before.before.matcher-in.ensures) at c.current-out2.ensures)
 
-pub terrain-matcher-current-spec : {M : Type 1} → statement M
-terrain-matcher-current-spec =
+pub terrain_matcher_current_spec : {M : Type 1} → statement M
+terrain_matcher_current_spec =
     tie.close
     (tie.spec
     is-matcher-requires

@@ -11,5 +11,5 @@ put-matcher-requires c κs = tt
 returns : tie.Need-returns
 returns c = rw c.before.before.reset.ensures at c.put-matcher.ensures
 
-pub terrain-matcher-reset-spec : {M : Type 1} → statement M
-terrain-matcher-reset-spec = tie.close (tie.spec reset-requires put-matcher-requires returns)
+pub terrain_matcher_reset_spec : {M : Type 1} → statement M
+terrain_matcher_reset_spec = tie.close (tie.spec reset-requires put-matcher-requires returns)

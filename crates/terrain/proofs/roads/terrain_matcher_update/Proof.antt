@@ -1,8 +1,8 @@
 -- `roads::terrain_matcher_update` meets its contract: each return by what the words and the heading are.
 use borrow.Author.Tests.{not-true, not-false, le-leb, lt-leb}
 use mathlib.Core.Path.{refl, sym, ◌∙◌}
-use Rattle.terrain.specs.Records.{headerOf, point_of}
-use Rattle.terrain.proofs.HostLaws.{update-words, update-matcher, update-engine}
+use Rattle.terrain.specs.Records.{header_of, point_of}
+use Rattle.terrain.proofs.HostLaws.{update_words, update_matcher, update_engine}
 use Rattle.terrain.proofs.roads.terrain_matcher_update.Statement.{statement}
 use Rattle.terrain.proofs.roads.terrain_matcher_update.Tie as tie
 
@@ -48,9 +48,9 @@ returns-3 c =
     let is = sym c.before.before.before.before.before.before.before.before.before.before.before.before.before.is-matcher.ensures ∙ not-false _ c.before.before.before.before.before.before.before.before.before.before.before.before.if1.false in
     let known = le-leb _ _ c.before.before.before.before.before.before.before.before.before.before.if2.false in
     let called = rw (c.before.before.before.before.before.before.before.before.before.header_of.ensures, c.before.before.before.before.before.before.before.before.point-of.ensures, c.before.before.before.before.before.before.matcher-in.ensures, c.before.before.before.before.heading-of.ensures) at c.before.before.before.update.ensures in (
-      rw (c.updated-out.ensures, called.0, update-words args.matcher.now args.engine.now args.arena.now (headerOf args.header) (point_of args.fix) args.heading is known),
-      (rw called.1.0 at c.before.put-matcher.ensures ∙ sym (update-matcher args.matcher.now args.engine.now args.arena.now (headerOf args.header) (point_of args.fix) args.heading is known), called.1.1 ∙ sym (update-engine args.matcher.now args.engine.now args.arena.now (headerOf args.header) (point_of args.fix) args.heading is known)),
+      rw (c.updated-out.ensures, called.0, update_words args.matcher.now args.engine.now args.arena.now (header_of args.header) (point_of args.fix) args.heading is known),
+      (rw called.1.0 at c.before.put-matcher.ensures ∙ sym (update_matcher args.matcher.now args.engine.now args.arena.now (header_of args.header) (point_of args.fix) args.heading is known), called.1.1 ∙ sym (update_engine args.matcher.now args.engine.now args.arena.now (header_of args.header) (point_of args.fix) args.heading is known)),
     )
 
-pub terrain-matcher-update-spec : {M : Type 1} → statement M
-terrain-matcher-update-spec = tie.close (tie.spec is-matcher-requires no-match-requires returns no-match-requires-2 returns-2 header-of-requires point-of-requires matcher-in-requires heading-of-requires update-requires put-matcher-requires updated-out-requires returns-3)
+pub terrain_matcher_update_spec : {M : Type 1} → statement M
+terrain_matcher_update_spec = tie.close (tie.spec is-matcher-requires no-match-requires returns no-match-requires-2 returns-2 header-of-requires point-of-requires matcher-in-requires heading-of-requires update-requires put-matcher-requires updated-out-requires returns-3)

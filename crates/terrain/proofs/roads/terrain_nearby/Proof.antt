@@ -22,8 +22,8 @@ returns c =
     let called = c.before.before.before.before in
     rw (c.near-keys.ensures, c.before.answer-number.ensures, c.before.before.before.nearby.ensures, called.before.header_of.ensures, called.point-of.ensures)
 
-pub terrain-nearby-spec : {M : Type 1} → statement M
-terrain-nearby-spec =
+pub terrain_nearby_spec : {M : Type 1} → statement M
+terrain_nearby_spec =
     tie.close
     (tie.spec
     header-of-requires

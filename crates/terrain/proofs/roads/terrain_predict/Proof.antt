@@ -2,8 +2,8 @@
 use borrow.Author.Tests.{not-true, not-false}
 use mathlib.Core.Path.{refl, sym, ap, ◌∙◌}
 use Rattle.predict.specs.Predict.{After}
-use Rattle.terrain.specs.Records.{headerOf}
-use Rattle.terrain.proofs.HostLaws.{predict-words, predict-engine}
+use Rattle.terrain.specs.Records.{header_of}
+use Rattle.terrain.proofs.HostLaws.{predict_words, predict_engine}
 use Rattle.terrain.proofs.roads.terrain_predict.Statement.{statement}
 use Rattle.terrain.proofs.roads.terrain_predict.Tie as tie
 
@@ -33,13 +33,13 @@ returns-2 c =
     let args = c.before.before.before.before.before.before.before.before.before.before.args in
     let is = sym c.before.before.before.before.before.before.before.before.is-given.ensures ∙ not-false _ c.before.before.before.before.before.before.before.if1.false in
     let called = rw (c.before.before.before.before.before.before.header_of.ensures, c.before.before.before.before.before.given.ensures) at c.before.predict.ensures in
-    let whole = predict-words args.engine.now args.arena.now (headerOf args.header) args.start args.horizon-m args.samples.now args.behind.now is in (
+    let whole = predict_words args.engine.now args.arena.now (header_of args.header) args.start args.horizon-m args.samples.now args.behind.now is in (
       rw (c.predicted-out.ensures, called.0, whole),
       (
-        called.1.0 ∙ sym (predict-engine args.engine.now args.arena.now (headerOf args.header) args.start args.horizon-m args.samples.now args.behind.now is),
+        called.1.0 ∙ sym (predict_engine args.engine.now args.arena.now (header_of args.header) args.start args.horizon-m args.samples.now args.behind.now is),
         (called.1.1.0 ∙ sym (ap (λ (a : After). a.samples) whole), called.1.1.1 ∙ sym (ap (λ (a : After). a.behind) whole)),
       ),
     )
 
-pub terrain-predict-spec : {M : Type 1} → statement M
-terrain-predict-spec = tie.close (tie.spec is-given-requires no-road-requires returns header-of-requires given-requires predict-requires predicted-out-requires returns-2)
+pub terrain_predict_spec : {M : Type 1} → statement M
+terrain_predict_spec = tie.close (tie.spec is-given-requires no-road-requires returns header-of-requires given-requires predict-requires predicted-out-requires returns-2)

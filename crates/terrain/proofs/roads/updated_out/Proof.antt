@@ -42,8 +42,8 @@ returns-3 c = rw (c.before.before.before.answer2.given.1, c.no-match2.ensures, c
 returns-4 : tie.Need-returns-4
 returns-4 c = rw (c.before.before.answer3.given.1, c.no-match3.ensures)
 
-pub updated-out-spec : {M : Type 1} → statement M
-updated-out-spec =
+pub updated_out_spec : {M : Type 1} → statement M
+updated_out_spec =
     tie.close
     (tie.spec
     enum-known-answer

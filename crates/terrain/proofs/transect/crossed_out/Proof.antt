@@ -21,7 +21,7 @@ returns-2 c = rw c.enum_told.given.1
 returns-3 : tie.Need-returns-3
 returns-3 c = rw c.before.answer2.given.1
 
-pub crossed-out-spec : {M : Type 1} → statement M
-crossed-out-spec =
+pub crossed_out_spec : {M : Type 1} → statement M
+crossed_out_spec =
     tie.close
     (tie.spec enum-known-answer enum_told enum-known-answer-2 returns returns-2 returns-3)

@@ -25,8 +25,8 @@ returns c =
     let called = c.before.before.before.before in
     record { answer = c.before.crossing.result; crosses = rw (c.before.before.before.point-of.ensures, c.before.before.point-of2.ensures, called.key_of.ensures, called.before.header_of.ensures) at c.before.crossing.ensures; told_is = c.crossed-out.ensures }
 
-pub terrain-crossing-spec : {M : Type 1} → statement M
-terrain-crossing-spec =
+pub terrain_crossing_spec : {M : Type 1} → statement M
+terrain_crossing_spec =
     tie.close
     (tie.spec
     header-of-requires

@@ -21,6 +21,6 @@ returns c =
     let west = to_z-of_z fits.west in
     (rw (c.written_out.ensures, called.pack.ensures.0, south, west), rw (called.pack.ensures.1, south, west))
 
-pub terrain-write-pack-spec : {M : Type 1} → statement M
-terrain-write-pack-spec =
+pub terrain_write_pack_spec : {M : Type 1} → statement M
+terrain_write_pack_spec =
     tie.close (tie.spec pack-requires written-out-requires same_length returns)

@@ -21,6 +21,6 @@ returns c =
     let key = called.before.before.key_of.ensures in
     (rw (c.written_out.ensures, called.tile.ensures.0, key), rw (called.tile.ensures.1, key))
 
-pub terrain-write-tile-spec : {M : Type 1} → statement M
-terrain-write-tile-spec =
+pub terrain_write_tile_spec : {M : Type 1} → statement M
+terrain_write_tile_spec =
     tie.close (tie.spec key-of-requires tile-requires written-out-requires same_length returns)

@@ -8,22 +8,22 @@ use native.Mathlib.Omega.{arith}
 use lib.Dec.{ltb}
 use borrow.Author.Rules.{rules}
 use borrow.Author.Tests.{not-true, not-false, lt-ltb, le-ltb}
-use Rattle.pack.proofs.Laws.{u16-below}
-use Rattle.tile.specs.Order.{follows, inOrder}
-use Rattle.tile.specs.Parse.{nodeOk, all_below, nodesOrdered}
-use Rattle.tile.specs.Layout.{nodesOf, nodeStart, nodeOf, placeAt}
-use Rattle.tile.proofs.Laws.{and-not, all_none, all_more, all-miss, all_end}
-use Rattle.tile.proofs.Ordered.{placeNumber, follows-first, follows_next}
-use Rattle.tile.proofs.Slices.{node-there, node-x, node-y, node-slice}
+use Rattle.pack.proofs.Laws.{u16_below}
+use Rattle.tile.specs.Order.{follows, in_order}
+use Rattle.tile.specs.Parse.{node_ok, all_below, nodes_ordered}
+use Rattle.tile.specs.Layout.{nodes_of, node_start, node_of, place_at}
+use Rattle.tile.proofs.Laws.{and_not, all_none, all_more, all_miss, all_end}
+use Rattle.tile.proofs.Ordered.{place_number, follows_first, follows_next}
+use Rattle.tile.proofs.Slices.{node_there, node_x, node_y, node_slice}
 use Rattle.tile.proofs.check.all_nodes.Statement.{statement}
 use Rattle.tile.proofs.check.all_nodes.Tie as tie
 
 abbrev invariant-loop : tie.invariant-loop
 invariant-loop bytes size nodes last before₀ index₀ before index =
     (index ≤ nodes)
-    × ((all_below (nodeOk bytes size) index ≡ true)
-    × ((inOrder (nodeOf bytes) index ≡ true)
-    × (not (ltb (placeNumber (nodeOf bytes index)) before) ≡ follows (nodeOf bytes) index)))
+    × ((all_below (node_ok bytes size) index ≡ true)
+    × ((in_order (node_of bytes) index ≡ true)
+    × (not (ltb (place_number (node_of bytes index)) before) ≡ follows (node_of bytes) index)))
 
 abbrev decreases-loop : tie.decreases-loop
 decreases-loop bytes size nodes last before₀ index₀ before index = nodes - index
@@ -44,7 +44,7 @@ mul-last : tie.Need-overflow-mul-last invariant-loop decreases-loop
 mul-last c = search rules
 
 loop-holds : tie.Need-loop-init invariant-loop decreases-loop
-loop-holds c = (omega arith, (all_none _, (all_none _, follows-first (nodeOf c.before.before.before.args.bytes.now))))
+loop-holds c = (omega arith, (all_none _, (all_none _, follows_first (node_of c.before.before.before.args.bytes.now))))
 
 cast-at : tie.Need-overflow-cast-at invariant-loop decreases-loop
 cast-at c = search rules
@@ -65,7 +65,7 @@ part-node-start : tie.Need-slice-bounds-node-start invariant-loop decreases-loop
 part-node-start c = search rules
 
 part-node-end : tie.Need-slice-bounds-node-end invariant-loop decreases-loop
-part-node-end c = omega (arith, node-there c.before.before.before.before.before.args.bytes.now c.before.before.before.before.before.requires c.before.loop.index (omega arith), c.before.before.before.u16-at.ensures)
+part-node-end c = omega (arith, node_there c.before.before.before.before.before.args.bytes.now c.before.before.before.before.before.requires c.before.loop.index (omega arith), c.before.before.before.u16-at.ensures)
 
 node-ok-requires : tie.Need-node-ok-requires invariant-loop decreases-loop
 node-ok-requires c κs = search rules
@@ -75,10 +75,10 @@ returns c =
     let bytes : List ℕ = c.before.before.before.before.before.before.before.before.args.bytes.now in
     let size : ℕ = c.before.before.before.before.before.before.before.before.args.size in
     let index : ℕ = c.before.before.before.before.loop.index in
-    let eight : ℕ = nodeStart index + 8 - nodeStart index in
-    let bad : nodeOk bytes size index ≡ false =
-    sym (node-slice bytes eight size _ index (omega arith) (ap (λ (k : ℕ). k * 2) c.before.before.before.before.before.u16-at2.ensures)) ∙ sym c.before.node_ok.ensures ∙ not-true _ c.if1.true in
-    rw (all-miss (nodeOk bytes size) index (nodesOf bytes) (omega arith) bad)
+    let eight : ℕ = node_start index + 8 - node_start index in
+    let bad : node_ok bytes size index ≡ false =
+    sym (node_slice bytes eight size _ index (omega arith) (ap (λ (k : ℕ). k * 2) c.before.before.before.before.before.u16-at2.ensures)) ∙ sym c.before.node_ok.ensures ∙ not-true _ c.if1.true in
+    rw (all_miss (node_ok bytes size) index (nodes_of bytes) (omega arith) bad)
 
 u16-at-requires-3 : tie.Need-u16-at-requires-3 invariant-loop decreases-loop
 u16-at-requires-3 c κs = search rules
@@ -104,9 +104,9 @@ returns-2 c =
     let size : ℕ = c.before.before.before.before.before.before.before.before.before.before.before.args.size in
     let index : ℕ = c.before.before.before.before.before.before.before.loop.index in
     let inv = c.before.before.before.before.before.before.before.loop.invariant in
-    let eight : ℕ = nodeStart index + 8 - nodeStart index in
-    let place_is = ap₂ (λ (y x : ℕ). y * 65536 + x) (c.before.u16-at4.ensures ∙ node-y bytes eight index (omega arith)) (c.before.before.u16-at3.ensures ∙ node-x bytes eight index (omega arith)) in
-    sym (and-not (all_below (nodeOk bytes size) (nodesOf bytes)) (nodesOrdered bytes) (all-miss (follows (nodeOf bytes)) index (nodesOf bytes) (omega arith)
+    let eight : ℕ = node_start index + 8 - node_start index in
+    let place_is = ap₂ (λ (y x : ℕ). y * 65536 + x) (c.before.u16-at4.ensures ∙ node_y bytes eight index (omega arith)) (c.before.before.u16-at3.ensures ∙ node_x bytes eight index (omega arith)) in
+    sym (and_not (all_below (node_ok bytes size) (nodes_of bytes)) (nodes_ordered bytes) (all_miss (follows (node_of bytes)) index (nodes_of bytes) (omega arith)
     (sym inv.1.1.1 ∙ rw (← place_is, lt-ltb _ _ c.if2.true))))
 
 add-index : tie.Need-overflow-add-index invariant-loop decreases-loop
@@ -116,24 +116,24 @@ loop-less : tie.Need-loop-smaller invariant-loop decreases-loop
 loop-less c = search rules
 
 loop-again : tie.Need-loop-preserved invariant-loop decreases-loop
-unfolding placeAt
+unfolding place_at
 loop-again c =
     let start = c.before.before.before.before.before.before.before.before.before.before.before in
     let bytes : List ℕ = start.args.bytes.now in
     let size : ℕ = start.args.size in
     let index : ℕ = c.before.before.before.before.before.before.before.loop.index in
     let inv = c.before.before.before.before.before.before.before.loop.invariant in
-    let eight : ℕ = nodeStart index + 8 - nodeStart index in
-    let x_below : (i : ℕ) → (nodeOf bytes i).x < 65536 = λ i. u16-below bytes (λ k. omega (arith, c.before.before.before.before.before.before.before.before.before.before.shared-slice-known.given k)) (nodeStart i) in
-    let place_is = ap₂ (λ (y x : ℕ). y * 65536 + x) (c.before.u16-at4.ensures ∙ node-y bytes eight index (omega arith)) (c.before.before.u16-at3.ensures ∙ node-x bytes eight index (omega arith)) in
-    let good : nodeOk bytes size index ≡ true =
-    sym (node-slice bytes eight size _ index (omega arith) (ap (λ (k : ℕ). k * 2) c.before.before.before.before.before.before.before.before.u16-at2.ensures)) ∙ sym c.before.before.before.before.node_ok.ensures ∙ not-false _ c.before.before.before.if1.false in (
+    let eight : ℕ = node_start index + 8 - node_start index in
+    let x_below : (i : ℕ) → (node_of bytes i).x < 65536 = λ i. u16_below bytes (λ k. omega (arith, c.before.before.before.before.before.before.before.before.before.before.shared-slice-known.given k)) (node_start i) in
+    let place_is = ap₂ (λ (y x : ℕ). y * 65536 + x) (c.before.u16-at4.ensures ∙ node_y bytes eight index (omega arith)) (c.before.before.u16-at3.ensures ∙ node_x bytes eight index (omega arith)) in
+    let good : node_ok bytes size index ≡ true =
+    sym (node_slice bytes eight size _ index (omega arith) (ap (λ (k : ℕ). k * 2) c.before.before.before.before.before.before.before.before.u16-at2.ensures)) ∙ sym c.before.before.before.before.node_ok.ensures ∙ not-false _ c.before.before.before.if1.false in (
       omega arith,
       (
         all_more _ index inv.1.0 good,
         (
-          all_more (follows (nodeOf bytes)) index inv.1.1.0 (sym inv.1.1.1 ∙ rw (← place_is, le-ltb _ _ c.if2.false)),
-          rw (place_is) (follows_next (nodeOf bytes) index (x_below (index + 1)) (x_below index)),
+          all_more (follows (node_of bytes)) index inv.1.1.0 (sym inv.1.1.1 ∙ rw (← place_is, le-ltb _ _ c.if2.false)),
+          rw (place_is) (follows_next (node_of bytes) index (x_below (index + 1)) (x_below index)),
         ),
       ),
     )
@@ -143,10 +143,10 @@ returns-3 c =
     let bytes = c.before.before.before.before.before.args.bytes.now in
     let index = c.before.loop.index in
     let inv = c.before.loop.invariant in
-    rw (← all_end _ index (nodesOf bytes) (omega arith) inv.1.0, ← all_end _ index (nodesOf bytes) (omega arith) inv.1.1.0)
+    rw (← all_end _ index (nodes_of bytes) (omega arith) inv.1.0, ← all_end _ index (nodes_of bytes) (omega arith) inv.1.1.0)
 
-pub all-nodes-spec : {M : Type 1} → statement M
-all-nodes-spec =
+pub all_nodes_spec : {M : Type 1} → statement M
+all_nodes_spec =
     tie.close
     (tie.spec
     invariant-loop

@@ -1,7 +1,7 @@
 -- `tile::check::edge_ok` meets its contract: each return by the tests so far.
 use borrow.Author.Tests.{le-ltb, lt-ltb}
 use borrow.Author.Rules.{rules}
-use Rattle.tile.specs.Parse.{edgeFits}
+use Rattle.tile.specs.Parse.{edge_fits}
 use Rattle.tile.proofs.check.edge_ok.Statement.{statement}
 use Rattle.tile.proofs.check.edge_ok.Tie as tie
 
@@ -9,14 +9,14 @@ u16-at-requires : tie.Need-u16-at-requires
 u16-at-requires c κs = search rules
 
 returns : tie.Need-returns
-unfolding edgeFits
+unfolding edge_fits
 returns c = rw (← c.before.u16-at.ensures, le-ltb _ _ c.if1.true)
 
 u16-at-requires-2 : tie.Need-u16-at-requires-2
 u16-at-requires-2 c κs = search rules
 
 returns-2 : tie.Need-returns-2
-unfolding edgeFits
+unfolding edge_fits
 returns-2 c = rw (← c.before.before.before.u16-at.ensures, lt-ltb _ _ c.before.before.if1.false, ← c.before.u16-at2.ensures, le-ltb _ _ c.if2.true)
 
 u32-at-requires : tie.Need-u32-at-requires
@@ -35,7 +35,7 @@ add-result : tie.Need-overflow-add-result
 add-result c = search rules
 
 returns-3 : tie.Need-returns-3
-unfolding edgeFits
+unfolding edge_fits
 returns-3 c =
     rw (
       c.before.u32-at.ensures,
@@ -46,8 +46,8 @@ returns-3 c =
       lt-ltb _ _ c.before.before.if2.false,
     )
 
-pub edge-ok-spec : {M : Type 1} → statement M
-edge-ok-spec =
+pub edge_ok_spec : {M : Type 1} → statement M
+edge_ok_spec =
     tie.close
     (tie.spec
     u16-at-requires

@@ -6,15 +6,15 @@ use mathlib.Core.Path.{◌≡◌, sym, ◌∙◌}
 use native.Mathlib.Omega.{arith}
 use borrow.Author.Rules.{rules}
 use borrow.Author.Tests.{not-true, not-false}
-use Rattle.tile.specs.Parse.{edgeOk, all_below}
-use Rattle.tile.specs.Layout.{edgesOf}
-use Rattle.tile.proofs.Laws.{all_none, all_more, all-miss, all_end}
-use Rattle.tile.proofs.Slices.{edge-there, edge-slice}
+use Rattle.tile.specs.Parse.{edge_ok, all_below}
+use Rattle.tile.specs.Layout.{edges_of}
+use Rattle.tile.proofs.Laws.{all_none, all_more, all_miss, all_end}
+use Rattle.tile.proofs.Slices.{edge_there, edge_slice}
 use Rattle.tile.proofs.check.edges_good.Statement.{statement}
 use Rattle.tile.proofs.check.edges_good.Tie as tie
 
 abbrev invariant-loop : tie.invariant-loop
-invariant-loop bytes nodes edges vertices base index₀ index = (index ≤ edges) × (all_below (edgeOk bytes) index ≡ true)
+invariant-loop bytes nodes edges vertices base index₀ index = (index ≤ edges) × (all_below (edge_ok bytes) index ≡ true)
 
 abbrev decreases-loop : tie.decreases-loop
 decreases-loop bytes nodes edges vertices base index₀ index = edges - index
@@ -68,7 +68,7 @@ part-edge-ok-start : tie.Need-slice-bounds-edge-ok-start invariant-loop decrease
 part-edge-ok-start c = search rules
 
 part-edge-ok-end : tie.Need-slice-bounds-edge-ok-end invariant-loop decreases-loop
-part-edge-ok-end c = omega (arith, edge-there c.before.before.before.before.before.before.args.bytes.now c.before.before.before.before.before.before.requires c.before.loop.index (omega arith), c.before.before.before.before.u16-at.ensures, c.before.before.before.u16-at2.ensures)
+part-edge-ok-end c = omega (arith, edge_there c.before.before.before.before.before.before.args.bytes.now c.before.before.before.before.before.before.requires c.before.loop.index (omega arith), c.before.before.before.before.u16-at.ensures, c.before.before.before.u16-at2.ensures)
 
 edge-ok-requires : tie.Need-edge-ok-requires invariant-loop decreases-loop
 edge-ok-requires c κs = search rules
@@ -79,13 +79,13 @@ returns c =
     let index : ℕ = c.before.before.before.before.loop.index in
     let at : ℕ = 32 + c.before.before.before.before.before.before.before.u16-at.result * 8 + c.before.before.before.before.before.before.u16-at2.result * 4 + index * 16 in
     sym
-    (all-miss _ index (edgesOf bytes) (omega arith)
+    (all_miss _ index (edges_of bytes) (omega arith)
     (rw (
       ← c.before.before.before.before.before.before.before.u16-at.ensures,
       ← c.before.before.before.before.before.before.u16-at2.ensures,
       ← c.before.before.before.before.before.u32-at.ensures,
     )
-    (sym (edge-slice bytes (at + 16 - at) _ _ at (omega arith)) ∙ sym c.before.edge-ok.ensures ∙ not-true _ c.if1.true)))
+    (sym (edge_slice bytes (at + 16 - at) _ _ at (omega arith)) ∙ sym c.before.edge-ok.ensures ∙ not-true _ c.if1.true)))
 
 add-index : tie.Need-overflow-add-index invariant-loop decreases-loop
 add-index c = search rules
@@ -105,14 +105,14 @@ loop-again c =
             ← c.before.before.before.before.before.before.u16-at2.ensures,
             ← c.before.before.before.before.before.u32-at.ensures,
           )
-          (sym (edge-slice bytes (at + 16 - at) _ _ at (omega arith)) ∙ sym c.before.edge-ok.ensures ∙ not-false _ c.if1.false)),
+          (sym (edge_slice bytes (at + 16 - at) _ _ at (omega arith)) ∙ sym c.before.edge-ok.ensures ∙ not-false _ c.if1.false)),
     )
 
 returns-2 : tie.Need-returns-2 invariant-loop decreases-loop
-returns-2 c = all_end _ c.before.loop.index (edgesOf c.before.before.before.before.before.before.args.bytes.now) (omega arith) c.before.loop.invariant.1
+returns-2 c = all_end _ c.before.loop.index (edges_of c.before.before.before.before.before.before.args.bytes.now) (omega arith) c.before.loop.invariant.1
 
-pub edges-good-spec : {M : Type 1} → statement M
-edges-good-spec =
+pub edges_good_spec : {M : Type 1} → statement M
+edges_good_spec =
     tie.close
     (tie.spec
     invariant-loop

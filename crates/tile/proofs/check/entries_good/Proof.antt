@@ -6,16 +6,16 @@ use mathlib.Core.Path.{◌≡◌, sym}
 use native.Mathlib.Omega.{arith}
 use borrow.Author.Rules.{rules}
 use borrow.Author.Tests.{lt-ltb, le-ltb}
-use Rattle.pack.proofs.Laws.{u16-slice}
-use Rattle.tile.specs.Parse.{entryOk, all_below}
-use Rattle.tile.specs.Layout.{edgesOf}
-use Rattle.tile.proofs.Laws.{all_none, all_more, all-miss, all_end}
-use Rattle.tile.proofs.Slices.{entry-there}
+use Rattle.pack.proofs.Laws.{u16_slice}
+use Rattle.tile.specs.Parse.{entry_ok, all_below}
+use Rattle.tile.specs.Layout.{edges_of}
+use Rattle.tile.proofs.Laws.{all_none, all_more, all_miss, all_end}
+use Rattle.tile.proofs.Slices.{entry_there}
 use Rattle.tile.proofs.check.entries_good.Statement.{statement}
 use Rattle.tile.proofs.check.entries_good.Tie as tie
 
 abbrev invariant-loop : tie.invariant-loop
-invariant-loop bytes nodes edges last base entry₀ entry = (entry ≤ last) × (all_below (entryOk bytes) entry ≡ true)
+invariant-loop bytes nodes edges last base entry₀ entry = (entry ≤ last) × (all_below (entry_ok bytes) entry ≡ true)
 
 abbrev decreases-loop : tie.decreases-loop
 decreases-loop bytes nodes edges last base entry₀ entry = last - entry
@@ -63,23 +63,23 @@ part-u16-at-start : tie.Need-slice-bounds-u16-at-start invariant-loop decreases-
 part-u16-at-start c = search rules
 
 part-u16-at-end : tie.Need-slice-bounds-u16-at-end invariant-loop decreases-loop
-part-u16-at-end c = omega (arith, entry-there c.before.before.before.before.before.args.bytes.now c.before.before.before.before.before.requires c.before.loop.entry (omega arith), c.before.before.before.u16-at.ensures, c.before.before.u16-at2.ensures)
+part-u16-at-end c = omega (arith, entry_there c.before.before.before.before.before.args.bytes.now c.before.before.before.before.before.requires c.before.loop.entry (omega arith), c.before.before.before.u16-at.ensures, c.before.before.u16-at2.ensures)
 
 u16-at-requires-3 : tie.Need-u16-at-requires-3 invariant-loop decreases-loop
 u16-at-requires-3 c κs = search rules
 
 returns : tie.Need-returns invariant-loop decreases-loop
-unfolding entryOk
+unfolding entry_ok
 returns c =
     let bytes : List ℕ = c.before.before.before.before.before.before.before.before.args.bytes.now in
     let entry : ℕ = c.before.before.before.before.loop.entry in
     let at : ℕ = 32 + c.before.before.before.before.before.before.u16-at.result * 8 + entry * 2 in
     sym
-    (all-miss _ entry (edgesOf bytes * 2) (omega arith)
+    (all_miss _ entry (edges_of bytes * 2) (omega arith)
     (rw (
       ← c.before.before.before.before.before.before.u16-at.ensures,
       ← c.before.before.before.before.before.u16-at2.ensures,
-      ← u16-slice bytes at (at + 2 - at) 0 at (omega arith) (omega arith),
+      ← u16_slice bytes at (at + 2 - at) 0 at (omega arith) (omega arith),
       ← c.before.u16-at3.ensures,
     )
     (le-ltb _ _ c.if1.true)))
@@ -91,7 +91,7 @@ loop-less : tie.Need-loop-smaller invariant-loop decreases-loop
 loop-less c = search rules
 
 loop-again : tie.Need-loop-preserved invariant-loop decreases-loop
-unfolding entryOk
+unfolding entry_ok
 loop-again c =
     let bytes : List ℕ = c.before.before.before.before.before.before.before.before.args.bytes.now in
     let entry : ℕ = c.before.before.before.before.loop.entry in
@@ -101,17 +101,17 @@ loop-again c =
           (rw (
             ← c.before.before.before.before.before.before.u16-at.ensures,
             ← c.before.before.before.before.before.u16-at2.ensures,
-            ← u16-slice bytes at (at + 2 - at) 0 at (omega arith) (omega arith),
+            ← u16_slice bytes at (at + 2 - at) 0 at (omega arith) (omega arith),
             ← c.before.u16-at3.ensures,
           )
           (lt-ltb _ _ c.if1.false)),
     )
 
 returns-2 : tie.Need-returns-2 invariant-loop decreases-loop
-returns-2 c = all_end _ c.before.loop.entry (edgesOf c.before.before.before.before.before.args.bytes.now * 2) (omega arith) c.before.loop.invariant.1
+returns-2 c = all_end _ c.before.loop.entry (edges_of c.before.before.before.before.before.args.bytes.now * 2) (omega arith) c.before.loop.invariant.1
 
-pub entries-good-spec : {M : Type 1} → statement M
-entries-good-spec =
+pub entries_good_spec : {M : Type 1} → statement M
+entries_good_spec =
     tie.close
     (tie.spec
     invariant-loop

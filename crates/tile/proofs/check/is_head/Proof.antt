@@ -19,5 +19,5 @@ byte-at-requires c κs = search rules
 returns-3 : tie.Need-returns-3
 returns-3 c = rw (c.byte_at.ensures, le-leb _ _ c.before.before.before.if1.false, ← c.before.before.u16-at.ensures, eq-eqb _ _ c.before.if2.false)
 
-pub is-head-spec : {M : Type 1} → statement M
-is-head-spec = tie.close (tie.spec returns u16-at-requires returns-2 byte-at-requires returns-3)
+pub is_head_spec : {M : Type 1} → statement M
+is_head_spec = tie.close (tie.spec returns u16-at-requires returns-2 byte-at-requires returns-3)

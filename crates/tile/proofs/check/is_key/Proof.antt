@@ -16,5 +16,5 @@ returns c = rw (c.before.u16-at2.ensures, ← c.before.before.before.before.u16-
 returns-2 : tie.Need-returns-2
 returns-2 c = rw (← c.before.before.u16-at.ensures, ne_eqb _ _ c.if1.false)
 
-pub is-key-spec : {M : Type 1} → statement M
-is-key-spec = tie.close (tie.spec u16-at-requires u16-at-requires-2 returns returns-2)
+pub is_key_spec : {M : Type 1} → statement M
+is_key_spec = tie.close (tie.spec u16-at-requires u16-at-requires-2 returns returns-2)

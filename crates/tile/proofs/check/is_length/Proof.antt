@@ -42,8 +42,8 @@ add-result-3 c = search rules
 returns : tie.Need-returns
 returns c = rw (c.before.before.u16-at.ensures, c.before.u16-at2.ensures, c.u32-at.ensures)
 
-pub is-length-spec : {M : Type 1} → statement M
-is-length-spec =
+pub is_length_spec : {M : Type 1} → statement M
+is_length_spec =
     tie.close
     (tie.spec
     u16-at-requires

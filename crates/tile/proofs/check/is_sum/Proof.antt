@@ -12,5 +12,5 @@ u32-at-requires c κs = search rules
 returns : tie.Need-returns
 returns c = rw (c.before.crc32-skipping.ensures, c.u32-at.ensures)
 
-pub is-sum-spec : {M : Type 1} → statement M
-is-sum-spec = tie.close (tie.spec crc32-skipping-requires u32-at-requires returns)
+pub is_sum_spec : {M : Type 1} → statement M
+is_sum_spec = tie.close (tie.spec crc32-skipping-requires u32-at-requires returns)

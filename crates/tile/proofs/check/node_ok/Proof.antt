@@ -38,8 +38,8 @@ returns-3 c =
       le-leb _ _ c.before.if2.false,
     )
 
-pub node-ok-spec : {M : Type 1} → statement M
-node-ok-spec =
+pub node_ok_spec : {M : Type 1} → statement M
+node_ok_spec =
     tie.close
     (tie.spec
     u16-at-requires

@@ -20,5 +20,5 @@ all-nodes-requires-2 c κs = search rules
 returns-2 : tie.Need-returns-2
 returns-2 c = rw (c.all-nodes2.ensures, min-eq_left c.before.if1.false)
 
-pub nodes-good-spec : {M : Type 1} → statement M
-nodes-good-spec = tie.close (tie.spec all-nodes-requires returns all-nodes-requires-2 returns-2)
+pub nodes_good_spec : {M : Type 1} → statement M
+nodes_good_spec = tie.close (tie.spec all-nodes-requires returns all-nodes-requires-2 returns-2)

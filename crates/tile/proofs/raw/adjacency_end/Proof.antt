@@ -34,8 +34,8 @@ mul-result c = search rules
 returns-2 : tie.Need-returns-2
 returns-2 c = rw (c.u16-at2.ensures, ← c.before.before.u16-at.ensures, le-ltb _ _ c.before.if1.false)
 
-pub adjacency-end-spec : {M : Type 1} → statement M
-adjacency-end-spec =
+pub adjacency_end_spec : {M : Type 1} → statement M
+adjacency_end_spec =
     tie.close
     (tie.spec
     add-next

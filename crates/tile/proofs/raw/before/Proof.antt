@@ -12,5 +12,5 @@ returns-2 c = rw (le-ltb _ _ c.before.if1.false, eq-eqb _ _ c.if2.true)
 returns-3 : tie.Need-returns-3
 returns-3 c = rw (le-ltb _ _ c.before.if1.false, ne_eqb _ _ c.if2.false)
 
-pub before-spec : {M : Type 1} → statement M
-before-spec = tie.close (tie.spec returns returns-2 returns-3)
+pub before_spec : {M : Type 1} → statement M
+before_spec = tie.close (tie.spec returns returns-2 returns-3)

@@ -88,8 +88,8 @@ returns c =
       c.before.before.before.before.before.before.before.u16-at2.ensures,
     )
 
-pub edge-spec : {M : Type 1} → statement M
-edge-spec =
+pub edge_spec : {M : Type 1} → statement M
+edge_spec =
     tie.close
     (tie.spec
     u16-at-requires

@@ -43,8 +43,8 @@ returns c = rw (c.inside.ensures, c.before.u16-at2.ensures, ← c.before.before.
 returns-2 : tie.Need-returns-2
 returns-2 c = rw (← c.before.u16-at.ensures, le-ltb _ _ c.if1.false)
 
-pub has-edge-spec : {M : Type 1} → statement M
-has-edge-spec =
+pub has_edge_spec : {M : Type 1} → statement M
+has_edge_spec =
     tie.close
     (tie.spec
     u16-at-requires

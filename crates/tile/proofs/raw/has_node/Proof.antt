@@ -25,7 +25,7 @@ returns c = rw (c.inside.ensures, ← c.before.before.u16-at.ensures, lt-ltb _ _
 returns-2 : tie.Need-returns-2
 returns-2 c = rw (← c.before.u16-at.ensures, le-ltb _ _ c.if1.false)
 
-pub has-node-spec : {M : Type 1} → statement M
-has-node-spec =
+pub has_node_spec : {M : Type 1} → statement M
+has_node_spec =
     tie.close
     (tie.spec u16-at-requires cast-if1 mul-inside add-inside inside-requires returns returns-2)

@@ -49,8 +49,8 @@ returns c = rw (c.inside.ensures, c.before.u16-at2.ensures, c.before.before.u16-
 returns-2 : tie.Need-returns-2
 returns-2 c = rw (← c.before.u32-at.ensures, le-ltb _ _ c.if1.false)
 
-pub has-vertex-spec : {M : Type 1} → statement M
-has-vertex-spec =
+pub has_vertex_spec : {M : Type 1} → statement M
+has_vertex_spec =
     tie.close
     (tie.spec
     u32-at-requires

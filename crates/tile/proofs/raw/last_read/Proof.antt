@@ -19,5 +19,5 @@ returns c = rw (← c.before.u16-at.ensures, lt-ltb _ _ c.if1.true)
 returns-2 : tie.Need-returns-2
 returns-2 c = rw (← c.before.u16-at.ensures, le-ltb _ _ c.if1.false)
 
-pub last-read-spec : {M : Type 1} → statement M
-last-read-spec = tie.close (tie.spec add-next u16-at-requires cast-if1 returns returns-2)
+pub last_read_spec : {M : Type 1} → statement M
+last_read_spec = tie.close (tie.spec add-next u16-at-requires cast-if1 returns returns-2)

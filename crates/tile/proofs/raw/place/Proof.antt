@@ -1,6 +1,6 @@
 -- `tile::raw::place` meets its contract: each field is what its reader ensures.
 use borrow.Author.Rules.{rules}
-use Rattle.tile.specs.Layout.{placeAt}
+use Rattle.tile.specs.Layout.{place_at}
 use Rattle.tile.proofs.raw.place.Statement.{statement}
 use Rattle.tile.proofs.raw.place.Tie as tie
 
@@ -20,10 +20,10 @@ u16-at-requires-3 : tie.Need-u16-at-requires-3
 u16-at-requires-3 c κs = search rules
 
 returns : tie.Need-returns
-unfolding placeAt
+unfolding place_at
 returns c = rw (c.before.before.u16-at.ensures, c.before.u16-at2.ensures, c.u16-at3.ensures)
 
-pub place-spec : {M : Type 1} → statement M
-place-spec =
+pub place_spec : {M : Type 1} → statement M
+place_spec =
     tie.close
     (tie.spec u16-at-requires add-u16-at u16-at-requires-2 add-u16-at-2 u16-at-requires-3 returns)

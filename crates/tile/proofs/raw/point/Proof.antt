@@ -38,8 +38,8 @@ returns-3 : tie.Need-returns-3
 unfolding point_of
 returns-3 c = rw (c.vertex.ensures, ne_eqb _ _ c.before.before.before.before.if1.false, le-ltb _ _ c.before.before.if2.false)
 
-pub point-spec : {M : Type 1} → statement M
-point-spec =
+pub point_spec : {M : Type 1} → statement M
+point_spec =
     tie.close
     (tie.spec
     node-requires

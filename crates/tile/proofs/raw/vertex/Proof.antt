@@ -39,8 +39,8 @@ place-requires c κs = search rules
 returns : tie.Need-returns
 returns c = rw (c.place.ensures, c.before.before.u16-at.ensures, c.before.u16-at2.ensures)
 
-pub vertex-spec : {M : Type 1} → statement M
-vertex-spec =
+pub vertex_spec : {M : Type 1} → statement M
+vertex_spec =
     tie.close
     (tie.spec
     u16-at-requires

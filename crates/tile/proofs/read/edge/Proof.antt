@@ -19,5 +19,5 @@ returns-2 : tie.Need-returns-2
 unfolding Readers.edge
 returns-2 c = rw (sym c.before.has-edge.ensures ∙ c.if1.false)
 
-pub edge-spec : {M : Type 1} → statement M
-edge-spec = tie.close (tie.spec has-edge-requires edge-requires returns returns-2)
+pub edge_spec : {M : Type 1} → statement M
+edge_spec = tie.close (tie.spec has-edge-requires edge-requires returns returns-2)

@@ -51,8 +51,8 @@ returns-3 c =
       sym c.before.before.before.before.has-node.ensures ∙ not-false _ c.before.before.before.if1.false,
     )
 
-pub incident-spec : {M : Type 1} → statement M
-incident-spec =
+pub incident_spec : {M : Type 1} → statement M
+incident_spec =
     tie.close
     (tie.spec
     last-read-requires

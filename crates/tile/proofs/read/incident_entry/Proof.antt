@@ -12,12 +12,12 @@ entry-requires : tie.Need-entry-requires
 entry-requires c κs = search rules
 
 returns : tie.Need-returns
-unfolding Readers.incidentEntry
+unfolding Readers.incident_entry
 returns c = rw (c.entry.ensures, sym c.before.before.has-entry.ensures ∙ c.before.if1.true)
 
 returns-2 : tie.Need-returns-2
-unfolding Readers.incidentEntry
+unfolding Readers.incident_entry
 returns-2 c = rw (sym c.before.has-entry.ensures ∙ c.if1.false)
 
-pub incident-entry-spec : {M : Type 1} → statement M
-incident-entry-spec = tie.close (tie.spec has-entry-requires entry-requires returns returns-2)
+pub incident_entry_spec : {M : Type 1} → statement M
+incident_entry_spec = tie.close (tie.spec has-entry-requires entry-requires returns returns-2)

@@ -19,5 +19,5 @@ returns-2 : tie.Need-returns-2
 unfolding Readers.node
 returns-2 c = rw (sym c.before.has-node.ensures ∙ c.if1.false)
 
-pub node-spec : {M : Type 1} → statement M
-node-spec = tie.close (tie.spec has-node-requires node-requires returns returns-2)
+pub node_spec : {M : Type 1} → statement M
+node_spec = tie.close (tie.spec has-node-requires node-requires returns returns-2)

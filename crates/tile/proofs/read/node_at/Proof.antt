@@ -4,13 +4,13 @@ use mathlib.Core.Path.{◌≡◌, sym, ◌∙◌}
 use native.Mathlib.Omega.{arith}
 use borrow.Author.Rules.{rules}
 use Rattle.tile.specs.Readers as Readers
-use Rattle.tile.proofs.Search.{search-step, search-none}
+use Rattle.tile.proofs.Search.{search_step, search_none}
 use Rattle.tile.proofs.read.node_at.Statement.{statement}
 use Rattle.tile.proofs.read.node_at.Tie as tie
 
 abbrev invariant-loop : tie.invariant-loop
 invariant-loop bytes x y low₀ high₀ low high =
-    (high ≤ 65535) × ((high ≤ Readers.nodesThere bytes) × (Readers.search (Readers.nodesThere bytes) bytes x y low high ≡ Readers.nodeAt bytes x y))
+    (high ≤ 65535) × ((high ≤ Readers.nodes_there bytes) × (Readers.search (Readers.nodes_there bytes) bytes x y low high ≡ Readers.node_at bytes x y))
 
 abbrev decreases-loop : tie.decreases-loop
 decreases-loop bytes x y low₀ high₀ low high = high - low
@@ -22,7 +22,7 @@ cast-high : tie.Need-overflow-cast-high invariant-loop decreases-loop
 cast-high c = search rules
 
 loop-holds : tie.Need-loop-init invariant-loop decreases-loop
-unfolding Readers.nodeAt
+unfolding Readers.node_at
 loop-holds c = (omega arith, (omega (arith, c.nodes-there.ensures), rw c.nodes-there.ensures))
 
 add-middle : tie.Need-overflow-add-middle invariant-loop decreases-loop
@@ -49,7 +49,7 @@ loop-again c = (
   (
     omega arith,
     rw (
-      search-step _ _ _ _ _ _ c.before.before.before.loop-test.true c.before.before.before.before.loop.invariant.1.0,
+      search_step _ _ _ _ _ _ c.before.before.before.loop-test.true c.before.before.before.before.loop.invariant.1.0,
       ← c.before.before.node.ensures,
       sym c.before.before2.ensures ∙ c.if1.true,
     )
@@ -69,7 +69,7 @@ loop-again-2 c = (
   (
     omega arith,
     rw (
-      search-step _ _ _ _ _ _ c.before.before.before.before.before.loop-test.true c.before.before.before.before.before.before.loop.invariant.1.0,
+      search_step _ _ _ _ _ _ c.before.before.before.before.before.loop-test.true c.before.before.before.before.before.before.loop.invariant.1.0,
       ← c.before.before.before.before.node.ensures,
       sym c.before.before.before.before2.ensures ∙ c.before.before.if1.false,
       sym c.before.before3.ensures ∙ c.if2.true,
@@ -84,7 +84,7 @@ cast-t14 c = search rules
 returns : tie.Need-returns invariant-loop decreases-loop
 returns c =
     rw (
-      search-step _ _ _ _ _ _ c.before.before.before.before.before.loop-test.true c.before.before.before.before.before.before.loop.invariant.1.0,
+      search_step _ _ _ _ _ _ c.before.before.before.before.before.loop-test.true c.before.before.before.before.before.before.loop.invariant.1.0,
       ← c.before.before.before.before.node.ensures,
       sym c.before.before.before.before2.ensures ∙ c.before.before.if1.false,
       sym c.before.before3.ensures ∙ c.if2.false,
@@ -92,7 +92,7 @@ returns c =
     at c.before.before.before.before.before.before.loop.invariant.1.1
 
 returns-2 : tie.Need-returns-2 invariant-loop decreases-loop
-returns-2 c = sym (search-none _ _ _ _ _ _ c.loop-test.false) ∙ c.before.loop.invariant.1.1
+returns-2 c = sym (search_none _ _ _ _ _ _ c.loop-test.false) ∙ c.before.loop.invariant.1.1
 
 pub node_at_spec : {M : Type 1} → statement M
 node_at_spec =

@@ -19,5 +19,5 @@ returns-2 : tie.Need-returns-2
 unfolding Readers.point
 returns-2 c = rw (sym c.before.has-point.ensures ∙ c.if1.false)
 
-pub point-spec : {M : Type 1} → statement M
-point-spec = tie.close (tie.spec has-point-requires point-requires returns returns-2)
+pub point_spec : {M : Type 1} → statement M
+point_spec = tie.close (tie.spec has-point-requires point-requires returns returns-2)

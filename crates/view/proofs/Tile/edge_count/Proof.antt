@@ -3,22 +3,22 @@ use mir.Syntax.{w64}
 use contract.Running.{tables, tables_of}
 use denote.Triple.Spec.{triple_of}
 use denote.Triple.Table.{entered, cited}
-use Rattle.tile.specs.Layout.{edgesOf}
+use Rattle.tile.specs.Layout.{edges_of}
 use Rattle.view.proofs.Datum.{number}
 use Rattle.view.proofs.Thin.{none}
 use Rattle.view.specs.contracts.on.edge_count as worker
-use Rattle.view.proofs.on.edge_count.Symbol as worker-def
+use Rattle.view.proofs.on.edge_count.Symbol as worker_def
 use Rattle.view.proofs.on.edge_count.Symbol.{name as #worker}
-use Rattle.view.proofs.on.edge_count.Met as worker-thm
+use Rattle.view.proofs.on.edge_count.Met as worker_thm
 use Rattle.view.specs.contracts.Tile.edge_count.Key.{name as #edge-count}
 use Rattle.view.specs.contracts.Tile.edge_count as IsEdge-count
 use Rattle.view.proofs.Tile.edge_count.Statement as stated
 use Rattle.view.proofs.Tile.edge_count.Code as code
 
-pub edge-count-spec : {M : Type 1} → stated.statement M
+pub edge_count_spec : {M : Type 1} → stated.statement M
 unfolding code.routine tables_of
-edge-count-spec 𝓤 𝓛 𝓜 𝓡 =
+edge_count_spec 𝓤 𝓛 𝓜 𝓡 =
     entered 𝓤 𝓛.H (triple_of 𝓛 IsEdge-count.signature (IsEdge-count.spec 𝓛 𝓜.mem 𝓡.run))
     (tables 𝓤 𝓛.H 𝓜 𝓡 code.env).C (tables 𝓤 𝓛.H 𝓜 𝓡 code.env).Λ #edge-count code.function (code.unfolded 𝓤 𝓛.H 𝓜 𝓡)
-    (none (number w64) edgesOf 𝓛 #worker (tables_of 𝓤 𝓛.H 𝓜 (tables 𝓤 𝓛.H 𝓜 𝓡 code.env))
-    (cited 𝓤 𝓛.H (triple_of 𝓛 worker.signature (worker.spec 𝓛 𝓜.mem 𝓡.run)) 𝓜 𝓡 code.env #worker worker-def.routine code.calls-view::on::edge-count (worker-thm.met 𝓤 𝓛 𝓜 𝓡)))
+    (none (number w64) edges_of 𝓛 #worker (tables_of 𝓤 𝓛.H 𝓜 (tables 𝓤 𝓛.H 𝓜 𝓡 code.env))
+    (cited 𝓤 𝓛.H (triple_of 𝓛 worker.signature (worker.spec 𝓛 𝓜.mem 𝓡.run)) 𝓜 𝓡 code.env #worker worker_def.routine code.calls-view::on::edge-count (worker_thm.met 𝓤 𝓛 𝓜 𝓡)))

@@ -10,9 +10,9 @@ use Rattle.tile.specs.Layout.{id_of}
 use Rattle.view.proofs.Datum.{struct}
 use Rattle.view.proofs.Thin.{none}
 use Rattle.tile.specs.contracts.read.id as worker
-use Rattle.tile.proofs.read.id.Symbol as worker-def
+use Rattle.tile.proofs.read.id.Symbol as worker_def
 use Rattle.tile.proofs.read.id.Symbol.{name as #worker}
-use Rattle.tile.proofs.read.id.Met as worker-thm
+use Rattle.tile.proofs.read.id.Met as worker_thm
 use Rattle.view.specs.contracts.Tile.id.Key.{name as #id}
 use Rattle.view.specs.contracts.Tile.id as id
 use Rattle.view.proofs.Tile.id.Statement as stated
@@ -24,4 +24,4 @@ id_spec 𝓤 𝓛 𝓜 𝓡 =
     entered 𝓤 𝓛.H (triple_of 𝓛 id.signature (id.spec 𝓛 𝓜.mem 𝓡.run))
     (tables 𝓤 𝓛.H 𝓜 𝓡 code.env).C (tables 𝓤 𝓛.H 𝓜 𝓡 code.env).Λ #id code.function (code.unfolded 𝓤 𝓛.H 𝓜 𝓡)
     (none (struct TileId.the_type TileId'.the_laws TileId'.the_copy TileId'.mir refl) id_of 𝓛 #worker (tables_of 𝓤 𝓛.H 𝓜 (tables 𝓤 𝓛.H 𝓜 𝓡 code.env))
-    (cited 𝓤 𝓛.H (triple_of 𝓛 worker.signature (worker.spec 𝓛 𝓜.mem 𝓡.run)) 𝓜 𝓡 code.env #worker worker-def.routine code.calls-tile::read::id (worker-thm.met 𝓤 𝓛 𝓜 𝓡)))
+    (cited 𝓤 𝓛.H (triple_of 𝓛 worker.signature (worker.spec 𝓛 𝓜.mem 𝓡.run)) 𝓜 𝓡 code.env #worker worker_def.routine code.calls-tile::read::id (worker_thm.met 𝓤 𝓛 𝓜 𝓡)))

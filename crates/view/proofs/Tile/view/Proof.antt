@@ -45,9 +45,9 @@ use Rattle.view.proofs.Datum.{Datum, struct, Data, typed}
 use Rattle.view.proofs.Fields.{slice, D, L}
 use Rattle.view.proofs.Subject.{lent, Answer, to, answers}
 use Rattle.tile.specs.contracts.read.head as worker
-use Rattle.tile.proofs.read.head.Symbol as worker-def
+use Rattle.tile.proofs.read.head.Symbol as worker_def
 use Rattle.tile.proofs.read.head.Symbol.{name as #worker}
-use Rattle.tile.proofs.read.head.Met as worker-thm
+use Rattle.tile.proofs.read.head.Met as worker_thm
 use Rattle.view.specs.contracts.Tile.view.Key.{name as #view}
 use Rattle.view.specs.contracts.Tile.view as view
 use Rattle.view.proofs.Tile.view.Statement as stated
@@ -117,17 +117,17 @@ module _ {M : Type 1} {𝓤 : Ura M} (𝓛 : Logic 𝓤) (mem : Memory → SProp
       returns ! (look ! 7 refl) $ forget ! 3 refl $ forget ! 5 refl $ forget ! 7 refl $
       move ! (7 ∷ 8 ∷ []) $ free1 ! $ move ! (5 ∷ 6 ∷ []) $ free1 ! $ move ! (3 ∷ 4 ∷ []) $ free1 ! $ free0 ! $ by ! (exits h u e is))))))
 
-view-meets : {M : Type 1} {𝓤 : Ura M} (𝓛 : Logic 𝓤) (mem : Memory → SProp 𝓤) (run : Routine → Fun 𝓤) (𝓣 : Tables 𝓤 𝓛.H)
+view_meets : {M : Type 1} {𝓤 : Ura M} (𝓛 : Logic 𝓤) (mem : Memory → SProp 𝓤) (run : Routine → Fun 𝓤) (𝓣 : Tables 𝓤 𝓛.H)
     → Triple 𝓤 (𝓣.C #worker) (Answer lent R [] f 𝓛) → Meets 𝓛 view.signature (WpFn 𝓤 𝓛.H 𝓣.C 𝓣.Λ code.function) (view.spec 𝓛 mem run)
-view-meets {𝓤 = 𝓤} 𝓛 mem run 𝓣 known =
+view_meets {𝓤 = 𝓤} 𝓛 mem run 𝓣 known =
     walk_Meets 𝓛 view.ended stayed (Goes-dropped 𝓛 1 (shr_slice_of (0 ∷ []) tt (plain (λ _. u8))) yes (λ κs x w. refl), tt) (view.clauses 𝓛 mem run) (WpFn 𝓤 𝓛.H 𝓣.C 𝓣.Λ code.function) (WpFn-mono 𝓤 𝓛.H 𝓛.laws 𝓣 code.function)
     (walked 𝓛 view.ended stayed (view.clauses 𝓛 mem run) (WpFn 𝓤 𝓛.H 𝓣.C 𝓣.Λ code.function) (λ κs. (shr_slice_vals, tt)) (λ κs. (shr_slice_Tells (named 0) κs.0 u8, tt))
     (λ κs qs bounds a g are. via 𝓤 _ (fst∗ 𝓤 _ (emp 𝓤)) (walk 𝓛 mem run κs.0 qs.0 a.0 𝓣 known are.0)))
 
-pub view-spec : {M : Type 1} → stated.statement M
+pub view_spec : {M : Type 1} → stated.statement M
 unfolding code.routine tables_of
-view-spec 𝓤 𝓛 𝓜 𝓡 =
+view_spec 𝓤 𝓛 𝓜 𝓡 =
     entered 𝓤 𝓛.H (triple_of 𝓛 view.signature (view.spec 𝓛 𝓜.mem 𝓡.run))
     (tables 𝓤 𝓛.H 𝓜 𝓡 code.env).C (tables 𝓤 𝓛.H 𝓜 𝓡 code.env).Λ #view code.function (code.unfolded 𝓤 𝓛.H 𝓜 𝓡)
-    (view-meets 𝓛 𝓜.mem 𝓡.run (tables_of 𝓤 𝓛.H 𝓜 (tables 𝓤 𝓛.H 𝓜 𝓡 code.env))
-    (cited 𝓤 𝓛.H (triple_of 𝓛 worker.signature (worker.spec 𝓛 𝓜.mem 𝓡.run)) 𝓜 𝓡 code.env #worker worker-def.routine code.calls-tile::read::head (worker-thm.met 𝓤 𝓛 𝓜 𝓡)))
+    (view_meets 𝓛 𝓜.mem 𝓡.run (tables_of 𝓤 𝓛.H 𝓜 (tables 𝓤 𝓛.H 𝓜 𝓡 code.env))
+    (cited 𝓤 𝓛.H (triple_of 𝓛 worker.signature (worker.spec 𝓛 𝓜.mem 𝓡.run)) 𝓜 𝓡 code.env #worker worker_def.routine code.calls-tile::read::head (worker_thm.met 𝓤 𝓛 𝓜 𝓡)))

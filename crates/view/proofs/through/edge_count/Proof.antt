@@ -3,27 +3,27 @@ use mir.Syntax.{w64}
 use contract.Running.{tables, tables_of}
 use denote.Triple.Spec.{triple_of}
 use denote.Triple.Table.{entered, cited}
-use Rattle.tile.specs.Layout.{edgesOf}
+use Rattle.tile.specs.Layout.{edges_of}
 use Rattle.view.proofs.Datum.{number}
 use Rattle.view.proofs.Made.{none}
 use Rattle.view.specs.contracts.Tile.view as view
-use Rattle.view.proofs.Tile.view.Symbol as view-def
+use Rattle.view.proofs.Tile.view.Symbol as view_def
 use Rattle.view.proofs.Tile.view.Symbol.{name as #view}
-use Rattle.view.proofs.Tile.view.Met as view-thm
+use Rattle.view.proofs.Tile.view.Met as view_thm
 use Rattle.view.specs.contracts.Tile.edge_count as thin
-use Rattle.view.proofs.Tile.edge_count.Symbol as thin-def
+use Rattle.view.proofs.Tile.edge_count.Symbol as thin_def
 use Rattle.view.proofs.Tile.edge_count.Symbol.{name as #thin}
-use Rattle.view.proofs.Tile.edge_count.Met as thin-thm
+use Rattle.view.proofs.Tile.edge_count.Met as thin_thm
 use Rattle.view.specs.contracts.through.edge_count.Key.{name as #edge-count}
 use Rattle.view.specs.contracts.through.edge_count as IsEdge-count
 use Rattle.view.proofs.through.edge_count.Statement as stated
 use Rattle.view.proofs.through.edge_count.Code as code
 
-pub edge-count-spec : {M : Type 1} → stated.statement M
+pub edge_count_spec : {M : Type 1} → stated.statement M
 unfolding code.routine tables_of
-edge-count-spec 𝓤 𝓛 𝓜 𝓡 =
+edge_count_spec 𝓤 𝓛 𝓜 𝓡 =
     entered 𝓤 𝓛.H (triple_of 𝓛 IsEdge-count.signature (IsEdge-count.spec 𝓛 𝓜.mem 𝓡.run))
     (tables 𝓤 𝓛.H 𝓜 𝓡 code.env).C (tables 𝓤 𝓛.H 𝓜 𝓡 code.env).Λ #edge-count code.function (code.unfolded 𝓤 𝓛.H 𝓜 𝓡)
-    (none (number w64) edgesOf 𝓛 #view #thin (tables_of 𝓤 𝓛.H 𝓜 (tables 𝓤 𝓛.H 𝓜 𝓡 code.env))
-    (cited 𝓤 𝓛.H (triple_of 𝓛 view.signature (view.spec 𝓛 𝓜.mem 𝓡.run)) 𝓜 𝓡 code.env #view view-def.routine code.calls-view::Tile::view (view-thm.met 𝓤 𝓛 𝓜 𝓡))
-    (cited 𝓤 𝓛.H (triple_of 𝓛 thin.signature (thin.spec 𝓛 𝓜.mem 𝓡.run)) 𝓜 𝓡 code.env #thin thin-def.routine code.calls-view::Tile::edge-count (thin-thm.met 𝓤 𝓛 𝓜 𝓡)))
+    (none (number w64) edges_of 𝓛 #view #thin (tables_of 𝓤 𝓛.H 𝓜 (tables 𝓤 𝓛.H 𝓜 𝓡 code.env))
+    (cited 𝓤 𝓛.H (triple_of 𝓛 view.signature (view.spec 𝓛 𝓜.mem 𝓡.run)) 𝓜 𝓡 code.env #view view_def.routine code.calls-view::Tile::view (view_thm.met 𝓤 𝓛 𝓜 𝓡))
+    (cited 𝓤 𝓛.H (triple_of 𝓛 thin.signature (thin.spec 𝓛 𝓜.mem 𝓡.run)) 𝓜 𝓡 code.env #thin thin_def.routine code.calls-view::Tile::edge-count (thin_thm.met 𝓤 𝓛 𝓜 𝓡)))

@@ -11,27 +11,27 @@ use Rattle.pack.specs.contracts.Header as Header
 use Rattle.pack.proofs.Header.TheLaws as Header'
 use Rattle.tile.specs.contracts.Edge as Edge
 use Rattle.tile.proofs.Edge.TheLaws as Edge'
-use Rattle.geo.specs.Points.{edgePoint}
+use Rattle.geo.specs.Points.{edge_point}
 use Rattle.view.proofs.Datum.{enum, number, struct}
 use Rattle.view.proofs.Made.{three}
 use Rattle.view.specs.contracts.Tile.view as view
-use Rattle.view.proofs.Tile.view.Symbol as view-def
+use Rattle.view.proofs.Tile.view.Symbol as view_def
 use Rattle.view.proofs.Tile.view.Symbol.{name as #view}
-use Rattle.view.proofs.Tile.view.Met as view-thm
+use Rattle.view.proofs.Tile.view.Met as view_thm
 use Rattle.view.specs.contracts.Tile.edge_point as thin
-use Rattle.view.proofs.Tile.edge_point.Symbol as thin-def
+use Rattle.view.proofs.Tile.edge_point.Symbol as thin_def
 use Rattle.view.proofs.Tile.edge_point.Symbol.{name as #thin}
-use Rattle.view.proofs.Tile.edge_point.Met as thin-thm
+use Rattle.view.proofs.Tile.edge_point.Met as thin_thm
 use Rattle.view.specs.contracts.through.edge_point.Key.{name as #edge-point}
-use Rattle.view.specs.contracts.through.edge_point as edge-point
+use Rattle.view.specs.contracts.through.edge_point as edge_point_contract
 use Rattle.view.proofs.through.edge_point.Statement as stated
 use Rattle.view.proofs.through.edge_point.Code as code
 
-pub edge-point-spec : {M : Type 1} → stated.statement M
+pub edge_point_spec : {M : Type 1} → stated.statement M
 unfolding code.routine tables_of
-edge-point-spec 𝓤 𝓛 𝓜 𝓡 =
-    entered 𝓤 𝓛.H (triple_of 𝓛 edge-point.signature (edge-point.spec 𝓛 𝓜.mem 𝓡.run))
+edge_point_spec 𝓤 𝓛 𝓜 𝓡 =
+    entered 𝓤 𝓛.H (triple_of 𝓛 edge_point_contract.signature (edge_point_contract.spec 𝓛 𝓜.mem 𝓡.run))
     (tables 𝓤 𝓛.H 𝓜 𝓡 code.env).C (tables 𝓤 𝓛.H 𝓜 𝓡 code.env).Λ #edge-point code.function (code.unfolded 𝓤 𝓛.H 𝓜 𝓡)
-    (three (enum EdgePoint.the_type EdgePoint'.the_laws EdgePoint'.the_copy tt EdgePoint'.mir refl) (struct Header.the_type Header'.the_laws Header'.the_copy Header'.mir refl) (struct Edge.the_type Edge'.the_laws Edge'.the_copy Edge'.mir refl) (number w64) (λ bs h e i. edgePoint h bs e i) 𝓛 #view #thin (tables_of 𝓤 𝓛.H 𝓜 (tables 𝓤 𝓛.H 𝓜 𝓡 code.env))
-    (cited 𝓤 𝓛.H (triple_of 𝓛 view.signature (view.spec 𝓛 𝓜.mem 𝓡.run)) 𝓜 𝓡 code.env #view view-def.routine code.calls-view::Tile::view (view-thm.met 𝓤 𝓛 𝓜 𝓡))
-    (cited 𝓤 𝓛.H (triple_of 𝓛 thin.signature (thin.spec 𝓛 𝓜.mem 𝓡.run)) 𝓜 𝓡 code.env #thin thin-def.routine code.calls-view::Tile::edge-point (thin-thm.met 𝓤 𝓛 𝓜 𝓡)))
+    (three (enum EdgePoint.the_type EdgePoint'.the_laws EdgePoint'.the_copy tt EdgePoint'.mir refl) (struct Header.the_type Header'.the_laws Header'.the_copy Header'.mir refl) (struct Edge.the_type Edge'.the_laws Edge'.the_copy Edge'.mir refl) (number w64) (λ bs h e i. edge_point h bs e i) 𝓛 #view #thin (tables_of 𝓤 𝓛.H 𝓜 (tables 𝓤 𝓛.H 𝓜 𝓡 code.env))
+    (cited 𝓤 𝓛.H (triple_of 𝓛 view.signature (view.spec 𝓛 𝓜.mem 𝓡.run)) 𝓜 𝓡 code.env #view view_def.routine code.calls-view::Tile::view (view_thm.met 𝓤 𝓛 𝓜 𝓡))
+    (cited 𝓤 𝓛.H (triple_of 𝓛 thin.signature (thin.spec 𝓛 𝓜.mem 𝓡.run)) 𝓜 𝓡 code.env #thin thin_def.routine code.calls-view::Tile::edge-point (thin_thm.met 𝓤 𝓛 𝓜 𝓡)))

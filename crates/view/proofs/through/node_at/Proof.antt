@@ -6,17 +6,17 @@ use denote.Triple.Spec.{triple_of}
 use denote.Triple.Table.{entered, cited}
 use Rattle.tile.specs.contracts.Found as Found
 use Rattle.tile.proofs.Found.TheLaws as Found'
-use Rattle.tile.specs.Readers.{nodeAt}
+use Rattle.tile.specs.Readers.{node_at}
 use Rattle.view.proofs.Datum.{enum, number}
 use Rattle.view.proofs.Made.{two}
 use Rattle.view.specs.contracts.Tile.view as view
-use Rattle.view.proofs.Tile.view.Symbol as view-def
+use Rattle.view.proofs.Tile.view.Symbol as view_def
 use Rattle.view.proofs.Tile.view.Symbol.{name as #view}
-use Rattle.view.proofs.Tile.view.Met as view-thm
+use Rattle.view.proofs.Tile.view.Met as view_thm
 use Rattle.view.specs.contracts.Tile.node_at as thin
-use Rattle.view.proofs.Tile.node_at.Symbol as thin-def
+use Rattle.view.proofs.Tile.node_at.Symbol as thin_def
 use Rattle.view.proofs.Tile.node_at.Symbol.{name as #thin}
-use Rattle.view.proofs.Tile.node_at.Met as thin-thm
+use Rattle.view.proofs.Tile.node_at.Met as thin_thm
 use Rattle.view.specs.contracts.through.node_at.Key.{name as #node-at}
 use Rattle.view.specs.contracts.through.node_at as Node-at
 use Rattle.view.proofs.through.node_at.Statement as stated
@@ -27,6 +27,6 @@ unfolding code.routine tables_of
 node_at_spec 𝓤 𝓛 𝓜 𝓡 =
     entered 𝓤 𝓛.H (triple_of 𝓛 Node-at.signature (Node-at.spec 𝓛 𝓜.mem 𝓡.run))
     (tables 𝓤 𝓛.H 𝓜 𝓡 code.env).C (tables 𝓤 𝓛.H 𝓜 𝓡 code.env).Λ #node-at code.function (code.unfolded 𝓤 𝓛.H 𝓜 𝓡)
-    (two (enum Found.the_type Found'.the_laws Found'.the_copy tt Found'.mir refl) (number w16) (number w16) nodeAt 𝓛 #view #thin (tables_of 𝓤 𝓛.H 𝓜 (tables 𝓤 𝓛.H 𝓜 𝓡 code.env))
-    (cited 𝓤 𝓛.H (triple_of 𝓛 view.signature (view.spec 𝓛 𝓜.mem 𝓡.run)) 𝓜 𝓡 code.env #view view-def.routine code.calls-view::Tile::view (view-thm.met 𝓤 𝓛 𝓜 𝓡))
-    (cited 𝓤 𝓛.H (triple_of 𝓛 thin.signature (thin.spec 𝓛 𝓜.mem 𝓡.run)) 𝓜 𝓡 code.env #thin thin-def.routine code.calls-view::Tile::node-at (thin-thm.met 𝓤 𝓛 𝓜 𝓡)))
+    (two (enum Found.the_type Found'.the_laws Found'.the_copy tt Found'.mir refl) (number w16) (number w16) node_at 𝓛 #view #thin (tables_of 𝓤 𝓛.H 𝓜 (tables 𝓤 𝓛.H 𝓜 𝓡 code.env))
+    (cited 𝓤 𝓛.H (triple_of 𝓛 view.signature (view.spec 𝓛 𝓜.mem 𝓡.run)) 𝓜 𝓡 code.env #view view_def.routine code.calls-view::Tile::view (view_thm.met 𝓤 𝓛 𝓜 𝓡))
+    (cited 𝓤 𝓛.H (triple_of 𝓛 thin.signature (thin.spec 𝓛 𝓜.mem 𝓡.run)) 𝓜 𝓡 code.env #thin thin_def.routine code.calls-view::Tile::node-at (thin_thm.met 𝓤 𝓛 𝓜 𝓡)))

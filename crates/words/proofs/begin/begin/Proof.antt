@@ -2,7 +2,7 @@
 use Rattle.std.proofs.Common.{length, ap, ◌∙◌, arith, rules}
 use Rattle.cache.proofs.RunLaws.{span_pos}
 use Rattle.words.proofs.PieceLaws.{words-length}
-use Rattle.words.proofs.BeginLaws.{begun-past, headed-accepted, begun-in}
+use Rattle.words.proofs.BeginLaws.{begun_past, headed_accepted, begun_in}
 use Rattle.words.proofs.begin.begin.Statement.{statement}
 use Rattle.words.proofs.begin.begin.Tie as tie
 
@@ -13,7 +13,7 @@ evict-requires : tie.Need-evict-requires
 evict-requires c κs = search rules
 
 returns : tie.Need-returns
-returns c = begun-past c.before.before.before.before.args.ws.now c.before.before.before.before.requires c.before.before.before.before.args.at c.before.before.before.before.args.key c.before.before.before.before.args.len c.before.before.before.span.ensures c.before.evict.ensures c.if1.true
+returns c = begun_past c.before.before.before.before.args.ws.now c.before.before.before.before.requires c.before.before.before.before.args.at c.before.before.before.before.args.key c.before.before.before.before.args.len c.before.before.before.span.ensures c.before.evict.ensures c.if1.true
 
 of-key-requires : tie.Need-of-key-requires
 of-key-requires c κs = search rules
@@ -28,10 +28,10 @@ sub-piece-run : tie.Need-overflow-sub-piece-run
 sub-piece-run c = omega (arith, span_pos c.before.before.before.before.before.before.before.before.args.len, c.before.before.before.before.before.before.before.span.ensures)
 
 piece-run-requires : tie.Need-piece-run-requires
-piece-run-requires c κs = (headed-accepted c.before.before.before.before.before.before.before.before.args.ws.now c.before.before.before.before.before.before.before.before.requires c.before.before.before.before.before.before.before.before.args.at c.before.before.before.before.before.before.before.before.args.key c.before.before.before.before.before.before.before.before.args.len c.before.before.before.before.before.before.before.span.ensures c.before.before.before.before.before.evict.ensures c.before.before.before.before.if1.false (c.before.before.before.before.before.before.before.before.well-formed.1.1.0.1.1.0.1, c.before.before.before.before.before.before.before.before.well-formed.1.1.0.1.1.1.0.1) (omega (arith, c.before.before.before.before.before.before.before.before.ranges.len)) c.before.before.of-key.ensures c.before.put-slot.ensures.0, c.before.before.before.before.if1.false)
+piece-run-requires c κs = (headed_accepted c.before.before.before.before.before.before.before.before.args.ws.now c.before.before.before.before.before.before.before.before.requires c.before.before.before.before.before.before.before.before.args.at c.before.before.before.before.before.before.before.before.args.key c.before.before.before.before.before.before.before.before.args.len c.before.before.before.before.before.before.before.span.ensures c.before.before.before.before.before.evict.ensures c.before.before.before.before.if1.false (c.before.before.before.before.before.before.before.before.well-formed.1.1.0.1.1.0.1, c.before.before.before.before.before.before.before.before.well-formed.1.1.0.1.1.1.0.1) (omega (arith, c.before.before.before.before.before.before.before.before.ranges.len)) c.before.before.of-key.ensures c.before.put-slot.ensures.0, c.before.before.before.before.if1.false)
 
 returns-2 : tie.Need-returns-2
-returns-2 c = begun-in c.before.before.before.before.before.before.before.before.before.args.ws.now c.before.before.before.before.before.before.before.before.before.requires c.before.before.before.before.before.before.before.before.before.args.at c.before.before.before.before.before.before.before.before.before.args.key c.before.before.before.before.before.before.before.before.before.args.len c.before.before.before.before.before.before.before.before.span.ensures c.before.before.before.before.before.before.evict.ensures c.before.before.before.before.before.if1.false (c.before.before.before.before.before.before.before.before.before.well-formed.1.1.0.1.1.0.1, c.before.before.before.before.before.before.before.before.before.well-formed.1.1.0.1.1.1.0.1) (omega (arith, c.before.before.before.before.before.before.before.before.before.ranges.len)) c.before.before.before.of-key.ensures c.before.before.put-slot.ensures.0 c.piece-run.ensures
+returns-2 c = begun_in c.before.before.before.before.before.before.before.before.before.args.ws.now c.before.before.before.before.before.before.before.before.before.requires c.before.before.before.before.before.before.before.before.before.args.at c.before.before.before.before.before.before.before.before.before.args.key c.before.before.before.before.before.before.before.before.before.args.len c.before.before.before.before.before.before.before.before.span.ensures c.before.before.before.before.before.before.evict.ensures c.before.before.before.before.before.if1.false (c.before.before.before.before.before.before.before.before.before.well-formed.1.1.0.1.1.0.1, c.before.before.before.before.before.before.before.before.before.well-formed.1.1.0.1.1.1.0.1) (omega (arith, c.before.before.before.before.before.before.before.before.before.ranges.len)) c.before.before.before.of-key.ensures c.before.before.put-slot.ensures.0 c.piece-run.ensures
 
-pub begin-spec : {M : Type 1} → statement M
-begin-spec = tie.close (tie.spec span-requires evict-requires returns of-key-requires put-slot-requires add-piece-run sub-piece-run piece-run-requires returns-2)
+pub begin_spec : {M : Type 1} → statement M
+begin_spec = tie.close (tie.spec span-requires evict-requires returns of-key-requires put-slot-requires add-piece-run sub-piece-run piece-run-requires returns-2)

@@ -22,5 +22,5 @@ returns c = sym (starts_by c.before.before.args.ws.now c.before.before.args.p c.
 returns-2 : tie.Need-returns-2
 returns-2 c = le-ltb _ _ c.if1.false ∙ sym (starts_none c.before.before.args.ws.now c.before.before.args.p c.before.before.requires c.if1.false)
 
-pub is-run-spec : {M : Type 1} → statement M
-is-run-spec = tie.close (tie.spec mul-tag add-tag mul-tag-2 element-copy-out-tag returns returns-2)
+pub is_run_spec : {M : Type 1} → statement M
+is_run_spec = tie.close (tie.spec mul-tag add-tag mul-tag-2 element-copy-out-tag returns returns-2)

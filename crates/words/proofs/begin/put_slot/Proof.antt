@@ -1,5 +1,5 @@
 use Rattle.std.proofs.Common.{◌∙◌, rules}
-use Rattle.words.proofs.PageSetLaws.{three-put, three-long}
+use Rattle.words.proofs.PageSetLaws.{three_put, three_long}
 -- `begin::put_slot` meets its contract: three words stored, one behind the other, are three words put.
 use Rattle.words.proofs.begin.put_slot.Statement.{statement}
 use Rattle.words.proofs.begin.put_slot.Tie as tie
@@ -41,10 +41,10 @@ element-write-ws-3 : tie.Need-element-write-ws-3
 element-write-ws-3 c = search rules
 
 returns : tie.Need-returns
-returns c = (three-put c.args.ws.now c.args.p c.args.tag c.args.key c.args.len c.requires.0 c.requires.1, three-long c.args.ws.now _ _ _ _ _ _ ∙ c.requires.1)
+returns c = (three_put c.args.ws.now c.args.p c.args.tag c.args.key c.args.len c.requires.0 c.requires.1, three_long c.args.ws.now _ _ _ _ _ _ ∙ c.requires.1)
 
-pub put-slot-spec : {M : Type 1} → statement M
-put-slot-spec =
+pub put_slot_spec : {M : Type 1} → statement M
+put_slot_spec =
     tie.close
     (tie.spec
     mul-ws

@@ -2,7 +2,7 @@
 use Rattle.std.proofs.Common.{sym, ◌∙◌, rules}
 use borrow.Author.Tests.{not-true, not-false}
 use Rattle.cache.proofs.RunLaws.{room}
-use Rattle.words.specs.Words.{pagesOf, cacheOf}
+use Rattle.words.specs.Words.{pages_of, cache_of}
 use Rattle.words.proofs.CallLaws.{given_is}
 use Rattle.words.proofs.calls.given_ok.Statement.{statement}
 use Rattle.words.proofs.calls.given_ok.Tie as tie
@@ -32,7 +32,7 @@ entry-in-requires : tie.Need-entry-in-requires
 entry-in-requires c κs = search rules
 
 returns-3 : tie.Need-returns-3
-unfolding cacheOf
+unfolding cache_of
 returns-3 c =
     rw (← given_is c.before.before.before.before.before.before.before.before.before.args.ws.now c.before.before.before.before.before.before.before.before.before.args.header c.before.before.before.before.before.before.before.before.before.args.size, sym c.before.before.before.before.before.before.before.before.cache-ok.ensures ∙ not-false _ c.before.before.before.before.before.before.before.if1.false, sym c.before.before.before.before.before.before.rules.ensures ∙ not-false _ c.before.before.before.before.before.if2.false, rw c.before.before.pending.ensures at (sym c.before.entry_in.ensures ∙ not-true _ c.if3.true))
 
@@ -43,12 +43,12 @@ size-requires : tie.Need-size-requires
 size-requires c κs = search rules
 
 returns-4 : tie.Need-returns-4
-unfolding cacheOf pagesOf
+unfolding cache_of pages_of
 returns-4 c =
     rw (← given_is c.before.before.before.before.before.before.before.before.before.before.before.args.ws.now c.before.before.before.before.before.before.before.before.before.before.before.args.header c.before.before.before.before.before.before.before.before.before.before.before.args.size, sym c.before.before.before.before.before.before.before.before.before.before.cache-ok.ensures ∙ not-false _ c.before.before.before.before.before.before.before.before.before.if1.false, sym c.before.before.before.before.before.before.before.before.rules.ensures ∙ not-false _ c.before.before.before.before.before.before.before.if2.false, rw c.before.before.before.before.pending.ensures at (sym c.before.before.before.entry_in.ensures ∙ not-false _ c.before.before.if3.false), c.size.ensures, room)
 
-pub given-ok-spec : {M : Type 1} → statement M
-given-ok-spec =
+pub given_ok_spec : {M : Type 1} → statement M
+given_ok_spec =
     tie.close
     (tie.spec
     cache-ok-requires

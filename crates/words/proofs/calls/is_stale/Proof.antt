@@ -27,8 +27,8 @@ returns-3 c = search rules
 returns-4 : tie.Need-returns-4
 returns-4 c = rw c.before.answer.given.1
 
-pub is-stale-spec : {M : Type 1} → statement M
-is-stale-spec =
+pub is_stale_spec : {M : Type 1} → statement M
+is_stale_spec =
     tie.close
     (tie.spec
     enum_told

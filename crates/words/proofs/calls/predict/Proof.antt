@@ -1,8 +1,8 @@
 -- `calls::predict` meets its contract: each return by the tests before it; clock and ages are put but for the late 12.
 use Rattle.std.proofs.Common.{length, sym, refl, ◌∙◌, rules}
 use borrow.Author.Tests.{not-true, not-false}
-use Rattle.words.proofs.CallLaws.{count-here, left-kept, given-accepted, predict-is, predict-looks, left-stale, left-road}
-use Rattle.words.proofs.CountLaws.{accepted-long}
+use Rattle.words.proofs.CallLaws.{count_here, left_kept, given_accepted, predict_is, predict_looks, left_stale, left-road}
+use Rattle.words.proofs.CountLaws.{accepted_long}
 use Rattle.words.proofs.calls.predict.Statement.{statement}
 use Rattle.words.proofs.calls.predict.Tie as tie
 
@@ -13,7 +13,7 @@ returns : tie.Need-returns
 returns c =
     let args = c.before.before.before.before.args in
     let ws = args.ws.now in
-    rw (predict-is ws args.header args.arena.now args.start args.horizon-m args.samples.now args.behind.now, sym c.before.given-ok.ensures ∙ not-true _ c.if1.true) (refl, (sym (left-kept ws), (refl, refl)))
+    rw (predict_is ws args.header args.arena.now args.start args.horizon-m args.samples.now args.behind.now, sym c.before.given-ok.ensures ∙ not-true _ c.if1.true) (refl, (sym (left_kept ws), (refl, refl)))
 
 in-grid-requires : tie.Need-in-grid-requires
 in-grid-requires c κs = search rules
@@ -22,7 +22,7 @@ returns-2 : tie.Need-returns-2
 returns-2 c =
     let args = c.before.before.before.before.before.before.before.args in
     let ws = args.ws.now in
-    rw (predict-is ws args.header args.arena.now args.start args.horizon-m args.samples.now args.behind.now, sym c.before.before.before.before.given-ok.ensures ∙ not-false _ c.before.before.before.if1.false, sym c.before.in-grid.ensures ∙ not-true _ c.if2.true) (refl, (sym (left-kept ws), (refl, refl)))
+    rw (predict_is ws args.header args.arena.now args.start args.horizon-m args.samples.now args.behind.now, sym c.before.before.before.before.given-ok.ensures ∙ not-false _ c.before.before.before.if1.false, sym c.before.in-grid.ensures ∙ not-true _ c.if2.true) (refl, (sym (left_kept ws), (refl, refl)))
 
 lookups-requires : tie.Need-lookups-requires
 lookups-requires c κs = search rules
@@ -51,9 +51,9 @@ returns-3 c =
     let ws = args.ws.now in
     let given = sym c.before.before.before.before.before.before.before.before.before.before.before.before.before.before.before.before.given-ok.ensures ∙ not-false _ c.before.before.before.before.before.before.before.before.before.before.before.before.before.before.before.if1.false in
     let grid = sym c.before.before.before.before.before.before.before.before.before.before.before.before.before.in-grid.ensures ∙ not-false _ c.before.before.before.before.before.before.before.before.before.before.before.before.if2.false in
-    let road = rw (c.before.before.before.before.before.before.before.before.before.before.lookups.ensures, c.before.before.before.before.before.before.before.size.ensures ∙ count-here ws) at c.before.before.before.before.from-looks.ensures in
+    let road = rw (c.before.before.before.before.before.before.before.before.before.before.lookups.ensures, c.before.before.before.before.before.before.before.size.ensures ∙ count_here ws) at c.before.before.before.before.from-looks.ensures in
     let stale = rw road.0 at (sym c.before.is-stale.ensures ∙ c.if3.true) in
-    rw (predict-looks ws args.header args.arena.now args.start args.horizon-m args.samples.now args.behind.now given grid) (road.0, (left-stale ws args.header args.arena.now args.start args.horizon-m args.samples.now args.behind.now given grid stale, (road.1.1.0, road.1.1.1)))
+    rw (predict_looks ws args.header args.arena.now args.start args.horizon-m args.samples.now args.behind.now given grid) (road.0, (left_stale ws args.header args.arena.now args.start args.horizon-m args.samples.now args.behind.now given grid stale, (road.1.1.0, road.1.1.1)))
 
 uses-from-requires : tie.Need-uses-from-requires
 uses-from-requires c κs = search rules
@@ -61,7 +61,7 @@ uses-from-requires c κs = search rules
 put-uses-requires : tie.Need-put-uses-requires
 put-uses-requires c κs =
     let args = c.before.before.before.before.before.before.before.before.before.before.before.before.before.before.before.before.before.before.before.before.before.before.args in
-    accepted-long args.ws.now (given-accepted args.ws.now args.header (length args.arena.now) (sym c.before.before.before.before.before.before.before.before.before.before.before.before.before.before.before.before.before.before.before.given-ok.ensures ∙ not-false _ c.before.before.before.before.before.before.before.before.before.before.before.before.before.before.before.before.before.before.if1.false))
+    accepted_long args.ws.now (given_accepted args.ws.now args.header (length args.arena.now) (sym c.before.before.before.before.before.before.before.before.before.before.before.before.before.before.before.before.before.before.before.given-ok.ensures ∙ not-false _ c.before.before.before.before.before.before.before.before.before.before.before.before.before.before.before.before.before.before.if1.false))
 
 same-length-3 : tie.Need-same-length-3
 same-length-3 c = search rules
@@ -75,10 +75,10 @@ returns-4 c =
     let ws = args.ws.now in
     let given = sym c.before.before.before.before.before.before.before.before.before.before.before.before.before.before.before.before.before.before.before.before.given-ok.ensures ∙ not-false _ c.before.before.before.before.before.before.before.before.before.before.before.before.before.before.before.before.before.before.before.if1.false in
     let grid = sym c.before.before.before.before.before.before.before.before.before.before.before.before.before.before.before.before.before.in-grid.ensures ∙ not-false _ c.before.before.before.before.before.before.before.before.before.before.before.before.before.before.before.before.if2.false in
-    let road = rw (c.before.before.before.before.before.before.before.before.before.before.before.before.before.before.lookups.ensures, c.before.before.before.before.before.before.before.before.before.before.before.size.ensures ∙ count-here ws) at c.before.before.before.before.before.before.before.before.from-looks.ensures in
+    let road = rw (c.before.before.before.before.before.before.before.before.before.before.before.before.before.before.lookups.ensures, c.before.before.before.before.before.before.before.before.before.before.before.size.ensures ∙ count_here ws) at c.before.before.before.before.before.before.before.before.from-looks.ensures in
     let fresh = rw road.0 at (sym c.before.before.before.before.before.is-stale.ensures ∙ c.before.before.before.before.if3.false) in
     let put = rw (c.before.before.uses-from.ensures, road.1.0) at c.put-uses.ensures.0 in
-    rw (predict-looks ws args.header args.arena.now args.start args.horizon-m args.samples.now args.behind.now given grid) (road.0, (put ∙ left-road ws args.header args.arena.now args.start args.horizon-m args.samples.now args.behind.now given grid fresh, (road.1.1.0, road.1.1.1)))
+    rw (predict_looks ws args.header args.arena.now args.start args.horizon-m args.samples.now args.behind.now given grid) (road.0, (put ∙ left-road ws args.header args.arena.now args.start args.horizon-m args.samples.now args.behind.now given grid fresh, (road.1.1.0, road.1.1.1)))
 
-pub predict-spec : {M : Type 1} → statement M
-predict-spec = tie.close (tie.spec given-ok-requires returns in-grid-requires returns-2 lookups-requires element-copy-out-size size-requires from-looks-requires is-stale-requires same_length same-length-2 returns-3 uses-from-requires put-uses-requires same-length-3 same-length-4 returns-4)
+pub predict_spec : {M : Type 1} → statement M
+predict_spec = tie.close (tie.spec given-ok-requires returns in-grid-requires returns-2 lookups-requires element-copy-out-size size-requires from-looks-requires is-stale-requires same_length same-length-2 returns-3 uses-from-requires put-uses-requires same-length-3 same-length-4 returns-4)

@@ -72,8 +72,8 @@ returns : tie.Need-returns
 unfolding ahead_of
 returns c = rw (got w32 c.before.before.before.before.before.before.before.before.before.before.signed-32.type-inv, c.before.before.before.before.before.before.before.before.before.before.signed-32.ensures, c.byte.ensures, c.before.before.float2.ensures) (rw (c.before.before.before.before.float.ensures, c.before.before.before.before.before.before.size2.ensures, c.before.before.before.before.before.before.before.before.size.ensures, c.before.before.before.before.before.before.before.before.before.before.before.before.long.ensures) (rw (c.before.before.before.before.before.before.before.before.before.before.before.before.before.before.before.before.end.ensures, c.before.before.before.before.before.before.before.before.before.before.before.before.before.before.before.before.before.before.behind.ensures, c.before.before.before.before.before.before.before.before.before.before.before.before.before.before.before.before.before.before.before.samples.ensures, c.before.before.before.before.before.before.before.before.before.before.before.before.before.before.before.before.before.before.before.before.current.ensures)))
 
-pub ahead-spec : {M : Type 1} → statement M
-ahead-spec =
+pub ahead_spec : {M : Type 1} → statement M
+ahead_spec =
     tie.close
     (tie.spec
     current-requires

@@ -1,7 +1,7 @@
 -- `decode::behind` meets its contract. The loop's invariant: the heights so far are those of as many words.
 use Rattle.std.proofs.Common.{◌≡◌, ℕ, ◌+◌, ◌-◌, ◌≤◌, length, get_or, sym, arith, w16, rules}
 use Rattle.pack.proofs.Signed.{got}
-use Rattle.words.specs.Words.{heightOf, heightsOf}
+use Rattle.words.specs.Words.{height_of, heights_of}
 use Rattle.words.proofs.ArrayLaws.{turn, filled}
 use Rattle.num.proofs.FoldLaws.{up_start, up_turn}
 use Rattle.num.specs.Fold.{up_to}
@@ -9,7 +9,7 @@ use Rattle.words.proofs.decode.behind.Statement.{statement}
 use Rattle.words.proofs.decode.behind.Tie as tie
 
 abbrev invariant-loop : tie.invariant-loop
-invariant-loop ws out₀ i₀ out i = (i ≤ 11) × ((length out ≡ 11) × (out ≡ up_to (turn (λ (j : ℕ). heightOf (get_or ws (1131 + j) 0))) out₀ i))
+invariant-loop ws out₀ i₀ out i = (i ≤ 11) × ((length out ≡ 11) × (out ≡ up_to (turn (λ (j : ℕ). height_of (get_or ws (1131 + j) 0))) out₀ i))
 
 abbrev decreases-loop : tie.decreases-loop
 decreases-loop ws out₀ i₀ out i = 11 - i
@@ -45,11 +45,11 @@ loop-again : tie.Need-loop-preserved invariant-loop decreases-loop
 loop-again c = (search rules, (search rules, rw (got w16 c.height.type-inv, c.height.ensures, c.before.before.before.loop.invariant.1.1, up_turn)))
 
 returns : tie.Need-returns invariant-loop decreases-loop
-unfolding heightsOf
+unfolding heights_of
 returns c = let end : c.before.loop.i ≡ 11 = omega arith in rw (c.before.loop.invariant.1.1, end) (filled _ _ 11 (search rules))
 
-pub behind-spec : {M : Type 1} → statement M
-behind-spec =
+pub behind_spec : {M : Type 1} → statement M
+behind_spec =
     tie.close
     (tie.spec
     invariant-loop

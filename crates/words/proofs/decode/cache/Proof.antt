@@ -1,5 +1,5 @@
 -- `decode::cache` meets its contract.
-use Rattle.words.specs.Words.{cacheOf}
+use Rattle.words.specs.Words.{cache_of}
 use Rattle.std.proofs.Common.{rules}
 use Rattle.words.proofs.decode.cache.Statement.{statement}
 use Rattle.words.proofs.decode.cache.Tie as tie
@@ -26,11 +26,11 @@ element-copy-out-t8 : tie.Need-element-copy-out-t8
 element-copy-out-t8 c = search rules
 
 returns : tie.Need-returns
-unfolding cacheOf
+unfolding cache_of
 returns c = rw (c.before.pending.ensures, c.before.before.before.before.loading.ensures, c.before.before.before.before.before.ring.ensures, c.before.before.before.before.before.before.pages.ensures)
 
-pub cache-spec : {M : Type 1} → statement M
-cache-spec =
+pub cache_spec : {M : Type 1} → statement M
+cache_spec =
     tie.close
     (tie.spec
     pages-requires

@@ -36,8 +36,8 @@ returns c = rw (c.byte.ensures, c.before.before.short.ensures, c.before.before.b
 returns-2 : tie.Need-returns-2
 returns-2 c = rw (ne_eqb _ _ c.if1.false)
 
-pub challenger-spec : {M : Type 1} → statement M
-challenger-spec =
+pub challenger_spec : {M : Type 1} → statement M
+challenger_spec =
     tie.close
     (tie.spec
     element-copy-out-if1

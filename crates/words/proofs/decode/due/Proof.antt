@@ -1,5 +1,5 @@
 -- `decode::due` meets its contract.
-use Rattle.words.specs.Words.{dueOf}
+use Rattle.words.specs.Words.{due_of}
 use Rattle.std.proofs.Common.{rules}
 use Rattle.words.proofs.decode.due.Statement.{statement}
 use Rattle.words.proofs.decode.due.Tie as tie
@@ -38,11 +38,11 @@ short-requires : tie.Need-short-requires
 short-requires c κs = search rules
 
 returns : tie.Need-returns
-unfolding dueOf
+unfolding due_of
 returns c = rw (c.short.ensures, c.before.before.before.before.maybe-key.ensures, c.before.before.before.before.before.before.before.time.ensures)
 
-pub due-spec : {M : Type 1} → statement M
-due-spec =
+pub due_spec : {M : Type 1} → statement M
+due_spec =
     tie.close
     (tie.spec
     element-copy-out-time

@@ -21,5 +21,5 @@ returns-5 c = rw (ne_eqb _ _ c.before.before.before.before.if1.false, ne_eqb _ _
 returns-6 : tie.Need-returns-6
 returns-6 c = rw (ne_eqb _ _ c.before.before.before.before.if1.false, ne_eqb _ _ c.before.before.before.if2.false, ne_eqb _ _ c.before.before.if3.false, ne_eqb _ _ c.before.if4.false, ne_eqb _ _ c.if5.false)
 
-pub end-spec : {M : Type 1} → statement M
-end-spec = tie.close (tie.spec returns returns-2 returns-3 returns-4 returns-5 returns-6)
+pub end_spec : {M : Type 1} → statement M
+end_spec = tie.close (tie.spec returns returns-2 returns-3 returns-4 returns-5 returns-6)

@@ -34,8 +34,8 @@ returns c = rw (got w32 c.before.before.before.before.before.signed-32.type-inv,
 returns-2 : tie.Need-returns-2
 returns-2 c = rw (ne_eqb _ _ c.if1.false)
 
-pub fix-spec : {M : Type 1} → statement M
-fix-spec =
+pub fix_spec : {M : Type 1} → statement M
+fix_spec =
     tie.close
     (tie.spec
     element-copy-out-if1

@@ -1,5 +1,5 @@
 -- `decode::follower` meets its contract.
-use Rattle.words.specs.Words.{followerOf}
+use Rattle.words.specs.Words.{follower_of}
 use Rattle.std.proofs.Common.{rules}
 use Rattle.words.proofs.decode.follower.Statement.{statement}
 use Rattle.words.proofs.decode.follower.Tie as tie
@@ -32,11 +32,11 @@ element-copy-out-t16 : tie.Need-element-copy-out-t16
 element-copy-out-t16 c = search rules
 
 returns : tie.Need-returns
-unfolding followerOf
+unfolding follower_of
 returns c = rw (c.before.float.ensures, c.before.before.before.byte.ensures, c.before.before.before.before.before.ahead.ensures, c.before.before.before.before.before.before.due.ensures, c.before.before.before.before.before.before.before.matcher.ensures, c.before.before.before.before.before.before.before.before.sight.ensures)
 
-pub follower-spec : {M : Type 1} → statement M
-follower-spec =
+pub follower_spec : {M : Type 1} → statement M
+follower_spec =
     tie.close
     (tie.spec
     sight-requires

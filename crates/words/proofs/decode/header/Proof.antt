@@ -61,8 +61,8 @@ element-copy-out-t45 c = search rules
 returns : tie.Need-returns
 returns c = rw (got w32 c.before.before.before.before.before.before.before.before.before.before.before.before.before.before.before.signed-32.type-inv, got w32 c.before.before.before.before.before.before.before.before.before.before.before.before.before.signed-322.type-inv, c.before.before.before.before.before.before.before.before.before.before.before.before.before.before.before.signed-32.ensures, c.before.before.before.before.before.before.before.before.before.before.before.before.before.signed-322.ensures, c.before.before.before.before.before.before.before.before.before.before.before.short.ensures, c.before.before.before.before.before.before.before.before.before.short2.ensures, c.before.before.long.ensures)
 
-pub header-spec : {M : Type 1} → statement M
-header-spec =
+pub header_spec : {M : Type 1} → statement M
+header_spec =
     tie.close
     (tie.spec
     element-copy-out-t4

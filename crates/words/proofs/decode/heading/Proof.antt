@@ -12,5 +12,5 @@ returns c = rw (c.float.ensures, eq-eqb _ _ c.before.if1.true)
 returns-2 : tie.Need-returns-2
 returns-2 c = rw (ne_eqb _ _ c.if1.false)
 
-pub heading-spec : {M : Type 1} → statement M
-heading-spec = tie.close (tie.spec float-requires returns returns-2)
+pub heading_spec : {M : Type 1} → statement M
+heading_spec = tie.close (tie.spec float-requires returns returns-2)

@@ -33,8 +33,8 @@ returns c = rw (c.before.before.before.before.before.key.ensures, c.before.befor
 returns-2 : tie.Need-returns-2
 returns-2 c = rw (ne_eqb _ _ c.if1.false)
 
-pub loading-spec : {M : Type 1} → statement M
-loading-spec =
+pub loading_spec : {M : Type 1} → statement M
+loading_spec =
     tie.close
     (tie.spec
     element-copy-out-if1

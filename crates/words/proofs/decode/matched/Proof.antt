@@ -157,8 +157,8 @@ float-requires-3 c κs = search rules
 returns : tie.Need-returns
 returns c = rw (got w32 c.before.before.before.before.before.before.before.before.signed-32.type-inv, c.before.before.before.before.before.before.before.before.signed-32.ensures, c.float3.ensures, c.before.before.byte3.ensures) (rw (c.before.before.before.before.byte2.ensures, c.before.before.before.before.before.before.byte.ensures, c.before.before.before.before.before.before.before.before.before.before.float2.ensures) (rw (c.before.before.before.before.before.before.before.before.before.before.before.before.float.ensures, c.before.before.before.before.before.before.before.before.before.before.before.before.before.before.short2.ensures, c.before.before.before.before.before.before.before.before.before.before.before.before.before.before.before.before.short.ensures) (rw (c.before.before.before.before.before.before.before.before.before.before.before.before.before.before.before.before.before.before.forward.ensures, c.before.before.before.before.before.before.before.before.before.before.before.before.before.before.before.before.before.before.before.before.id.ensures))))
 
-pub matched-spec : {M : Type 1} → statement M
-matched-spec =
+pub matched_spec : {M : Type 1} → statement M
+matched_spec =
     tie.close
     (tie.spec
     add-id

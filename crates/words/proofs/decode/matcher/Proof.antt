@@ -1,5 +1,5 @@
 -- `decode::matcher` meets its contract.
-use Rattle.words.specs.Words.{matcherOf}
+use Rattle.words.specs.Words.{matcher_of}
 use Rattle.std.proofs.Common.{rules}
 use Rattle.words.proofs.decode.matcher.Statement.{statement}
 use Rattle.words.proofs.decode.matcher.Tie as tie
@@ -23,11 +23,11 @@ float-requires : tie.Need-float-requires
 float-requires c κs = search rules
 
 returns : tie.Need-returns
-unfolding matcherOf
+unfolding matcher_of
 returns c = rw (c.float.ensures, c.before.before.byte.ensures, c.before.before.before.before.challenger.ensures, c.before.before.before.before.before.current.ensures)
 
-pub matcher-spec : {M : Type 1} → statement M
-matcher-spec =
+pub matcher_spec : {M : Type 1} → statement M
+matcher_spec =
     tie.close
     (tie.spec
     current-requires

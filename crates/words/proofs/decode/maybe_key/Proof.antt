@@ -12,5 +12,5 @@ returns c = rw (c.key.ensures, eq-eqb _ _ c.before.if1.true)
 returns-2 : tie.Need-returns-2
 returns-2 c = rw (ne_eqb _ _ c.if1.false)
 
-pub maybe-key-spec : {M : Type 1} → statement M
-maybe-key-spec = tie.close (tie.spec key-requires returns returns-2)
+pub maybe_key_spec : {M : Type 1} → statement M
+maybe_key_spec = tie.close (tie.spec key-requires returns returns-2)

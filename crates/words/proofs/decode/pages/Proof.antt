@@ -1,17 +1,17 @@
 -- `decode::pages` meets its contract. The loop's invariant: slots and ages so far are those of as many turns.
-use Rattle.words.specs.Words.{pagesOf}
-use Rattle.words.proofs.ArrayLaws.{pagesTurn, pages-read}
+use Rattle.words.specs.Words.{pages_of}
+use Rattle.words.proofs.ArrayLaws.{pages_turn, pages_read}
 use Rattle.num.proofs.FoldLaws.{up_start, up_turn}
 use Rattle.num.specs.Fold.{up_to}
 use Rattle.std.proofs.Common.{◌≡◌, ℕ, ◌-◌, ◌≤◌, length, sym, refl, arith, rules}
 use lib.ListN.{length-replicate}
-use Rattle.cache.specs.Runs.{emptySlot}
+use Rattle.cache.specs.Runs.{empty_slot}
 use Rattle.cache.specs.declared.Slot.{Slot}
 use Rattle.words.proofs.decode.pages.Statement.{statement}
 use Rattle.words.proofs.decode.pages.Tie as tie
 
 abbrev invariant-loop : tie.invariant-loop
-invariant-loop ws g₀ i₀ g i = (i ≤ 96) × ((length g.slots ≡ 96) × ((length g.used ≡ 96) × (g ≡ up_to (pagesTurn ws) g₀ i)))
+invariant-loop ws g₀ i₀ g i = (i ≤ 96) × ((length g.slots ≡ 96) × ((length g.used ≡ 96) × (g ≡ up_to (pages_turn ws) g₀ i)))
 
 abbrev decreases-loop : tie.decreases-loop
 decreases-loop ws g₀ i₀ g i = 96 - i
@@ -68,11 +68,11 @@ loop-again : tie.Need-loop-preserved invariant-loop decreases-loop
 loop-again c = (search rules, (search rules, (search rules, rw (c.before.slot.ensures, up_turn) (rw c.before.before.before.loop.invariant.1.1.1))))
 
 returns : tie.Need-returns invariant-loop decreases-loop
-unfolding pagesOf
-returns c = let end : c.before.loop.i ≡ 96 = omega arith in rw (c.before.loop.invariant.1.1.1, end) (pages-read c.before.before.before.before.before.args.ws.now _ (length-replicate {A = Slot} 96 emptySlot) (length-replicate {A = ℕ} 96 0) c.before.before.before.size.ensures refl)
+unfolding pages_of
+returns c = let end : c.before.loop.i ≡ 96 = omega arith in rw (c.before.loop.invariant.1.1.1, end) (pages_read c.before.before.before.before.before.args.ws.now _ (length-replicate {A = Slot} 96 empty_slot) (length-replicate {A = ℕ} 96 0) c.before.before.before.size.ensures refl)
 
-pub pages-spec : {M : Type 1} → statement M
-pages-spec =
+pub pages_spec : {M : Type 1} → statement M
+pages_spec =
     tie.close
     (tie.spec
     invariant-loop

@@ -15,5 +15,5 @@ cast-t5 c = search rules
 returns-2 : tie.Need-returns-2
 returns-2 c = rw (ne_eqb _ _ c.if1.false)
 
-pub part-spec : {M : Type 1} → statement M
-part-spec = tie.close (tie.spec returns sub-t3 cast-t5 returns-2)
+pub part_spec : {M : Type 1} → statement M
+part_spec = tie.close (tie.spec returns sub-t3 cast-t5 returns-2)

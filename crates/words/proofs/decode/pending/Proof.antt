@@ -18,5 +18,5 @@ returns-3 c = rw (ne_eqb _ _ c.before.before.if1.false, ne_eqb _ _ c.before.if2.
 returns-4 : tie.Need-returns-4
 returns-4 c = rw (ne_eqb _ _ c.before.before.if1.false, ne_eqb _ _ c.before.if2.false, ne_eqb _ _ c.if3.false)
 
-pub pending-spec : {M : Type 1} → statement M
-pending-spec = tie.close (tie.spec returns key-requires returns-2 returns-3 returns-4)
+pub pending_spec : {M : Type 1} → statement M
+pending_spec = tie.close (tie.spec returns key-requires returns-2 returns-3 returns-4)

@@ -24,8 +24,8 @@ maybe-key-requires c κs = search rules
 returns : tie.Need-returns
 returns c = rw (c.maybe-key.ensures, add-zero c.before.before.before.args.at)
 
-pub place-spec : {M : Type 1} → statement M
-place-spec =
+pub place_spec : {M : Type 1} → statement M
+place_spec =
     tie.close
     (tie.spec
     mul-maybe-key

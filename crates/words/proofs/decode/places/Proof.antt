@@ -1,17 +1,17 @@
 -- `decode::places` meets its contract. The loop's invariant: the places so far are those of as many turns.
 use Rattle.words.specs.Words.{places_of}
-use Rattle.words.proofs.ArrayLaws.{placesTurn, places-read}
+use Rattle.words.proofs.ArrayLaws.{places_turn, places_read}
 use Rattle.num.proofs.FoldLaws.{up_start, up_turn}
 use Rattle.num.specs.Fold.{up_to}
 use Rattle.std.proofs.Common.{◌≡◌, ◌-◌, ◌≤◌, length, sym, arith, rules}
 use lib.ListN.{length-replicate}
-use Rattle.words.specs.Words.{noPoint}
+use Rattle.words.specs.Words.{no_point}
 use Rattle.geo.specs.declared.Point.{Point}
 use Rattle.words.proofs.decode.places.Statement.{statement}
 use Rattle.words.proofs.decode.places.Tie as tie
 
 abbrev invariant-loop : tie.invariant-loop
-invariant-loop ws h₀ i₀ h i = (i ≤ 16) × ((length h.v ≡ 16) × (h ≡ up_to (placesTurn ws) h₀ i))
+invariant-loop ws h₀ i₀ h i = (i ≤ 16) × ((length h.v ≡ 16) × (h ≡ up_to (places_turn ws) h₀ i))
 
 abbrev decreases-loop : tie.decreases-loop
 decreases-loop ws h₀ i₀ h i = 16 - i
@@ -51,10 +51,10 @@ loop-again c = (search rules, (search rules, rw (c.point.ensures, up_turn) (rw c
 
 returns : tie.Need-returns invariant-loop decreases-loop
 unfolding places_of
-returns c = let end : c.before.loop.i ≡ 16 = omega arith in rw (c.before.loop.invariant.1.1, end) (places-read c.before.before.before.before.args.ws.now _ (length-replicate {A = Point} 16 noPoint) c.before.before.size.ensures)
+returns c = let end : c.before.loop.i ≡ 16 = omega arith in rw (c.before.loop.invariant.1.1, end) (places_read c.before.before.before.before.args.ws.now _ (length-replicate {A = Point} 16 no_point) c.before.before.size.ensures)
 
-pub places-spec : {M : Type 1} → statement M
-places-spec =
+pub places_spec : {M : Type 1} → statement M
+places_spec =
     tie.close
     (tie.spec
     invariant-loop

@@ -28,8 +28,8 @@ signed-32-requires-2 c κs = search rules
 returns : tie.Need-returns
 returns c = rw (got w32 c.before.before.signed-32.type-inv, got w32 c.signed-322.type-inv, c.before.before.signed-32.ensures, c.signed-322.ensures, add-zero c.before.before.before.before.args.at)
 
-pub point-spec : {M : Type 1} → statement M
-point-spec =
+pub point_spec : {M : Type 1} → statement M
+point_spec =
     tie.close
     (tie.spec
     mul-signed-32

@@ -1,17 +1,17 @@
 -- `decode::ring` meets its contract. The loop's invariant: the places so far are those of as many turns.
-use Rattle.words.specs.Words.{ringOf}
-use Rattle.words.proofs.ArrayLaws.{ringTurn, ring-read}
+use Rattle.words.specs.Words.{ring_of}
+use Rattle.words.proofs.ArrayLaws.{ring_turn, ring_read}
 use Rattle.num.proofs.FoldLaws.{up_start, up_turn}
 use Rattle.num.specs.Fold.{up_to}
 use Rattle.std.proofs.Common.{◌≡◌, ◌-◌, ◌≤◌, length, sym, arith, rules}
 use lib.ListN.{length-replicate}
-use Rattle.cache.specs.Keys.{emptyPlace}
+use Rattle.cache.specs.Keys.{empty_place}
 use Rattle.cache.specs.declared.RingKey.{RingKey}
 use Rattle.words.proofs.decode.ring.Statement.{statement}
 use Rattle.words.proofs.decode.ring.Tie as tie
 
 abbrev invariant-loop : tie.invariant-loop
-invariant-loop ws r₀ i₀ r i = (i ≤ 64) × ((length r.keys ≡ 64) × (r ≡ up_to (ringTurn ws) r₀ i))
+invariant-loop ws r₀ i₀ r i = (i ≤ 64) × ((length r.keys ≡ 64) × (r ≡ up_to (ring_turn ws) r₀ i))
 
 abbrev decreases-loop : tie.decreases-loop
 decreases-loop ws r₀ i₀ r i = 64 - i
@@ -50,11 +50,11 @@ loop-again : tie.Need-loop-preserved invariant-loop decreases-loop
 loop-again c = (search rules, (search rules, rw (c.place.ensures, up_turn) (rw c.before.before.loop.invariant.1.1)))
 
 returns : tie.Need-returns invariant-loop decreases-loop
-unfolding ringOf
-returns c = let end : c.before.loop.i ≡ 64 = omega arith in rw (c.before.loop.invariant.1.1, end) (ring-read c.before.before.before.before.args.ws.now _ (length-replicate {A = RingKey} 64 emptyPlace) c.before.before.size.ensures)
+unfolding ring_of
+returns c = let end : c.before.loop.i ≡ 64 = omega arith in rw (c.before.loop.invariant.1.1, end) (ring_read c.before.before.before.before.args.ws.now _ (length-replicate {A = RingKey} 64 empty_place) c.before.before.size.ensures)
 
-pub ring-spec : {M : Type 1} → statement M
-ring-spec =
+pub ring_spec : {M : Type 1} → statement M
+ring_spec =
     tie.close
     (tie.spec
     invariant-loop

@@ -1,5 +1,5 @@
 -- `decode::shared` meets its contract.
-use Rattle.words.specs.Words.{sharedOf}
+use Rattle.words.specs.Words.{shared_of}
 use Rattle.std.proofs.Common.{rules}
 use Rattle.words.proofs.decode.shared.Statement.{statement}
 use Rattle.words.proofs.decode.shared.Tie as tie
@@ -17,10 +17,10 @@ cache-requires : tie.Need-cache-requires
 cache-requires c κs = search rules
 
 returns : tie.Need-returns
-unfolding sharedOf
+unfolding shared_of
 returns c = rw (c.cache.ensures, c.before.header.ensures, c.before.before.phase.ensures)
 
-pub shared-spec : {M : Type 1} → statement M
-shared-spec =
+pub shared_spec : {M : Type 1} → statement M
+shared_spec =
     tie.close
     (tie.spec element-copy-out-phase phase-requires header-requires cache-requires returns)

@@ -32,8 +32,8 @@ returns : tie.Need-returns
 unfolding sight_of
 returns c = rw (c.long.ensures, c.before.before.before.heading.ensures, c.before.before.before.before.before.before.places.ensures, c.before.before.before.before.before.before.before.fix.ensures)
 
-pub sight-spec : {M : Type 1} → statement M
-sight-spec =
+pub sight_spec : {M : Type 1} → statement M
+sight_spec =
     tie.close
     (tie.spec
     fix-requires

@@ -39,8 +39,8 @@ cast-t16 c = search rules
 returns : tie.Need-returns
 returns c = rw (c.before.part.ensures, c.before.before.maybe-key.ensures, add-zero c.before.before.before.before.before.args.at)
 
-pub slot-spec : {M : Type 1} → statement M
-slot-spec =
+pub slot_spec : {M : Type 1} → statement M
+slot_spec =
     tie.close
     (tie.spec
     mul-tag

@@ -1,6 +1,6 @@
 -- `decode::summary` meets its contract: field by field.
-use Rattle.engine.specs.Summaries.{summaryOf}
-use Rattle.words.specs.Words.{engineOf, sharedOf, followerOf, cacheOf, pagesOf, ahead_of}
+use Rattle.engine.specs.Summaries.{summary_of}
+use Rattle.words.specs.Words.{engine_of, shared_of, follower_of, cache_of, pages_of, ahead_of}
 use Rattle.std.proofs.Common.{rules}
 use Rattle.words.proofs.decode.summary.Statement.{statement}
 use Rattle.words.proofs.decode.summary.Tie as tie
@@ -63,8 +63,8 @@ byte-requires : tie.Need-byte-requires
 byte-requires c κs = search rules
 
 returns : tie.Need-returns
-unfolding summaryOf engineOf sharedOf followerOf cacheOf pagesOf ahead_of
+unfolding summary_of engine_of shared_of follower_of cache_of pages_of ahead_of
 returns c = rw (c.byte.ensures, c.before.before.size3.ensures, c.before.before.before.before.size2.ensures, c.before.before.before.before.before.before.size.ensures, c.before.before.before.before.before.before.before.before.current.ensures, c.before.before.before.before.before.before.before.before.before.due.ensures, c.before.before.before.before.before.before.before.before.before.before.matcher.ensures, c.before.before.before.before.before.before.before.before.before.before.before.sight.ensures, c.before.before.before.before.before.before.before.before.before.before.before.before.pending.ensures, c.before.before.before.before.before.before.before.before.before.before.before.before.before.before.before.loading.ensures, c.before.before.before.before.before.before.before.before.before.before.before.before.before.before.before.before.header.ensures, c.before.before.before.before.before.before.before.before.before.before.before.before.before.before.before.before.before.phase.ensures)
 
-pub summary-spec : {M : Type 1} → statement M
-summary-spec = tie.close (tie.spec element-copy-out-phase phase-requires header-requires loading-requires element-copy-out-pending element-copy-out-pending-2 pending-requires sight-requires matcher-requires due-requires current-requires element-copy-out-size size-requires element-copy-out-size-2 size-requires-2 element-copy-out-size-3 size-requires-3 element-copy-out-byte byte-requires returns)
+pub summary_spec : {M : Type 1} → statement M
+summary_spec = tie.close (tie.spec element-copy-out-phase phase-requires header-requires loading-requires element-copy-out-pending element-copy-out-pending-2 pending-requires sight-requires matcher-requires due-requires current-requires element-copy-out-size size-requires element-copy-out-size-2 size-requires-2 element-copy-out-size-3 size-requires-3 element-copy-out-byte byte-requires returns)

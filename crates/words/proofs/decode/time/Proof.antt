@@ -12,5 +12,5 @@ returns c = rw (c.long.ensures, eq-eqb _ _ c.before.if1.true)
 returns-2 : tie.Need-returns-2
 returns-2 c = rw (ne_eqb _ _ c.if1.false)
 
-pub time-spec : {M : Type 1} → statement M
-time-spec = tie.close (tie.spec long-requires returns returns-2)
+pub time_spec : {M : Type 1} → statement M
+time_spec = tie.close (tie.spec long-requires returns returns-2)

@@ -1,9 +1,9 @@
--- `deliver::answered` meets its contract: each return by whether the pack has the bytes (`read-there`, `read_past`).
+-- `deliver::answered` meets its contract: each return by whether the pack has the bytes (`read_there`, `read_past`).
 use Rattle.std.proofs.Common.{sym, ◌∙◌, arith, rules}
 use Rattle.pack.proofs.Laws.{read_at}
-use Rattle.words.specs.Opens.{openedAs}
-use Rattle.words.specs.Words.{engineOf}
-use Rattle.words.proofs.CameLaws.{read-there, read_past}
+use Rattle.words.specs.Opens.{opened_as}
+use Rattle.words.specs.Words.{engine_of}
+use Rattle.words.proofs.CameLaws.{read_there, read_past}
 use Rattle.words.proofs.deliver.answered.Statement.{statement}
 use Rattle.words.proofs.deliver.answered.Tie as tie
 
@@ -44,7 +44,7 @@ returns : tie.Need-returns
 returns c =
     let args = c.before.before.before.before.before.before.before.before.before.before.before.before.args in
     let told = sym c.before.before.before.before.before.before.before.before.before.read.ensures ∙ c.before.before.before.before.before.before.before.at.given.1 in
-    let there = read-there (openedAs (engineOf args.ws.now) args.pending) args.arena.now args.offset args.len args.pack.now c.before.before.before.before.before.before.before.before.before.before.before.before.requires.1 told in
+    let there = read_there (opened_as (engine_of args.ws.now) args.pending) args.arena.now args.offset args.len args.pack.now c.before.before.before.before.before.before.before.before.before.before.before.before.requires.1 told in
     let came = c.before.before.came.ensures in
     (rw there came.0, (rw there came.1.0, rw there came.1.1))
 
@@ -55,9 +55,9 @@ returns-2 : tie.Need-returns-2
 returns-2 c =
     let args = c.before.before.before.before.before.before.before.before.before.before.before.args in
     let told = sym c.before.before.before.before.before.before.before.before.read.ensures ∙ c.before.before.before.before.before.before.enum_told.given.1 in
-    let past = read_past (openedAs (engineOf args.ws.now) args.pending) args.arena.now args.offset args.len args.pack.now c.before.before.before.before.before.before.before.before.before.before.before.requires.1 told in
+    let past = read_past (opened_as (engine_of args.ws.now) args.pending) args.arena.now args.offset args.len args.pack.now c.before.before.before.before.before.before.before.before.before.before.before.requires.1 told in
     let came = c.before.before.came2.ensures in
     (rw past came.0, (rw past came.1.0, rw past came.1.1))
 
-pub answered-spec : {M : Type 1} → statement M
-answered-spec = tie.close (tie.spec read-requires enum-known-at add-came sub-came part-came-start part-came-end came-requires enum_told slice-aggregate-came came-requires-2 same_length returns same-length-2 returns-2)
+pub answered_spec : {M : Type 1} → statement M
+answered_spec = tie.close (tie.spec read-requires enum-known-at add-came sub-came part-came-start part-came-end came-requires enum_told slice-aggregate-came came-requires-2 same_length returns same-length-2 returns-2)

@@ -1,6 +1,6 @@
 -- `deliver::begins_at` meets its contract: each return by the length, and by whether there is room.
 use Rattle.std.proofs.Common.{rules, le-ltb, lt-ltb}
-use Rattle.words.proofs.BeginLaws.{pages-in}
+use Rattle.words.proofs.BeginLaws.{pages_in}
 use Rattle.words.proofs.deliver.begins_at.Statement.{statement}
 use Rattle.words.proofs.deliver.begins_at.Tie as tie
 
@@ -20,13 +20,13 @@ enum-known-slot : tie.Need-enum-known-slot
 enum-known-slot c = search rules
 
 returns-2 : tie.Need-returns-2
-returns-2 c = rw (pages-in c.before.before.before.before.args.ws.now, le-ltb _ _ c.before.before.before.if1.false, ← c.before.before.victim-of.ensures, c.enum_told.given.1)
+returns-2 c = rw (pages_in c.before.before.before.before.args.ws.now, le-ltb _ _ c.before.before.before.if1.false, ← c.before.before.victim-of.ensures, c.enum_told.given.1)
 
 returns-3 : tie.Need-returns-3
-returns-3 c = rw (pages-in c.before.before.before.before.before.args.ws.now, le-ltb _ _ c.before.before.before.before.if1.false, ← c.before.before.before.victim-of.ensures, c.before.slot.given.1)
+returns-3 c = rw (pages_in c.before.before.before.before.before.args.ws.now, le-ltb _ _ c.before.before.before.before.if1.false, ← c.before.before.before.victim-of.ensures, c.before.slot.given.1)
 
-pub begins-at-spec : {M : Type 1} → statement M
-begins-at-spec =
+pub begins_at_spec : {M : Type 1} → statement M
+begins_at_spec =
     tie.close
     (tie.spec
     returns

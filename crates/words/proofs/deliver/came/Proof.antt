@@ -1,7 +1,7 @@
 -- `deliver::came` meets its contract: each return by the fetch, and whether the answer fits it.
 use Rattle.std.proofs.Common.{sym, ◌∙◌, rules}
-use Rattle.words.specs.Words.{engineOf}
-use Rattle.words.proofs.CameLaws.{by-fetch}
+use Rattle.words.specs.Words.{engine_of}
+use Rattle.words.proofs.CameLaws.{by_fetch}
 use Rattle.words.proofs.deliver.came.Statement.{statement}
 use Rattle.words.proofs.deliver.came.Tie as tie
 
@@ -24,7 +24,7 @@ returns : tie.Need-returns
 returns c =
     let args = c.before.before.before.before.before.before.before.before.args in
     let header = c.before.before.before.before.enum-told2.given.1 in
-    let by = by-fetch (engineOf args.ws.now) header args.arena.now args.failure args.bytes.now in
+    let by = by_fetch (engine_of args.ws.now) header args.arena.now args.failure args.bytes.now in
     let fits = sym c.before.before.before.fits-header.ensures ∙ c.before.before.if1.true in
     (rw (by, fits, header) c.header-came.ensures.0, (rw (by, fits, header) c.header-came.ensures.1, rw (by, fits)))
 
@@ -46,13 +46,13 @@ chunk-came-requires c κs = (c.before.before.before.before.before.before.require
 returns-2 : tie.Need-returns-2
 returns-2 c =
     let args = c.before.before.before.before.before.before.args in
-    let by = by-fetch (engineOf args.ws.now) c.before.before.enum_told.given.1 args.arena.now args.failure args.bytes.now in
+    let by = by_fetch (engine_of args.ws.now) c.before.before.enum_told.given.1 args.arena.now args.failure args.bytes.now in
     (rw by c.refused.ensures.0, (rw by c.refused.ensures.1, rw by))
 
 returns-3 : tie.Need-returns-3
 returns-3 c =
     let args = c.before.before.before.before.before.before.before.before.args in
-    let by = by-fetch (engineOf args.ws.now) c.before.before.before.before.enum-told2.given.1 args.arena.now args.failure args.bytes.now in
+    let by = by_fetch (engine_of args.ws.now) c.before.before.before.before.enum-told2.given.1 args.arena.now args.failure args.bytes.now in
     let unfit = sym c.before.before.before.fits-header.ensures ∙ c.before.before.if1.false in
     (rw (by, unfit) c.refused2.ensures.0, (rw (by, unfit) c.refused2.ensures.1, rw (by, unfit)))
 
@@ -63,7 +63,7 @@ returns-4 : tie.Need-returns-4
 returns-4 c =
     let args = c.before.before.before.before.before.before.before.before.before.before.args in
     let entry = c.before.before.before.before.before.before.pending.given.1 in
-    let by = by-fetch (engineOf args.ws.now) entry args.arena.now args.failure args.bytes.now in
+    let by = by_fetch (engine_of args.ws.now) entry args.arena.now args.failure args.bytes.now in
     let part = c.before.before.entry-came.ensures in
     (rw (by, entry) part.0, (rw (by, entry) part.1.0, rw (by, entry) part.1.1))
 
@@ -74,9 +74,9 @@ returns-5 : tie.Need-returns-5
 returns-5 c =
     let args = c.before.before.before.before.before.before.before.before.before.args in
     let chunk = c.before.before.before.before.before.enum-told3.given.1 in
-    let by = by-fetch (engineOf args.ws.now) chunk args.arena.now args.failure args.bytes.now in
+    let by = by_fetch (engine_of args.ws.now) chunk args.arena.now args.failure args.bytes.now in
     let part = c.before.before.chunk-came.ensures in
     (rw (by, chunk) part.0, (rw (by, chunk) part.1.0, rw (by, chunk) part.1.1))
 
-pub came-spec : {M : Type 1} → statement M
-came-spec = tie.close (tie.spec enum_told refused-requires enum-told-2 fits-header-requires header-came-requires returns refused-requires-2 enum-known-pending entry-came-requires enum-told-3 chunk-came-requires returns-2 returns-3 same_length returns-4 same-length-2 returns-5)
+pub came_spec : {M : Type 1} → statement M
+came_spec = tie.close (tie.spec enum_told refused-requires enum-told-2 fits-header-requires header-came-requires returns refused-requires-2 enum-known-pending entry-came-requires enum-told-3 chunk-came-requires returns-2 returns-3 same_length returns-4 same-length-2 returns-5)

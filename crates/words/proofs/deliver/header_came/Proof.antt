@@ -1,6 +1,6 @@
 -- `deliver::header_came` meets its contract: each return by whether the read failed, and whether the header passes.
 use Rattle.std.proofs.Common.{rules, eq-eqb, ne_eqb}
-use Rattle.engine.specs.Deliver.{headerCame}
+use Rattle.engine.specs.Deliver.{header_came}
 use Rattle.words.proofs.deliver.header_came.Statement.{statement}
 use Rattle.words.proofs.deliver.header_came.Tie as tie
 
@@ -8,7 +8,7 @@ header-failed-requires : tie.Need-header-failed-requires
 header-failed-requires c κs = search rules
 
 returns : tie.Need-returns
-unfolding headerCame
+unfolding header_came
 returns c =
     let failed = ne_eqb _ _ c.before.before.if1.true in
     (rw failed c.header-failed.ensures.0, rw failed c.header-failed.ensures.1)
@@ -32,7 +32,7 @@ header-failed-requires-2 : tie.Need-header-failed-requires-2
 header-failed-requires-2 c κs = search rules
 
 returns-2 : tie.Need-returns-2
-unfolding headerCame
+unfolding header_came
 returns-2 c =
     let parsed = rw c.before.before.before.before.before.before.before.sector-of.ensures at c.before.before.before.before.before.parse.ensures in
     let answer = rw parsed at c.before.before.before.enum_told.given.1 in
@@ -40,12 +40,12 @@ returns-2 c =
     (rw (came, answer), rw (c.put-read.ensures, parsed, came, answer))
 
 returns-3 : tie.Need-returns-3
-unfolding headerCame
+unfolding header_came
 returns-3 c =
     let parsed = rw c.before.before.before.before.before.before.before.sector-of.ensures at c.before.before.before.before.before.parse.ensures in
     let answer = rw parsed at c.before.before.before.answer.given.1 in
     let came = eq-eqb _ _ c.before.before.before.before.before.before.before.before.if1.false in
     (rw (came, answer) c.header-failed2.ensures.0, rw (came, answer) c.header-failed2.ensures.1)
 
-pub header-came-spec : {M : Type 1} → statement M
-header-came-spec = tie.close (tie.spec header-failed-requires returns sector-of-requires parse-requires enum_told put-read-requires enum-known-answer header-failed-requires-2 returns-2 returns-3)
+pub header_came_spec : {M : Type 1} → statement M
+header_came_spec = tie.close (tie.spec header-failed-requires returns sector-of-requires parse-requires enum_told put-read-requires enum-known-answer header-failed-requires-2 returns-2 returns-3)

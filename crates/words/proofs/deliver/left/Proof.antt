@@ -1,5 +1,5 @@
 -- `deliver::left` meets its contract: each return by what the step of the load answers.
-use Rattle.engine.specs.Deliver.{arrived, loadFailed}
+use Rattle.engine.specs.Deliver.{arrived, load_failed}
 use Rattle.std.proofs.Common.{rules}
 use Rattle.words.proofs.deliver.left.Statement.{statement}
 use Rattle.words.proofs.deliver.left.Tie as tie
@@ -40,7 +40,7 @@ returns-2 c =
     (rw more, rw more c.put-more.ensures)
 
 returns-3 : tie.Need-returns-3
-unfolding loadFailed
+unfolding load_failed
 returns-3 c =
     let failed = c.before.before.enum-told3.given.1 in
     (rw failed c.put-failed.ensures.0, rw failed c.put-failed.ensures.1)
@@ -50,5 +50,5 @@ returns-4 c =
     let refused = c.before.before.before.answer.given.1 in
     (rw refused c.refused.ensures.0, rw refused c.refused.ensures.1)
 
-pub left-spec : {M : Type 1} → statement M
-left-spec = tie.close (tie.spec enum_told put-done-requires enum-told-2 put-more-requires enum-told-3 put-failed-requires enum-known-answer refused-requires returns returns-2 returns-3 returns-4)
+pub left_spec : {M : Type 1} → statement M
+left_spec = tie.close (tie.spec enum_told put-done-requires enum-told-2 put-more-requires enum-told-3 put-failed-requires enum-known-answer refused-requires returns returns-2 returns-3 returns-4)

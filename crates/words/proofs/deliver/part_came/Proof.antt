@@ -1,7 +1,7 @@
 -- `deliver::part_came` meets its contract: each return by whether a tile is needed.
 use Rattle.std.proofs.Common.{sym, ap, ◌∙◌, rules}
 use Rattle.engine.specs.declared.Due.{Due}
-use Rattle.words.proofs.CameLaws.{due_in, none_came, some-came}
+use Rattle.words.proofs.CameLaws.{due_in, none_came, some_came}
 use Rattle.words.proofs.deliver.part_came.Statement.{statement}
 use Rattle.words.proofs.deliver.part_came.Tie as tie
 
@@ -46,10 +46,10 @@ returns-2 : tie.Need-returns-2
 returns-2 c =
     let args = c.before.before.before.before.before.before.before.before.before.before.before.before.before.before.before.before.before.before.args in
     let need = ap (λ (d : Due). d.need) (due_in args.ws.now ∙ sym c.before.before.before.before.before.before.before.before.before.before.before.before.before.before.due.ensures) ∙ c.before.before.before.before.before.before.before.before.before.before.before.before.need.given.1 in
-    let came = some-came args.ws.now args.pending args.arena.now args.failure args.bytes.now need in
+    let came = some_came args.ws.now args.pending args.arena.now args.failure args.bytes.now need in
     let left = rw (c.before.before.before.before.loaded.ensures.0, c.before.before.before.before.before.before.before.before.with-pending.ensures, c.before.before.before.before.before.before.before.before.before.cache.ensures, c.before.before.before.before.before.before.header.ensures) at c.left.ensures in
     let arena = rw (c.before.before.before.before.before.before.before.before.with-pending.ensures, c.before.before.before.before.before.before.before.before.before.cache.ensures, c.before.before.before.before.before.before.header.ensures) at c.before.before.before.before.loaded.ensures.1 in
     (rw came left.0, (rw came left.1, rw came arena))
 
-pub part-came-spec : {M : Type 1} → statement M
-part-came-spec = tie.close (tie.spec due-requires enum_told refused-requires enum-known-need cache-requires with-pending-requires header-requires loaded-requires left-requires returns same_length returns-2)
+pub part_came_spec : {M : Type 1} → statement M
+part_came_spec = tie.close (tie.spec due-requires enum_told refused-requires enum-known-need cache-requires with-pending-requires header-requires loaded-requires left-requires returns same_length returns-2)

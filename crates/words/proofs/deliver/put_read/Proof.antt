@@ -1,12 +1,12 @@
 -- `deliver::put_read` meets its contract: piece by piece.
 use Rattle.std.proofs.Common.{arith, rules}
 use Rattle.words.proofs.CameLaws.{read_left}
-use Rattle.words.proofs.CountLaws.{accepted-long}
+use Rattle.words.proofs.CountLaws.{accepted_long}
 use Rattle.words.proofs.deliver.put_read.Statement.{statement}
 use Rattle.words.proofs.deliver.put_read.Tie as tie
 
 put-word-requires : tie.Need-put-word-requires
-put-word-requires c κs = (omega arith, accepted-long c.before.args.ws.now c.before.requires)
+put-word-requires c κs = (omega arith, accepted_long c.before.args.ws.now c.before.requires)
 
 put-header-requires : tie.Need-put-header-requires
 put-header-requires c κs = search rules
@@ -22,5 +22,5 @@ returns c =
     let args = c.before.before.before.before.before.before.before.before.args in
     rw (c.put-word2.ensures.0, c.before.before.put-pending.ensures.0, c.before.before.before.before.put-header.ensures.0, c.before.before.before.before.before.before.put_word.ensures.0) (read_left args.ws.now c.before.before.before.before.before.before.before.before.requires args.header)
 
-pub put-read-spec : {M : Type 1} → statement M
-put-read-spec = tie.close (tie.spec put-word-requires put-header-requires put-pending-requires put-word-requires-2 returns)
+pub put_read_spec : {M : Type 1} → statement M
+put_read_spec = tie.close (tie.spec put-word-requires put-header-requires put-pending-requires put-word-requires-2 returns)

@@ -27,8 +27,8 @@ returns c = rw c.enum_told.given.1
 returns-2 : tie.Need-returns-2
 returns-2 c = rw (c.byte.ensures, c.before.wide2.ensures, c.before.before.wide.ensures, c.before.before.before.of-key.ensures, c.before.before.before.before.before.before.c.given.1)
 
-pub challenger-spec : {M : Type 1} → statement M
-challenger-spec =
+pub challenger_spec : {M : Type 1} → statement M
+challenger_spec =
     tie.close
     (tie.spec
     enum_told

@@ -18,5 +18,5 @@ returns c = rw c.enum_told.given.1
 returns-2 : tie.Need-returns-2
 returns-2 c = rw (c.matched.ensures, c.before.before.c.given.1)
 
-pub current-spec : {M : Type 1} → statement M
-current-spec = tie.close (tie.spec enum_told enum-known-c matched-requires returns returns-2)
+pub current_spec : {M : Type 1} → statement M
+current_spec = tie.close (tie.spec enum_told enum-known-c matched-requires returns returns-2)

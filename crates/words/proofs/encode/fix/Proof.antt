@@ -28,8 +28,8 @@ returns c = rw c.enum_told.given.1
 returns-2 : tie.Need-returns-2
 returns-2 c = rw (c.high.ensures, c.before.low.ensures, c.before.before.u32-of-i322.ensures, c.before.before.before.before.u32-of-i32.ensures, got w32 c.before.before.before.before.before.struct_told.given.0.1, got w32 c.before.before.before.struct-told2.given.1.0.1, c.before.before.before.before.before.before.before.fix.given.1)
 
-pub fix-spec : {M : Type 1} → statement M
-fix-spec =
+pub fix_spec : {M : Type 1} → statement M
+fix_spec =
     tie.close
     (tie.spec
     enum_told

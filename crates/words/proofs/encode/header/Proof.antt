@@ -25,8 +25,8 @@ high-requires c κs = search rules
 returns : tie.Need-returns
 returns c = rw (c.before.before.before.before.before.before.u32-of-i32.ensures, c.before.before.before.before.u32-of-i322.ensures, got w32 c.before.before.before.before.before.before.before.struct_told.given.1.0.1, got w32 c.before.before.before.before.before.struct-told2.given.1.1.0.1, c.before.low.ensures, c.high.ensures)
 
-pub header-spec : {M : Type 1} → statement M
-header-spec =
+pub header_spec : {M : Type 1} → statement M
+header_spec =
     tie.close
     (tie.spec
     u32-of-i32-requires

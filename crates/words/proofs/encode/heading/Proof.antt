@@ -18,5 +18,5 @@ returns c = rw c.enum_told.given.1
 returns-2 : tie.Need-returns-2
 returns-2 c = rw (c.pattern.ensures, c.before.before.heading.given.1)
 
-pub heading-spec : {M : Type 1} → statement M
-heading-spec = tie.close (tie.spec enum_told enum-known-heading pattern-requires returns returns-2)
+pub heading_spec : {M : Type 1} → statement M
+heading_spec = tie.close (tie.spec enum_told enum-known-heading pattern-requires returns returns-2)

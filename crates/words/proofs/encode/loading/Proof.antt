@@ -21,7 +21,7 @@ returns c = rw c.enum_told.given.1
 returns-2 : tie.Need-returns-2
 returns-2 c = rw (c.size.ensures, c.before.of-key.ensures, c.before.before.before.before.loading.given.1)
 
-pub loading-spec : {M : Type 1} → statement M
-loading-spec =
+pub loading_spec : {M : Type 1} → statement M
+loading_spec =
     tie.close
     (tie.spec enum_told enum-known-loading of-key-requires size-requires returns returns-2)

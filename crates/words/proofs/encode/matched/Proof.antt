@@ -43,8 +43,8 @@ pattern-requires-3 c κs = search rules
 returns : tie.Need-returns
 returns c = rw (c.pattern3.ensures, c.before.byte3.ensures, c.before.before.byte2.ensures, c.before.before.before.byte.ensures, c.before.before.before.before.u32-of-i32.ensures, c.before.before.before.before.before.before.pattern2.ensures, c.before.before.before.before.before.before.before.forward.ensures, c.before.before.before.before.before.before.before.before.pattern.ensures, c.before.before.before.before.before.before.before.before.before.wide3.ensures, c.before.before.before.before.before.before.before.before.before.before.wide2.ensures, c.before.before.before.before.before.before.before.before.before.before.before.wide.ensures, c.before.before.before.before.before.before.before.before.before.before.before.before.of-key.ensures, got w32 c.before.before.before.before.before.struct_told.given.1.1.1.1.1.1.0.1)
 
-pub matched-spec : {M : Type 1} → statement M
-matched-spec =
+pub matched_spec : {M : Type 1} → statement M
+matched_spec =
     tie.close
     (tie.spec
     of-key-requires

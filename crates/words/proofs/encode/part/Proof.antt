@@ -21,5 +21,5 @@ returns c = (rw c.enum_told.given.1, omega arith)
 returns-2 : tie.Need-returns-2
 returns-2 c = (rw c.before.part.given.1, omega arith)
 
-pub part-spec : {M : Type 1} → statement M
-part-spec = tie.close (tie.spec enum_told enum-known-part cast-result add-result returns returns-2)
+pub part_spec : {M : Type 1} → statement M
+part_spec = tie.close (tie.spec enum_told enum-known-part cast-result add-result returns returns-2)

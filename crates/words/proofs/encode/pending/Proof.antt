@@ -30,8 +30,8 @@ returns-3 c = rw (c.of-key.ensures, c.before.before.pending.given.1)
 returns-4 : tie.Need-returns-4
 returns-4 c = rw c.enum-told3.given.1
 
-pub pending-spec : {M : Type 1} → statement M
-pending-spec =
+pub pending_spec : {M : Type 1} → statement M
+pending_spec =
     tie.close
     (tie.spec
     enum_told

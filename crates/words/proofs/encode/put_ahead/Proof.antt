@@ -1,5 +1,5 @@
 -- `encode::put_ahead` meets its contract: piece by piece.
-use Rattle.words.proofs.PieceLaws.{ahead-put}
+use Rattle.words.proofs.PieceLaws.{ahead_put}
 use Rattle.std.proofs.Common.{w32, rules}
 use Rattle.pack.proofs.Signed.{got}
 use Rattle.words.proofs.encode.put_ahead.Statement.{statement}
@@ -72,10 +72,10 @@ put-requires-5 : tie.Need-put-requires-5
 put-requires-5 c κs = search rules
 
 returns : tie.Need-returns
-returns c = (rw (c.put5.ensures.0, c.before.before.before.byte.ensures, c.before.before.before.before.pattern2.ensures, c.before.before.before.before.before.end.ensures, c.before.before.before.before.before.before.pattern.ensures, c.before.before.before.before.before.before.before.size2.ensures, c.before.before.before.before.before.before.before.before.put-behind.ensures.0) (rw (c.before.before.before.before.before.before.before.before.before.before.put4.ensures.0, c.before.before.before.before.before.before.before.before.before.before.before.before.before.size.ensures, c.before.before.before.before.before.before.before.before.before.before.before.before.before.before.put-samples.ensures.0, c.before.before.before.before.before.before.before.before.before.before.before.before.before.before.before.before.put3.ensures.0, c.before.before.before.before.before.before.before.before.before.before.before.before.before.before.before.before.before.before.before.u32-of-i32.ensures, got w32 c.before.before.before.before.before.before.before.before.before.before.before.before.before.before.before.before.before.before.before.before.struct_told.given.1.1.1.0.1) (rw (c.before.before.before.before.before.before.before.before.before.before.before.before.before.before.before.before.before.before.before.before.before.put2.ensures.0, c.before.before.before.before.before.before.before.before.before.before.before.before.before.before.before.before.before.before.before.before.before.before.before.before.current.ensures, c.before.before.before.before.before.before.before.before.before.before.before.before.before.before.before.before.before.before.before.before.before.before.before.before.before.put.ensures.0, c.before.before.before.before.before.before.before.before.before.before.before.before.before.before.before.before.before.before.before.before.before.before.before.before.before.before.before.before.high.ensures, c.before.before.before.before.before.before.before.before.before.before.before.before.before.before.before.before.before.before.before.before.before.before.before.before.before.before.before.before.before.low.ensures) (ahead-put c.before.before.before.before.before.before.before.before.before.before.before.before.before.before.before.before.before.before.before.before.before.before.before.before.before.before.before.before.before.before.args.a c.before.before.before.before.before.before.before.before.before.before.before.before.before.before.before.before.before.before.before.before.before.before.before.before.before.before.before.before.before.before.args.out.now c.before.before.before.before.before.before.before.before.before.before.before.before.before.before.before.before.before.before.before.before.before.before.before.before.before.before.before.before.before.before.requires))), c.put5.ensures.1)
+returns c = (rw (c.put5.ensures.0, c.before.before.before.byte.ensures, c.before.before.before.before.pattern2.ensures, c.before.before.before.before.before.end.ensures, c.before.before.before.before.before.before.pattern.ensures, c.before.before.before.before.before.before.before.size2.ensures, c.before.before.before.before.before.before.before.before.put-behind.ensures.0) (rw (c.before.before.before.before.before.before.before.before.before.before.put4.ensures.0, c.before.before.before.before.before.before.before.before.before.before.before.before.before.size.ensures, c.before.before.before.before.before.before.before.before.before.before.before.before.before.before.put-samples.ensures.0, c.before.before.before.before.before.before.before.before.before.before.before.before.before.before.before.before.put3.ensures.0, c.before.before.before.before.before.before.before.before.before.before.before.before.before.before.before.before.before.before.before.u32-of-i32.ensures, got w32 c.before.before.before.before.before.before.before.before.before.before.before.before.before.before.before.before.before.before.before.before.struct_told.given.1.1.1.0.1) (rw (c.before.before.before.before.before.before.before.before.before.before.before.before.before.before.before.before.before.before.before.before.before.put2.ensures.0, c.before.before.before.before.before.before.before.before.before.before.before.before.before.before.before.before.before.before.before.before.before.before.before.before.current.ensures, c.before.before.before.before.before.before.before.before.before.before.before.before.before.before.before.before.before.before.before.before.before.before.before.before.before.put.ensures.0, c.before.before.before.before.before.before.before.before.before.before.before.before.before.before.before.before.before.before.before.before.before.before.before.before.before.before.before.before.high.ensures, c.before.before.before.before.before.before.before.before.before.before.before.before.before.before.before.before.before.before.before.before.before.before.before.before.before.before.before.before.before.low.ensures) (ahead_put c.before.before.before.before.before.before.before.before.before.before.before.before.before.before.before.before.before.before.before.before.before.before.before.before.before.before.before.before.before.before.args.a c.before.before.before.before.before.before.before.before.before.before.before.before.before.before.before.before.before.before.before.before.before.before.before.before.before.before.before.before.before.before.args.out.now c.before.before.before.before.before.before.before.before.before.before.before.before.before.before.before.before.before.before.before.before.before.before.before.before.before.before.before.before.before.before.requires))), c.put5.ensures.1)
 
-pub put-ahead-spec : {M : Type 1} → statement M
-put-ahead-spec =
+pub put_ahead_spec : {M : Type 1} → statement M
+put_ahead_spec =
     tie.close
     (tie.spec
     low-requires

@@ -1,5 +1,5 @@
 -- `encode::put_cache` meets its contract: piece by piece.
-use Rattle.words.proofs.PieceLaws.{cache-put}
+use Rattle.words.proofs.PieceLaws.{cache_put}
 use Rattle.std.proofs.Common.{rules}
 use Rattle.words.proofs.encode.put_cache.Statement.{statement}
 use Rattle.words.proofs.encode.put_cache.Tie as tie
@@ -20,7 +20,7 @@ put-word-requires : tie.Need-put-word-requires
 put-word-requires c κs = search rules
 
 returns : tie.Need-returns
-returns c = (rw (c.put_word.ensures.0, c.before.before.put-pending.ensures.0, c.before.before.before.before.put-loading.ensures.0, c.before.before.before.before.before.before.put-ring.ensures.0, c.before.before.before.before.before.before.before.before.before.put-pages.ensures.0) (cache-put c.before.before.before.before.before.before.before.before.before.before.before.before.args.c c.before.before.before.before.before.before.before.before.before.before.before.before.args.out.now c.before.before.before.before.before.before.before.before.before.before.before.before.requires), c.put_word.ensures.1)
+returns c = (rw (c.put_word.ensures.0, c.before.before.put-pending.ensures.0, c.before.before.before.before.put-loading.ensures.0, c.before.before.before.before.before.before.put-ring.ensures.0, c.before.before.before.before.before.before.before.before.before.put-pages.ensures.0) (cache_put c.before.before.before.before.before.before.before.before.before.before.before.before.args.c c.before.before.before.before.before.before.before.before.before.before.before.before.args.out.now c.before.before.before.before.before.before.before.before.before.before.before.before.requires), c.put_word.ensures.1)
 
-pub put-cache-spec : {M : Type 1} → statement M
-put-cache-spec = tie.close (tie.spec put-pages-requires put-ring-requires put-loading-requires put-pending-requires put-word-requires returns)
+pub put_cache_spec : {M : Type 1} → statement M
+put_cache_spec = tie.close (tie.spec put-pages-requires put-ring-requires put-loading-requires put-pending-requires put-word-requires returns)

@@ -1,5 +1,5 @@
 -- `encode::put_due` meets its contract: piece by piece.
-use Rattle.words.proofs.PieceLaws.{due-put}
+use Rattle.words.proofs.PieceLaws.{due_put}
 use Rattle.std.proofs.Common.{rules}
 use Rattle.words.proofs.encode.put_due.Statement.{statement}
 use Rattle.words.proofs.encode.put_due.Tie as tie
@@ -41,10 +41,10 @@ put-requires-3 : tie.Need-put-requires-3
 put-requires-3 c κs = search rules
 
 returns : tie.Need-returns
-returns c = (rw (c.put3.ensures.0, c.before.before.before.wide.ensures, c.before.before.before.before.held.ensures, c.before.before.before.before.before.has.ensures.0, c.before.before.before.before.before.before.put2.ensures.0, c.before.before.before.before.before.before.before.before.before.time.ensures, c.before.before.before.before.before.before.before.before.before.before.put.ensures.0, c.before.before.before.before.before.before.before.before.before.before.before.before.before.bit2.ensures.0, c.before.before.before.before.before.before.before.before.before.before.before.before.before.before.bit.ensures.0) (due-put c.before.before.before.before.before.before.before.before.before.before.before.before.before.before.before.args.d c.before.before.before.before.before.before.before.before.before.before.before.before.before.before.before.args.out.now c.before.before.before.before.before.before.before.before.before.before.before.before.before.before.before.requires), c.put3.ensures.1)
+returns c = (rw (c.put3.ensures.0, c.before.before.before.wide.ensures, c.before.before.before.before.held.ensures, c.before.before.before.before.before.has.ensures.0, c.before.before.before.before.before.before.put2.ensures.0, c.before.before.before.before.before.before.before.before.before.time.ensures, c.before.before.before.before.before.before.before.before.before.before.put.ensures.0, c.before.before.before.before.before.before.before.before.before.before.before.before.before.bit2.ensures.0, c.before.before.before.before.before.before.before.before.before.before.before.before.before.before.bit.ensures.0) (due_put c.before.before.before.before.before.before.before.before.before.before.before.before.before.before.before.args.d c.before.before.before.before.before.before.before.before.before.before.before.before.before.before.before.args.out.now c.before.before.before.before.before.before.before.before.before.before.before.before.before.before.before.requires), c.put3.ensures.1)
 
-pub put-due-spec : {M : Type 1} → statement M
-put-due-spec =
+pub put_due_spec : {M : Type 1} → statement M
+put_due_spec =
     tie.close
     (tie.spec
     bit-requires

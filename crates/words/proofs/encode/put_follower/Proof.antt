@@ -1,5 +1,5 @@
 -- `encode::put_follower` meets its contract: piece by piece.
-use Rattle.words.proofs.PieceLaws.{follower-put}
+use Rattle.words.proofs.PieceLaws.{follower_put}
 use Rattle.std.proofs.Common.{rules}
 use Rattle.words.proofs.encode.put_follower.Statement.{statement}
 use Rattle.words.proofs.encode.put_follower.Tie as tie
@@ -29,10 +29,10 @@ put-requires : tie.Need-put-requires
 put-requires c κs = search rules
 
 returns : tie.Need-returns
-returns c = (rw (c.put.ensures.0, c.before.before.before.pattern.ensures, c.before.before.before.before.byte.ensures, c.before.before.before.before.before.put-ahead.ensures.0, c.before.before.before.before.before.before.before.before.put-due.ensures.0, c.before.before.before.before.before.before.before.before.before.before.before.put-matcher.ensures.0, c.before.before.before.before.before.before.before.before.before.before.before.before.before.before.put-sight.ensures.0) (follower-put c.before.before.before.before.before.before.before.before.before.before.before.before.before.before.before.before.before.args.f c.before.before.before.before.before.before.before.before.before.before.before.before.before.before.before.before.before.args.out.now c.before.before.before.before.before.before.before.before.before.before.before.before.before.before.before.before.before.requires), c.put.ensures.1)
+returns c = (rw (c.put.ensures.0, c.before.before.before.pattern.ensures, c.before.before.before.before.byte.ensures, c.before.before.before.before.before.put-ahead.ensures.0, c.before.before.before.before.before.before.before.before.put-due.ensures.0, c.before.before.before.before.before.before.before.before.before.before.before.put-matcher.ensures.0, c.before.before.before.before.before.before.before.before.before.before.before.before.before.before.put-sight.ensures.0) (follower_put c.before.before.before.before.before.before.before.before.before.before.before.before.before.before.before.before.before.args.f c.before.before.before.before.before.before.before.before.before.before.before.before.before.before.before.before.before.args.out.now c.before.before.before.before.before.before.before.before.before.before.before.before.before.before.before.before.before.requires), c.put.ensures.1)
 
-pub put-follower-spec : {M : Type 1} → statement M
-put-follower-spec =
+pub put_follower_spec : {M : Type 1} → statement M
+put_follower_spec =
     tie.close
     (tie.spec
     put-sight-requires

@@ -15,5 +15,5 @@ put-requires c κs = search rules
 returns : tie.Need-returns
 returns c = (rw (c.put.ensures.0, c.before.before.before.header.ensures), c.put.ensures.1)
 
-pub put-header-spec : {M : Type 1} → statement M
-put-header-spec = tie.close (tie.spec header-requires slice-aggregate-put put-requires returns)
+pub put_header_spec : {M : Type 1} → statement M
+put_header_spec = tie.close (tie.spec header-requires slice-aggregate-put put-requires returns)

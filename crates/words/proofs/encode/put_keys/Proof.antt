@@ -1,6 +1,6 @@
 -- `encode::put_keys` meets its contract. The loop's invariant: as many pieces as turns are put.
-use Rattle.cache.specs.Keys.{emptyPlace}
-use Rattle.words.specs.Words.{maybeKeyWords, keysWords}
+use Rattle.cache.specs.Keys.{empty_place}
+use Rattle.words.specs.Words.{maybe_key_words, keys_words}
 use Rattle.words.proofs.PutLaws.{put-spread}
 use Rattle.words.specs.Put.{put}
 use Rattle.num.proofs.FoldLaws.{up_start, up_turn}
@@ -10,7 +10,7 @@ use Rattle.words.proofs.encode.put_keys.Statement.{statement}
 use Rattle.words.proofs.encode.put_keys.Tie as tie
 
 abbrev invariant-loop : tie.invariant-loop
-invariant-loop out₀ ring i₀ out i = (i ≤ 64) × ((length out ≡ 1150) × (out ≡ up_to (λ (o : List ℕ) (j : ℕ). put (401 + 2 * j) (maybeKeyWords (get_or ring.keys j emptyPlace).key) o) out₀ i))
+invariant-loop out₀ ring i₀ out i = (i ≤ 64) × ((length out ≡ 1150) × (out ≡ up_to (λ (o : List ℕ) (j : ℕ). put (401 + 2 * j) (maybe_key_words (get_or ring.keys j empty_place).key) o) out₀ i))
 
 abbrev decreases-loop : tie.decreases-loop
 decreases-loop out₀ ring i₀ out i = 64 - i
@@ -52,11 +52,11 @@ loop-again : tie.Need-loop-preserved invariant-loop decreases-loop
 loop-again c = (search rules, (c.put.ensures.1, rw (c.put.ensures.0, c.before.before.before.before.has.ensures.0, c.before.before.before.held.ensures, c.before.before.before.before.before.before.before.loop.invariant.1.1, up_turn)))
 
 returns : tie.Need-returns invariant-loop decreases-loop
-unfolding keysWords
+unfolding keys_words
 returns c = let end : c.before.loop.i ≡ 64 = omega arith in (rw (c.before.loop.invariant.1.1, end) (put-spread _ 2 (λ (j : ℕ). refl) 401 _ (λ (j : ℕ). refl) 64 c.before.before.args.out.now (omega (arith, c.before.before.requires))), c.before.loop.invariant.1.0)
 
-pub put-keys-spec : {M : Type 1} → statement M
-put-keys-spec =
+pub put_keys_spec : {M : Type 1} → statement M
+put_keys_spec =
     tie.close
     (tie.spec
     invariant-loop

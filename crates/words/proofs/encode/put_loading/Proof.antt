@@ -15,5 +15,5 @@ put-requires c κs = search rules
 returns : tie.Need-returns
 returns c = (rw (c.put.ensures.0, c.before.before.before.loading.ensures), c.put.ensures.1)
 
-pub put-loading-spec : {M : Type 1} → statement M
-put-loading-spec = tie.close (tie.spec loading-requires slice-aggregate-put put-requires returns)
+pub put_loading_spec : {M : Type 1} → statement M
+put_loading_spec = tie.close (tie.spec loading-requires slice-aggregate-put put-requires returns)

@@ -1,5 +1,5 @@
 -- `encode::put_matcher` meets its contract: piece by piece.
-use Rattle.words.proofs.PieceLaws.{matcher-put}
+use Rattle.words.proofs.PieceLaws.{matcher_put}
 use Rattle.std.proofs.Common.{rules}
 use Rattle.words.proofs.encode.put_matcher.Statement.{statement}
 use Rattle.words.proofs.encode.put_matcher.Tie as tie
@@ -35,10 +35,10 @@ put-requires-3 : tie.Need-put-requires-3
 put-requires-3 c κs = search rules
 
 returns : tie.Need-returns
-returns c = (rw (c.put3.ensures.0, c.before.before.before.pattern.ensures, c.before.before.before.before.byte.ensures, c.before.before.before.before.before.put2.ensures.0, c.before.before.before.before.before.before.before.before.challenger.ensures, c.before.before.before.before.before.before.before.before.before.put.ensures.0, c.before.before.before.before.before.before.before.before.before.before.before.before.current.ensures) (matcher-put c.before.before.before.before.before.before.before.before.before.before.before.before.before.args.m c.before.before.before.before.before.before.before.before.before.before.before.before.before.args.out.now c.before.before.before.before.before.before.before.before.before.before.before.before.before.requires), c.put3.ensures.1)
+returns c = (rw (c.put3.ensures.0, c.before.before.before.pattern.ensures, c.before.before.before.before.byte.ensures, c.before.before.before.before.before.put2.ensures.0, c.before.before.before.before.before.before.before.before.challenger.ensures, c.before.before.before.before.before.before.before.before.before.put.ensures.0, c.before.before.before.before.before.before.before.before.before.before.before.before.current.ensures) (matcher_put c.before.before.before.before.before.before.before.before.before.before.before.before.before.args.m c.before.before.before.before.before.before.before.before.before.before.before.before.before.args.out.now c.before.before.before.before.before.before.before.before.before.before.before.before.before.requires), c.put3.ensures.1)
 
-pub put-matcher-spec : {M : Type 1} → statement M
-put-matcher-spec =
+pub put_matcher_spec : {M : Type 1} → statement M
+put_matcher_spec =
     tie.close
     (tie.spec
     current-requires

@@ -1,5 +1,5 @@
 -- `encode::put_pages` meets its contract: piece by piece.
-use Rattle.words.proofs.PieceLaws.{pages-put}
+use Rattle.words.proofs.PieceLaws.{pages_put}
 use Rattle.std.proofs.Common.{rules}
 use Rattle.words.proofs.encode.put_pages.Statement.{statement}
 use Rattle.words.proofs.encode.put_pages.Tie as tie
@@ -22,10 +22,10 @@ put-requires c κs = search rules
 returns : tie.Need-returns
 returns c =
     let start = c.before.before.before.before.before.before.before.before.before.before in
-    (rw (c.put.ensures.0, c.before.before.before.size.ensures, c.before.before.before.before.put-used.ensures.0, c.before.before.before.before.before.before.before.before.put-slots.ensures.0) (pages-put start.args.t1 start.args.out.now start.requires), c.put.ensures.1)
+    (rw (c.put.ensures.0, c.before.before.before.size.ensures, c.before.before.before.before.put-used.ensures.0, c.before.before.before.before.before.before.before.before.put-slots.ensures.0) (pages_put start.args.t1 start.args.out.now start.requires), c.put.ensures.1)
 
-pub put-pages-spec : {M : Type 1} → statement M
-put-pages-spec =
+pub put_pages_spec : {M : Type 1} → statement M
+put_pages_spec =
     tie.close
     (tie.spec
     put-slots-requires

@@ -15,5 +15,5 @@ put-requires c κs = search rules
 returns : tie.Need-returns
 returns c = (rw (c.put.ensures.0, c.before.before.before.pending.ensures), c.put.ensures.1)
 
-pub put-pending-spec : {M : Type 1} → statement M
-put-pending-spec = tie.close (tie.spec pending-requires slice-aggregate-put put-requires returns)
+pub put_pending_spec : {M : Type 1} → statement M
+put_pending_spec = tie.close (tie.spec pending-requires slice-aggregate-put put-requires returns)

@@ -1,5 +1,5 @@
 -- `encode::put_points` meets its contract. The loop's invariant: as many pieces as turns are put.
-use Rattle.words.specs.Words.{pointWords, noPoint, pointsWords}
+use Rattle.words.specs.Words.{point_words, no_point, points_words}
 use Rattle.words.proofs.PutLaws.{put-spread}
 use Rattle.words.specs.Put.{put}
 use Rattle.num.proofs.FoldLaws.{up_start, up_turn}
@@ -9,7 +9,7 @@ use Rattle.words.proofs.encode.put_points.Statement.{statement}
 use Rattle.words.proofs.encode.put_points.Tie as tie
 
 abbrev invariant-loop : tie.invariant-loop
-invariant-loop out₀ h i₀ out i = (i ≤ 16) × ((length out ≡ 1150) × (out ≡ up_to (λ (o : List ℕ) (j : ℕ). put (544 + 2 * j) (pointWords (get_or h.v j noPoint)) o) out₀ i))
+invariant-loop out₀ h i₀ out i = (i ≤ 16) × ((length out ≡ 1150) × (out ≡ up_to (λ (o : List ℕ) (j : ℕ). put (544 + 2 * j) (point_words (get_or h.v j no_point)) o) out₀ i))
 
 abbrev decreases-loop : tie.decreases-loop
 decreases-loop out₀ h i₀ out i = 16 - i
@@ -48,11 +48,11 @@ loop-again : tie.Need-loop-preserved invariant-loop decreases-loop
 loop-again c = (search rules, (c.put.ensures.1, rw (c.put.ensures.0, c.before.before.before.point.ensures, c.before.before.before.before.before.before.loop.invariant.1.1, up_turn)))
 
 returns : tie.Need-returns invariant-loop decreases-loop
-unfolding pointsWords
+unfolding points_words
 returns c = let end : c.before.loop.i ≡ 16 = omega arith in (rw (c.before.loop.invariant.1.1, end) (put-spread _ 2 (λ (j : ℕ). refl) 544 _ (λ (j : ℕ). refl) 16 c.before.before.args.out.now (omega (arith, c.before.before.requires))), c.before.loop.invariant.1.0)
 
-pub put-points-spec : {M : Type 1} → statement M
-put-points-spec =
+pub put_points_spec : {M : Type 1} → statement M
+put_points_spec =
     tie.close
     (tie.spec
     invariant-loop

@@ -1,7 +1,7 @@
 -- `encode::put_samples` meets its contract. The loop's invariant: as many pieces as turns are put.
 use Rattle.std.proofs.Common.{◌≡◌, ℕ, ◌+◌, ◌-◌, ◌≤◌, List, [], ◌∷◌, length, get_or, pos, sym, refl, arith, w16, rules}
 use Rattle.num.specs.Cast.{bits32}
-use Rattle.words.specs.Words.{heightsWords}
+use Rattle.words.specs.Words.{heights_words}
 use Rattle.words.proofs.PutLaws.{put-spread}
 use Rattle.words.specs.Put.{put}
 use Rattle.num.proofs.FoldLaws.{up_start, up_turn}
@@ -47,11 +47,11 @@ loop-again : tie.Need-loop-preserved invariant-loop decreases-loop
 loop-again c = (search rules, (c.put.ensures.1, rw (c.put.ensures.0, c.before.before.before.height.ensures, got w16 c.before.before.before.before.height-arg.given, c.before.before.before.before.before.before.loop.invariant.1.1, up_turn)))
 
 returns : tie.Need-returns invariant-loop decreases-loop
-unfolding heightsWords
+unfolding heights_words
 returns c = let end : c.before.loop.i ≡ 501 = omega arith in (rw (c.before.loop.invariant.1.1, end) (put-spread _ 1 (λ (j : ℕ). refl) 629 _ (λ (j : ℕ). omega arith) 501 c.before.before.args.out.now (omega (arith, c.before.before.requires))), c.before.loop.invariant.1.0)
 
-pub put-samples-spec : {M : Type 1} → statement M
-put-samples-spec =
+pub put_samples_spec : {M : Type 1} → statement M
+put_samples_spec =
     tie.close
     (tie.spec
     invariant-loop

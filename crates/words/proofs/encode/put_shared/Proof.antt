@@ -1,5 +1,5 @@
 -- `encode::put_shared` meets its contract: piece by piece.
-use Rattle.words.proofs.PieceLaws.{shared-put}
+use Rattle.words.proofs.PieceLaws.{shared_put}
 use Rattle.std.proofs.Common.{rules}
 use Rattle.words.proofs.encode.put_shared.Statement.{statement}
 use Rattle.words.proofs.encode.put_shared.Tie as tie
@@ -22,10 +22,10 @@ put-cache-requires c κs = search rules
 returns : tie.Need-returns
 returns c =
     let start = c.before.before.before.before.before.before.before.before.before.before in
-    (rw (c.put-cache.ensures.0, c.before.before.before.put-header.ensures.0, c.before.before.before.before.before.before.put.ensures.0, c.before.before.before.before.before.before.before.before.before.phase.ensures) (shared-put start.args.s start.args.out.now start.requires), c.put-cache.ensures.1)
+    (rw (c.put-cache.ensures.0, c.before.before.before.put-header.ensures.0, c.before.before.before.before.before.before.put.ensures.0, c.before.before.before.before.before.before.before.before.before.phase.ensures) (shared_put start.args.s start.args.out.now start.requires), c.put-cache.ensures.1)
 
-pub put-shared-spec : {M : Type 1} → statement M
-put-shared-spec =
+pub put_shared_spec : {M : Type 1} → statement M
+put_shared_spec =
     tie.close
     (tie.spec
     phase-requires

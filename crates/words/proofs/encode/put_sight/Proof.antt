@@ -1,5 +1,5 @@
 -- `encode::put_sight` meets its contract: piece by piece.
-use Rattle.words.proofs.PieceLaws.{sight-put}
+use Rattle.words.proofs.PieceLaws.{sight_put}
 use Rattle.std.proofs.Common.{rules}
 use Rattle.words.proofs.encode.put_sight.Statement.{statement}
 use Rattle.words.proofs.encode.put_sight.Tie as tie
@@ -38,10 +38,10 @@ put-requires-3 : tie.Need-put-requires-3
 put-requires-3 c κs = search rules
 
 returns : tie.Need-returns
-returns c = (rw (c.put3.ensures.0, c.before.before.before.high.ensures, c.before.before.before.before.low.ensures, c.before.before.before.before.before.put2.ensures.0, c.before.before.before.before.before.before.before.before.heading.ensures, c.before.before.before.before.before.before.before.before.before.put-places.ensures.0, c.before.before.before.before.before.before.before.before.before.before.before.before.put.ensures.0, c.before.before.before.before.before.before.before.before.before.before.before.before.before.before.before.fix.ensures) (sight-put c.before.before.before.before.before.before.before.before.before.before.before.before.before.before.before.before.args.s c.before.before.before.before.before.before.before.before.before.before.before.before.before.before.before.before.args.out.now c.before.before.before.before.before.before.before.before.before.before.before.before.before.before.before.before.requires), c.put3.ensures.1)
+returns c = (rw (c.put3.ensures.0, c.before.before.before.high.ensures, c.before.before.before.before.low.ensures, c.before.before.before.before.before.put2.ensures.0, c.before.before.before.before.before.before.before.before.heading.ensures, c.before.before.before.before.before.before.before.before.before.put-places.ensures.0, c.before.before.before.before.before.before.before.before.before.before.before.before.put.ensures.0, c.before.before.before.before.before.before.before.before.before.before.before.before.before.before.before.fix.ensures) (sight_put c.before.before.before.before.before.before.before.before.before.before.before.before.before.before.before.before.args.s c.before.before.before.before.before.before.before.before.before.before.before.before.before.before.before.before.args.out.now c.before.before.before.before.before.before.before.before.before.before.before.before.before.before.before.before.requires), c.put3.ensures.1)
 
-pub put-sight-spec : {M : Type 1} → statement M
-put-sight-spec =
+pub put_sight_spec : {M : Type 1} → statement M
+put_sight_spec =
     tie.close
     (tie.spec
     fix-requires

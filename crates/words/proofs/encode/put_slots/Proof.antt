@@ -1,6 +1,6 @@
 -- `encode::put_slots` meets its contract. The loop's invariant: as many pieces as turns are put.
-use Rattle.cache.specs.Runs.{emptySlot}
-use Rattle.words.specs.Words.{slotWords, slotsWords}
+use Rattle.cache.specs.Runs.{empty_slot}
+use Rattle.words.specs.Words.{slot_words, slots_words}
 use Rattle.words.proofs.PutLaws.{put-spread}
 use Rattle.words.specs.Put.{put}
 use Rattle.num.proofs.FoldLaws.{up_start, up_turn}
@@ -10,7 +10,7 @@ use Rattle.words.proofs.encode.put_slots.Statement.{statement}
 use Rattle.words.proofs.encode.put_slots.Tie as tie
 
 abbrev invariant-loop : tie.invariant-loop
-invariant-loop out₀ g i₀ out i = (i ≤ 96) × ((length out ≡ 1150) × (out ≡ up_to (λ (o : List ℕ) (j : ℕ). put (15 + 3 * j) (slotWords (get_or g.slots j emptySlot)) o) out₀ i))
+invariant-loop out₀ g i₀ out i = (i ≤ 96) × ((length out ≡ 1150) × (out ≡ up_to (λ (o : List ℕ) (j : ℕ). put (15 + 3 * j) (slot_words (get_or g.slots j empty_slot)) o) out₀ i))
 
 abbrev decreases-loop : tie.decreases-loop
 decreases-loop out₀ g i₀ out i = 96 - i
@@ -49,11 +49,11 @@ loop-again : tie.Need-loop-preserved invariant-loop decreases-loop
 loop-again c = (search rules, (c.put.ensures.1, rw (c.put.ensures.0, c.before.before.before.slot.ensures, c.before.before.before.before.before.before.loop.invariant.1.1, up_turn)))
 
 returns : tie.Need-returns invariant-loop decreases-loop
-unfolding slotsWords
+unfolding slots_words
 returns c = let end : c.before.loop.i ≡ 96 = omega arith in (rw (c.before.loop.invariant.1.1, end) (put-spread _ 3 (λ (j : ℕ). refl) 15 _ (λ (j : ℕ). refl) 96 c.before.before.args.out.now (omega (arith, c.before.before.requires))), c.before.loop.invariant.1.0)
 
-pub put-slots-spec : {M : Type 1} → statement M
-put-slots-spec =
+pub put_slots_spec : {M : Type 1} → statement M
+put_slots_spec =
     tie.close
     (tie.spec
     invariant-loop

@@ -1,5 +1,5 @@
 -- `encode::put_used` meets its contract. The loop's invariant: as many pieces as turns are put.
-use Rattle.words.specs.Words.{usedWords}
+use Rattle.words.specs.Words.{used_words}
 use Rattle.words.proofs.PutLaws.{put-spread}
 use Rattle.words.specs.Put.{put}
 use Rattle.num.proofs.FoldLaws.{up_start, up_turn}
@@ -42,11 +42,11 @@ loop-again : tie.Need-loop-preserved invariant-loop decreases-loop
 loop-again c = (search rules, (c.put.ensures.1, rw (c.put.ensures.0, c.before.before.before.before.before.loop.invariant.1.1, up_turn)))
 
 returns : tie.Need-returns invariant-loop decreases-loop
-unfolding usedWords
+unfolding used_words
 returns c = let end : c.before.loop.i ≡ 96 = omega arith in (rw (c.before.loop.invariant.1.1, end) (put-spread _ 1 (λ (j : ℕ). refl) 303 _ (λ (j : ℕ). omega arith) 96 c.before.before.args.out.now (omega (arith, c.before.before.requires))), c.before.loop.invariant.1.0)
 
-pub put-used-spec : {M : Type 1} → statement M
-put-used-spec =
+pub put_used_spec : {M : Type 1} → statement M
+put_used_spec =
     tie.close
     (tie.spec
     invariant-loop

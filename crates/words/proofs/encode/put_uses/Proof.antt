@@ -12,5 +12,5 @@ put-word-requires c κs = search rules
 returns : tie.Need-returns
 returns c = (rw (c.put_word.ensures.0, c.before.before.put-used.ensures.0), c.put_word.ensures.1)
 
-pub put-uses-spec : {M : Type 1} → statement M
-put-uses-spec = tie.close (tie.spec put-used-requires put-word-requires returns)
+pub put_uses_spec : {M : Type 1} → statement M
+put_uses_spec = tie.close (tie.spec put-used-requires put-word-requires returns)

@@ -13,5 +13,5 @@ element-write-out c = search rules
 returns : tie.Need-returns
 returns c = (set-put c.args.out.now c.args.at c.args.n (omega (arith, c.requires)), length-set c.args.out.now c.args.at c.args.n ∙ c.requires.1)
 
-pub put-word-spec : {M : Type 1} → statement M
-put-word-spec = tie.close (tie.spec mul-out element-write-out returns)
+pub put_word_spec : {M : Type 1} → statement M
+put_word_spec = tie.close (tie.spec mul-out element-write-out returns)

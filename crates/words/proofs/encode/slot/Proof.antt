@@ -33,8 +33,8 @@ cast-t12 c = search rules
 returns : tie.Need-returns
 returns c = rw (c.before.held.ensures, c.before.before.part.ensures.0, c.before.before.before.bit.ensures.0, c.before.before.before.before.has.ensures.0)
 
-pub slot-spec : {M : Type 1} → statement M
-slot-spec =
+pub slot_spec : {M : Type 1} → statement M
+slot_spec =
     tie.close
     (tie.spec
     has-requires

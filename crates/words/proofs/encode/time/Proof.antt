@@ -21,6 +21,6 @@ returns c = rw c.enum_told.given.1
 returns-2 : tie.Need-returns-2
 returns-2 c = rw (c.high.ensures, c.before.low.ensures, c.before.before.before.t.given.1)
 
-pub time-spec : {M : Type 1} → statement M
-time-spec =
+pub time_spec : {M : Type 1} → statement M
+time_spec =
     tie.close (tie.spec enum_told enum-known-t low-requires high-requires returns returns-2)

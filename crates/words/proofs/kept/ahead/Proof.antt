@@ -1,5 +1,5 @@
 -- `kept::ahead` meets its contract: piece by piece.
-use Rattle.words.proofs.KeptLaws.{ahead-kept}
+use Rattle.words.proofs.KeptLaws.{ahead_kept}
 use Rattle.std.proofs.Common.{sym, w32, rules}
 use Rattle.pack.proofs.Signed.{got}
 use Rattle.words.proofs.kept.ahead.Statement.{statement}
@@ -69,7 +69,7 @@ both-requires-3 : tie.Need-both-requires-3
 both-requires-3 c κs = search rules
 
 returns : tie.Need-returns
-returns c = rw (c.both3.ensures, c.before.both2.ensures, c.before.before.both.ensures, c.before.before.before.road.ensures, c.before.before.before.before.held3.ensures, c.before.before.before.before.before.before.held2.ensures, c.before.before.before.before.before.before.before.before.held.ensures, c.before.before.before.before.before.before.before.before.before.before.u32-of-i32.ensures, got w32 c.before.before.before.before.before.before.before.before.before.before.before.signed-32.type-inv, c.before.before.before.before.before.before.before.before.before.before.before.signed-32.ensures, c.before.before.before.before.before.before.before.before.before.before.before.before.before.current2.ensures, c.before.before.before.before.before.before.before.before.before.before.before.before.before.before.current.ensures, c.before.before.before.before.before.before.before.before.before.before.before.before.before.before.before.high.ensures, c.before.before.before.before.before.before.before.before.before.before.before.before.before.before.before.before.low.ensures, c.before.before.before.before.before.before.before.before.before.before.before.before.before.before.before.before.before.before.long.ensures) (sym (ahead-kept c.before.before.before.before.before.before.before.before.before.before.before.before.before.before.before.before.before.before.before.before.before.args.ws.now))
+returns c = rw (c.both3.ensures, c.before.both2.ensures, c.before.before.both.ensures, c.before.before.before.road.ensures, c.before.before.before.before.held3.ensures, c.before.before.before.before.before.before.held2.ensures, c.before.before.before.before.before.before.before.before.held.ensures, c.before.before.before.before.before.before.before.before.before.before.u32-of-i32.ensures, got w32 c.before.before.before.before.before.before.before.before.before.before.before.signed-32.type-inv, c.before.before.before.before.before.before.before.before.before.before.before.signed-32.ensures, c.before.before.before.before.before.before.before.before.before.before.before.before.before.current2.ensures, c.before.before.before.before.before.before.before.before.before.before.before.before.before.before.current.ensures, c.before.before.before.before.before.before.before.before.before.before.before.before.before.before.before.high.ensures, c.before.before.before.before.before.before.before.before.before.before.before.before.before.before.before.before.low.ensures, c.before.before.before.before.before.before.before.before.before.before.before.before.before.before.before.before.before.before.long.ensures) (sym (ahead_kept c.before.before.before.before.before.before.before.before.before.before.before.before.before.before.before.before.before.before.before.before.before.args.ws.now))
 
-pub ahead-spec : {M : Type 1} → statement M
-ahead-spec = tie.close (tie.spec element-copy-out-long element-copy-out-long-2 long-requires element-copy-out-t8 low-requires high-requires current-requires current-requires-2 element-copy-out-signed-32 signed-32-requires u32-of-i32-requires slice-aggregate-held held-requires slice-aggregate-held-2 held-requires-2 slice-aggregate-held-3 held-requires-3 road-requires both-requires both-requires-2 both-requires-3 returns)
+pub ahead_spec : {M : Type 1} → statement M
+ahead_spec = tie.close (tie.spec element-copy-out-long element-copy-out-long-2 long-requires element-copy-out-t8 low-requires high-requires current-requires current-requires-2 element-copy-out-signed-32 signed-32-requires u32-of-i32-requires slice-aggregate-held held-requires slice-aggregate-held-2 held-requires-2 slice-aggregate-held-3 held-requires-3 road-requires both-requires both-requires-2 both-requires-3 returns)

@@ -24,5 +24,5 @@ returns-2 : tie.Need-returns-2
 unfolding beside
 returns-2 c = rw (← c.before.before.before.before.count.ensures, eq-eqb _ _ c.before.before.before.if1.false, c.both.ensures, c.before.follower.ensures, c.before.before.shared.ensures)
 
-pub beside-spec : {M : Type 1} → statement M
-beside-spec = tie.close (tie.spec count-requires returns shared-requires follower-requires both-requires returns-2)
+pub beside_spec : {M : Type 1} → statement M
+beside_spec = tie.close (tie.spec count-requires returns shared-requires follower-requires both-requires returns-2)

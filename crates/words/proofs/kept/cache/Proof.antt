@@ -78,5 +78,5 @@ both-requires-4 c κs = search rules
 returns : tie.Need-returns
 returns c = rw (c.both4.ensures, c.before.both3.ensures, c.before.before.both2.ensures, c.before.before.before.both.ensures, c.before.before.before.before.held4.ensures, c.before.before.before.before.before.before.held3.ensures, c.before.before.before.before.before.before.before.before.held2.ensures, c.before.before.before.before.before.before.before.before.before.before.ring.ensures, c.before.before.before.before.before.before.before.before.before.before.before.held.ensures, c.before.before.before.before.before.before.before.before.before.before.before.before.before.before.pending2.ensures, c.before.before.before.before.before.before.before.before.before.before.before.before.before.before.before.pending.ensures, c.before.before.before.before.before.before.before.before.before.before.before.before.before.before.before.before.before.before.loading2.ensures, c.before.before.before.before.before.before.before.before.before.before.before.before.before.before.before.before.before.before.before.loading.ensures, c.before.before.before.before.before.before.before.before.before.before.before.before.before.before.before.before.before.before.before.before.before.size2.ensures, c.before.before.before.before.before.before.before.before.before.before.before.before.before.before.before.before.before.before.before.before.before.before.size.ensures)
 
-pub cache-spec : {M : Type 1} → statement M
-cache-spec = tie.close (tie.spec element-copy-out-size size-requires size-requires-2 element-copy-out-t13 loading-requires loading-requires-2 element-copy-out-pending element-copy-out-pending-2 pending-requires pending-requires-2 element-copy-out-t13-2 slice-aggregate-held held-requires ring-requires slice-aggregate-held-2 held-requires-2 slice-aggregate-held-3 held-requires-3 slice-aggregate-held-4 held-requires-4 both-requires both-requires-2 both-requires-3 both-requires-4 returns)
+pub cache_spec : {M : Type 1} → statement M
+cache_spec = tie.close (tie.spec element-copy-out-size size-requires size-requires-2 element-copy-out-t13 loading-requires loading-requires-2 element-copy-out-pending element-copy-out-pending-2 pending-requires pending-requires-2 element-copy-out-t13-2 slice-aggregate-held held-requires ring-requires slice-aggregate-held-2 held-requires-2 slice-aggregate-held-3 held-requires-3 slice-aggregate-held-4 held-requires-4 both-requires both-requires-2 both-requires-3 both-requires-4 returns)

@@ -1,6 +1,6 @@
 -- `kept::due` meets its contract: piece by piece.
-use Rattle.words.proofs.PieceLaws.{due-held}
-use Rattle.words.specs.Words.{dueOf}
+use Rattle.words.proofs.PieceLaws.{due_held}
+use Rattle.words.specs.Words.{due_of}
 use Rattle.std.proofs.Common.{sym, rules}
 use Rattle.words.proofs.kept.due.Statement.{statement}
 use Rattle.words.proofs.kept.due.Tie as tie
@@ -81,8 +81,8 @@ both-requires-2 : tie.Need-both-requires-2
 both-requires-2 c κs = search rules
 
 returns : tie.Need-returns
-unfolding dueOf
-returns c = rw (c.both2.ensures, c.before.both.ensures, c.before.before.held4.ensures, c.before.before.before.before.held3.ensures, c.before.before.before.before.before.before.held2.ensures, c.before.before.before.before.before.before.before.before.wide.ensures, c.before.before.before.before.before.before.before.before.before.short.ensures, c.before.before.before.before.before.before.before.before.before.before.before.held.ensures, c.before.before.before.before.before.before.before.before.before.before.before.before.has.ensures.0, c.before.before.before.before.before.before.before.before.before.before.before.before.before.maybe-key.ensures, c.before.before.before.before.before.before.before.before.before.before.before.before.before.before.before.before.time2.ensures, c.before.before.before.before.before.before.before.before.before.before.before.before.before.before.before.before.before.time.ensures, c.before.before.before.before.before.before.before.before.before.before.before.before.before.before.before.before.before.before.before.before.before.bit2.ensures.0, c.before.before.before.before.before.before.before.before.before.before.before.before.before.before.before.before.before.before.before.before.before.before.before.bit.ensures.0) (sym (due-held (dueOf c.before.before.before.before.before.before.before.before.before.before.before.before.before.before.before.before.before.before.before.before.before.before.before.before.before.args.ws.now 603) c.before.before.before.before.before.before.before.before.before.before.before.before.before.before.before.before.before.before.before.before.before.before.before.before.before.args.ws.now))
+unfolding due_of
+returns c = rw (c.both2.ensures, c.before.both.ensures, c.before.before.held4.ensures, c.before.before.before.before.held3.ensures, c.before.before.before.before.before.before.held2.ensures, c.before.before.before.before.before.before.before.before.wide.ensures, c.before.before.before.before.before.before.before.before.before.short.ensures, c.before.before.before.before.before.before.before.before.before.before.before.held.ensures, c.before.before.before.before.before.before.before.before.before.before.before.before.has.ensures.0, c.before.before.before.before.before.before.before.before.before.before.before.before.before.maybe-key.ensures, c.before.before.before.before.before.before.before.before.before.before.before.before.before.before.before.before.time2.ensures, c.before.before.before.before.before.before.before.before.before.before.before.before.before.before.before.before.before.time.ensures, c.before.before.before.before.before.before.before.before.before.before.before.before.before.before.before.before.before.before.before.before.before.bit2.ensures.0, c.before.before.before.before.before.before.before.before.before.before.before.before.before.before.before.before.before.before.before.before.before.before.before.bit.ensures.0) (sym (due_held (due_of c.before.before.before.before.before.before.before.before.before.before.before.before.before.before.before.before.before.before.before.before.before.before.before.before.before.args.ws.now 603) c.before.before.before.before.before.before.before.before.before.before.before.before.before.before.before.before.before.before.before.before.before.before.before.before.before.args.ws.now))
 
-pub due-spec : {M : Type 1} → statement M
-due-spec = tie.close (tie.spec element-copy-out-bit bit-requires element-copy-out-bit-2 bit-requires-2 element-copy-out-time element-copy-out-time-2 element-copy-out-time-3 time-requires time-requires-2 element-copy-out-maybe-key element-copy-out-maybe-key-2 maybe-key-requires has-requires held-requires element-copy-out-short short-requires wide-requires slice-aggregate-held held-requires-2 slice-aggregate-held-2 held-requires-3 slice-aggregate-held-3 held-requires-4 both-requires both-requires-2 returns)
+pub due_spec : {M : Type 1} → statement M
+due_spec = tie.close (tie.spec element-copy-out-bit bit-requires element-copy-out-bit-2 bit-requires-2 element-copy-out-time element-copy-out-time-2 element-copy-out-time-3 time-requires time-requires-2 element-copy-out-maybe-key element-copy-out-maybe-key-2 maybe-key-requires has-requires held-requires element-copy-out-short short-requires wide-requires slice-aggregate-held held-requires-2 slice-aggregate-held-2 held-requires-3 slice-aggregate-held-3 held-requires-4 both-requires both-requires-2 returns)

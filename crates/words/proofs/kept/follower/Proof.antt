@@ -1,6 +1,6 @@
 -- `kept::follower` meets its contract: piece by piece.
-use Rattle.words.proofs.PieceLaws.{follower-held}
-use Rattle.words.specs.Words.{followerOf}
+use Rattle.words.proofs.PieceLaws.{follower_held}
+use Rattle.words.specs.Words.{follower_of}
 use Rattle.std.proofs.Common.{sym, rules}
 use Rattle.words.proofs.kept.follower.Statement.{statement}
 use Rattle.words.proofs.kept.follower.Tie as tie
@@ -57,8 +57,8 @@ both-requires-4 : tie.Need-both-requires-4
 both-requires-4 c κs = search rules
 
 returns : tie.Need-returns
-unfolding followerOf
-returns c = rw (c.both4.ensures, c.before.both3.ensures, c.before.before.both2.ensures, c.before.before.before.both.ensures, c.before.before.before.before.held.ensures, c.before.before.before.before.before.before.ahead.ensures, c.before.before.before.before.before.before.before.due.ensures, c.before.before.before.before.before.before.before.before.matcher.ensures, c.before.before.before.before.before.before.before.before.before.sight.ensures, c.before.before.before.before.before.before.before.before.before.before.before.pattern.ensures, c.before.before.before.before.before.before.before.before.before.before.before.before.float.ensures, c.before.before.before.before.before.before.before.before.before.before.before.before.before.before.byte2.ensures, c.before.before.before.before.before.before.before.before.before.before.before.before.before.before.before.byte.ensures) (sym (follower-held (followerOf c.before.before.before.before.before.before.before.before.before.before.before.before.before.before.before.before.before.args.ws.now) c.before.before.before.before.before.before.before.before.before.before.before.before.before.before.before.before.before.args.ws.now))
+unfolding follower_of
+returns c = rw (c.both4.ensures, c.before.both3.ensures, c.before.before.both2.ensures, c.before.before.before.both.ensures, c.before.before.before.before.held.ensures, c.before.before.before.before.before.before.ahead.ensures, c.before.before.before.before.before.before.before.due.ensures, c.before.before.before.before.before.before.before.before.matcher.ensures, c.before.before.before.before.before.before.before.before.before.sight.ensures, c.before.before.before.before.before.before.before.before.before.before.before.pattern.ensures, c.before.before.before.before.before.before.before.before.before.before.before.before.float.ensures, c.before.before.before.before.before.before.before.before.before.before.before.before.before.before.byte2.ensures, c.before.before.before.before.before.before.before.before.before.before.before.before.before.before.before.byte.ensures) (sym (follower_held (follower_of c.before.before.before.before.before.before.before.before.before.before.before.before.before.before.before.before.before.args.ws.now) c.before.before.before.before.before.before.before.before.before.before.before.before.before.before.before.before.before.args.ws.now))
 
-pub follower-spec : {M : Type 1} → statement M
-follower-spec = tie.close (tie.spec element-copy-out-byte byte-requires byte-requires-2 element-copy-out-float float-requires pattern-requires element-copy-out-t15 sight-requires matcher-requires due-requires ahead-requires slice-aggregate-held held-requires both-requires both-requires-2 both-requires-3 both-requires-4 returns)
+pub follower_spec : {M : Type 1} → statement M
+follower_spec = tie.close (tie.spec element-copy-out-byte byte-requires byte-requires-2 element-copy-out-float float-requires pattern-requires element-copy-out-t15 sight-requires matcher-requires due-requires ahead-requires slice-aggregate-held held-requires both-requires both-requires-2 both-requires-3 both-requires-4 returns)

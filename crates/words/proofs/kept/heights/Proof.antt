@@ -1,5 +1,5 @@
 -- `kept::heights` meets its contract. The loop's invariant: so far each is held or one is not.
-use Rattle.words.specs.Held.{heightsHeld}
+use Rattle.words.specs.Held.{heights_held}
 use Rattle.tile.proofs.Laws.{all_none}
 use Rattle.words.proofs.HeldLaws.{below_next}
 use Rattle.std.proofs.Common.{◌≡◌, ◌-◌, ◌≤◌, sym, arith, rules}
@@ -7,7 +7,7 @@ use Rattle.words.proofs.kept.heights.Statement.{statement}
 use Rattle.words.proofs.kept.heights.Tie as tie
 
 abbrev invariant-loop : tie.invariant-loop
-invariant-loop ws at n ok₀ i₀ ok i = (i ≤ n) × (ok ≡ heightsHeld ws at i)
+invariant-loop ws at n ok₀ i₀ ok i = (i ≤ n) × (ok ≡ heights_held ws at i)
 
 abbrev decreases-loop : tie.decreases-loop
 decreases-loop ws at n ok₀ i₀ ok i = n - i
@@ -42,8 +42,8 @@ loop-again c = (search rules, rw (c.both.ensures, c.before.height.ensures, c.bef
 returns : tie.Need-returns invariant-loop decreases-loop
 returns c = let end : c.before.loop.i ≡ c.before.before.args.n = omega arith in rw end at c.before.loop.invariant.1
 
-pub heights-spec : {M : Type 1} → statement M
-heights-spec =
+pub heights_spec : {M : Type 1} → statement M
+heights_spec =
     tie.close
     (tie.spec
     invariant-loop

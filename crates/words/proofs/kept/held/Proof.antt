@@ -1,6 +1,6 @@
 -- `kept::held` meets its contract. The loop's invariant: what was compared so far and what is left decide together.
 use Rattle.words.specs.Held.{held_at}
-use Rattle.words.proofs.HeldLaws.{held_next, held-stop}
+use Rattle.words.proofs.HeldLaws.{held_next, held_stop}
 use Rattle.std.proofs.Common.{◌≡◌, ◌+◌, ◌-◌, ◌≤◌, ◌&&◌, length, drop, sym, ◌∙◌, add-zero, arith, rules}
 use Rattle.words.proofs.kept.held.Statement.{statement}
 use Rattle.words.proofs.kept.held.Tie as tie
@@ -49,7 +49,7 @@ loop-again c =
 
 returns : tie.Need-returns invariant-loop decreases-loop
 returns c =
-    sym (held-stop c.before.loop.ok c.before.before.before.args.at c.before.before.before.args.piece.now c.before.before.before.args.ws.now c.before.loop.i (omega arith))
+    sym (held_stop c.before.loop.ok c.before.before.before.args.at c.before.before.before.args.piece.now c.before.before.before.args.ws.now c.before.loop.i (omega arith))
     ∙ c.before.loop.invariant.1
 
 pub held_spec : {M : Type 1} → statement M

@@ -1,5 +1,5 @@
 -- `kept::keys` meets its contract. The loop's invariant: so far each is held or one is not.
-use Rattle.words.specs.Held.{keysHeld}
+use Rattle.words.specs.Held.{keys_held}
 use Rattle.tile.proofs.Laws.{all_none}
 use Rattle.words.proofs.HeldLaws.{below_next}
 use Rattle.std.proofs.Common.{◌≡◌, ◌-◌, ◌≤◌, sym, arith, rules}
@@ -7,7 +7,7 @@ use Rattle.words.proofs.kept.keys.Statement.{statement}
 use Rattle.words.proofs.kept.keys.Tie as tie
 
 abbrev invariant-loop : tie.invariant-loop
-invariant-loop ws ok₀ i₀ ok i = (i ≤ 64) × (ok ≡ keysHeld ws i)
+invariant-loop ws ok₀ i₀ ok i = (i ≤ 64) × (ok ≡ keys_held ws i)
 
 abbrev decreases-loop : tie.decreases-loop
 decreases-loop ws ok₀ i₀ ok i = 64 - i
@@ -39,8 +39,8 @@ loop-again c = (search rules, rw (c.both.ensures, c.before.place.ensures, c.befo
 returns : tie.Need-returns invariant-loop decreases-loop
 returns c = let end : c.before.loop.i ≡ 64 = omega arith in rw end at c.before.loop.invariant.1
 
-pub keys-spec : {M : Type 1} → statement M
-keys-spec =
+pub keys_spec : {M : Type 1} → statement M
+keys_spec =
     tie.close
     (tie.spec
     invariant-loop

@@ -1,6 +1,6 @@
 -- `kept::matcher` meets its contract: piece by piece.
-use Rattle.words.proofs.PieceLaws.{matcher-held}
-use Rattle.words.specs.Words.{matcherOf}
+use Rattle.words.proofs.PieceLaws.{matcher_held}
+use Rattle.words.specs.Words.{matcher_of}
 use Rattle.std.proofs.Common.{sym, rules}
 use Rattle.words.proofs.kept.matcher.Statement.{statement}
 use Rattle.words.proofs.kept.matcher.Tie as tie
@@ -60,8 +60,8 @@ both-requires-2 : tie.Need-both-requires-2
 both-requires-2 c κs = search rules
 
 returns : tie.Need-returns
-unfolding matcherOf
-returns c = rw (c.both2.ensures, c.before.both.ensures, c.before.before.held3.ensures, c.before.before.before.before.held2.ensures, c.before.before.before.before.before.before.held.ensures, c.before.before.before.before.before.before.before.before.pattern.ensures, c.before.before.before.before.before.before.before.before.before.float.ensures, c.before.before.before.before.before.before.before.before.before.before.before.byte2.ensures, c.before.before.before.before.before.before.before.before.before.before.before.before.byte.ensures, c.before.before.before.before.before.before.before.before.before.before.before.before.before.before.challenger2.ensures, c.before.before.before.before.before.before.before.before.before.before.before.before.before.before.before.challenger.ensures, c.before.before.before.before.before.before.before.before.before.before.before.before.before.before.before.before.current2.ensures, c.before.before.before.before.before.before.before.before.before.before.before.before.before.before.before.before.before.current.ensures) (sym (matcher-held (matcherOf c.before.before.before.before.before.before.before.before.before.before.before.before.before.before.before.before.before.before.args.ws.now 581) c.before.before.before.before.before.before.before.before.before.before.before.before.before.before.before.before.before.before.args.ws.now))
+unfolding matcher_of
+returns c = rw (c.both2.ensures, c.before.both.ensures, c.before.before.held3.ensures, c.before.before.before.before.held2.ensures, c.before.before.before.before.before.before.held.ensures, c.before.before.before.before.before.before.before.before.pattern.ensures, c.before.before.before.before.before.before.before.before.before.float.ensures, c.before.before.before.before.before.before.before.before.before.before.before.byte2.ensures, c.before.before.before.before.before.before.before.before.before.before.before.before.byte.ensures, c.before.before.before.before.before.before.before.before.before.before.before.before.before.before.challenger2.ensures, c.before.before.before.before.before.before.before.before.before.before.before.before.before.before.before.challenger.ensures, c.before.before.before.before.before.before.before.before.before.before.before.before.before.before.before.before.current2.ensures, c.before.before.before.before.before.before.before.before.before.before.before.before.before.before.before.before.before.current.ensures) (sym (matcher_held (matcher_of c.before.before.before.before.before.before.before.before.before.before.before.before.before.before.before.before.before.before.args.ws.now 581) c.before.before.before.before.before.before.before.before.before.before.before.before.before.before.before.before.before.before.args.ws.now))
 
-pub matcher-spec : {M : Type 1} → statement M
-matcher-spec = tie.close (tie.spec current-requires current-requires-2 challenger-requires challenger-requires-2 element-copy-out-byte byte-requires byte-requires-2 element-copy-out-float float-requires pattern-requires slice-aggregate-held held-requires slice-aggregate-held-2 held-requires-2 slice-aggregate-held-3 held-requires-3 both-requires both-requires-2 returns)
+pub matcher_spec : {M : Type 1} → statement M
+matcher_spec = tie.close (tie.spec current-requires current-requires-2 challenger-requires challenger-requires-2 element-copy-out-byte byte-requires byte-requires-2 element-copy-out-float float-requires pattern-requires slice-aggregate-held held-requires slice-aggregate-held-2 held-requires-2 slice-aggregate-held-3 held-requires-3 both-requires both-requires-2 returns)

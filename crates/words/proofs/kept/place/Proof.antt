@@ -21,8 +21,8 @@ held-requires-2 c κs = search rules
 returns : tie.Need-returns
 returns c = rw (c.held2.ensures, c.before.before.held.ensures, c.before.before.before.has.ensures.0, c.before.before.before.before.place.ensures)
 
-pub place-spec : {M : Type 1} → statement M
-place-spec =
+pub place_spec : {M : Type 1} → statement M
+place_spec =
     tie.close
     (tie.spec
     place-requires

@@ -1,5 +1,5 @@
 -- `kept::places` meets its contract: piece by piece.
-use Rattle.words.proofs.KeptLaws.{places-kept}
+use Rattle.words.proofs.KeptLaws.{places_kept}
 use Rattle.std.proofs.Common.{sym, rules}
 use Rattle.words.proofs.kept.places.Statement.{statement}
 use Rattle.words.proofs.kept.places.Tie as tie
@@ -26,7 +26,7 @@ both-requires : tie.Need-both-requires
 both-requires c κs = search rules
 
 returns : tie.Need-returns
-returns c = rw (c.both.ensures, c.before.held.ensures, c.before.before.before.points.ensures, c.before.before.before.before.size2.ensures, c.before.before.before.before.before.size.ensures) (sym (places-kept c.before.before.before.before.before.before.before.args.ws.now))
+returns c = rw (c.both.ensures, c.before.held.ensures, c.before.before.before.points.ensures, c.before.before.before.before.size2.ensures, c.before.before.before.before.before.size.ensures) (sym (places_kept c.before.before.before.before.before.before.before.args.ws.now))
 
-pub places-spec : {M : Type 1} → statement M
-places-spec = tie.close (tie.spec element-copy-out-size size-requires size-requires-2 points-requires slice-aggregate-held held-requires both-requires returns)
+pub places_spec : {M : Type 1} → statement M
+places_spec = tie.close (tie.spec element-copy-out-size size-requires size-requires-2 points-requires slice-aggregate-held held-requires both-requires returns)

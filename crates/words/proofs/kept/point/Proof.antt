@@ -18,6 +18,6 @@ held-requires c κs = search rules
 returns : tie.Need-returns
 returns c = rw (c.held.ensures, c.before.before.point2.ensures, c.before.before.before.point.ensures)
 
-pub point-spec : {M : Type 1} → statement M
-point-spec =
+pub point_spec : {M : Type 1} → statement M
+point_spec =
     tie.close (tie.spec point-requires point-requires-2 slice-aggregate-held held-requires returns)

@@ -1,5 +1,5 @@
 -- `kept::ring` meets its contract: piece by piece.
-use Rattle.words.proofs.KeptLaws.{ring-kept}
+use Rattle.words.proofs.KeptLaws.{ring_kept}
 use Rattle.std.proofs.Common.{sym, rules}
 use Rattle.words.proofs.kept.ring.Statement.{statement}
 use Rattle.words.proofs.kept.ring.Tie as tie
@@ -26,7 +26,7 @@ both-requires : tie.Need-both-requires
 both-requires c κs = search rules
 
 returns : tie.Need-returns
-returns c = rw (c.both.ensures, c.before.held.ensures, c.before.before.before.keys.ensures, c.before.before.before.before.size2.ensures, c.before.before.before.before.before.size.ensures) (sym (ring-kept c.before.before.before.before.before.before.before.args.ws.now))
+returns c = rw (c.both.ensures, c.before.held.ensures, c.before.before.before.keys.ensures, c.before.before.before.before.size2.ensures, c.before.before.before.before.before.size.ensures) (sym (ring_kept c.before.before.before.before.before.before.before.args.ws.now))
 
-pub ring-spec : {M : Type 1} → statement M
-ring-spec = tie.close (tie.spec element-copy-out-size size-requires size-requires-2 keys-requires slice-aggregate-held held-requires both-requires returns)
+pub ring_spec : {M : Type 1} → statement M
+ring_spec = tie.close (tie.spec element-copy-out-size size-requires size-requires-2 keys-requires slice-aggregate-held held-requires both-requires returns)

@@ -87,5 +87,5 @@ both-requires-3 c κs = search rules
 returns : tie.Need-returns
 returns c = rw (c.both3.ensures, c.before.both2.ensures, c.before.before.both.ensures, c.before.before.before.held2.ensures, c.before.before.before.before.before.heights2.ensures, c.before.before.before.before.before.before.held.ensures, c.before.before.before.before.before.before.before.before.heights.ensures, c.before.before.before.before.before.before.before.before.before.byte2.ensures, c.before.before.before.before.before.before.before.before.before.before.byte.ensures, c.before.before.before.before.before.before.before.before.before.before.before.before.pattern2.ensures, c.before.before.before.before.before.before.before.before.before.before.before.before.before.float2.ensures, c.before.before.before.before.before.before.before.before.before.before.before.before.before.before.before.end2.ensures, c.before.before.before.before.before.before.before.before.before.before.before.before.before.before.before.before.end.ensures, c.before.before.before.before.before.before.before.before.before.before.before.before.before.before.before.before.before.before.pattern.ensures, c.before.before.before.before.before.before.before.before.before.before.before.before.before.before.before.before.before.before.before.float.ensures, c.before.before.before.before.before.before.before.before.before.before.before.before.before.before.before.before.before.before.before.before.before.size4.ensures, c.before.before.before.before.before.before.before.before.before.before.before.before.before.before.before.before.before.before.before.before.before.before.size3.ensures, c.before.before.before.before.before.before.before.before.before.before.before.before.before.before.before.before.before.before.before.before.before.before.before.before.size2.ensures, c.before.before.before.before.before.before.before.before.before.before.before.before.before.before.before.before.before.before.before.before.before.before.before.before.before.size.ensures)
 
-pub road-spec : {M : Type 1} → statement M
-road-spec = tie.close (tie.spec element-copy-out-size size-requires size-requires-2 element-copy-out-size-2 size-requires-3 size-requires-4 element-copy-out-float float-requires pattern-requires element-copy-out-end end-requires end-requires-2 element-copy-out-float-2 float-requires-2 pattern-requires-2 element-copy-out-byte byte-requires byte-requires-2 heights-requires slice-aggregate-held held-requires heights-requires-2 slice-aggregate-held-2 held-requires-2 both-requires both-requires-2 both-requires-3 returns)
+pub road_spec : {M : Type 1} → statement M
+road_spec = tie.close (tie.spec element-copy-out-size size-requires size-requires-2 element-copy-out-size-2 size-requires-3 size-requires-4 element-copy-out-float float-requires pattern-requires element-copy-out-end end-requires end-requires-2 element-copy-out-float-2 float-requires-2 pattern-requires-2 element-copy-out-byte byte-requires byte-requires-2 heights-requires slice-aggregate-held held-requires heights-requires-2 slice-aggregate-held-2 held-requires-2 both-requires both-requires-2 both-requires-3 returns)

@@ -42,5 +42,5 @@ both-requires-2 c κs = search rules
 returns : tie.Need-returns
 returns c = rw (c.both2.ensures, c.before.both.ensures, c.before.before.cache.ensures, c.before.before.before.held2.ensures, c.before.before.before.before.before.held.ensures, c.before.before.before.before.before.before.before.header2.ensures, c.before.before.before.before.before.before.before.before.header.ensures, c.before.before.before.before.before.before.before.before.before.phase2.ensures, c.before.before.before.before.before.before.before.before.before.before.phase.ensures)
 
-pub shared-spec : {M : Type 1} → statement M
-shared-spec = tie.close (tie.spec element-copy-out-phase phase-requires phase-requires-2 header-requires header-requires-2 slice-aggregate-held held-requires slice-aggregate-held-2 held-requires-2 cache-requires both-requires both-requires-2 returns)
+pub shared_spec : {M : Type 1} → statement M
+shared_spec = tie.close (tie.spec element-copy-out-phase phase-requires phase-requires-2 header-requires header-requires-2 slice-aggregate-held held-requires slice-aggregate-held-2 held-requires-2 cache-requires both-requires both-requires-2 returns)

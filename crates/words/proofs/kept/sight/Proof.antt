@@ -1,5 +1,5 @@
 -- `kept::sight` meets its contract: piece by piece.
-use Rattle.words.proofs.PieceLaws.{sight-held}
+use Rattle.words.proofs.PieceLaws.{sight_held}
 use Rattle.words.specs.Words.{sight_of}
 use Rattle.std.proofs.Common.{sym, rules}
 use Rattle.words.proofs.kept.sight.Statement.{statement}
@@ -70,7 +70,7 @@ both-requires-3 c κs = search rules
 
 returns : tie.Need-returns
 unfolding sight_of
-returns c = rw (c.both3.ensures, c.before.both2.ensures, c.before.before.both.ensures, c.before.before.before.held3.ensures, c.before.before.before.before.before.held2.ensures, c.before.before.before.before.before.before.before.places.ensures, c.before.before.before.before.before.before.before.before.held.ensures, c.before.before.before.before.before.before.before.before.before.before.high.ensures, c.before.before.before.before.before.before.before.before.before.before.before.low.ensures, c.before.before.before.before.before.before.before.before.before.before.before.before.long.ensures, c.before.before.before.before.before.before.before.before.before.before.before.before.before.before.before.heading2.ensures, c.before.before.before.before.before.before.before.before.before.before.before.before.before.before.before.before.heading.ensures, c.before.before.before.before.before.before.before.before.before.before.before.before.before.before.before.before.before.before.before.fix2.ensures, c.before.before.before.before.before.before.before.before.before.before.before.before.before.before.before.before.before.before.before.before.fix.ensures) (sym (sight-held (sight_of c.before.before.before.before.before.before.before.before.before.before.before.before.before.before.before.before.before.before.before.before.before.args.ws.now 539) c.before.before.before.before.before.before.before.before.before.before.before.before.before.before.before.before.before.before.before.before.before.args.ws.now))
+returns c = rw (c.both3.ensures, c.before.both2.ensures, c.before.before.both.ensures, c.before.before.before.held3.ensures, c.before.before.before.before.before.held2.ensures, c.before.before.before.before.before.before.before.places.ensures, c.before.before.before.before.before.before.before.before.held.ensures, c.before.before.before.before.before.before.before.before.before.before.high.ensures, c.before.before.before.before.before.before.before.before.before.before.before.low.ensures, c.before.before.before.before.before.before.before.before.before.before.before.before.long.ensures, c.before.before.before.before.before.before.before.before.before.before.before.before.before.before.before.heading2.ensures, c.before.before.before.before.before.before.before.before.before.before.before.before.before.before.before.before.heading.ensures, c.before.before.before.before.before.before.before.before.before.before.before.before.before.before.before.before.before.before.before.fix2.ensures, c.before.before.before.before.before.before.before.before.before.before.before.before.before.before.before.before.before.before.before.before.fix.ensures) (sym (sight_held (sight_of c.before.before.before.before.before.before.before.before.before.before.before.before.before.before.before.before.before.before.before.before.before.args.ws.now 539) c.before.before.before.before.before.before.before.before.before.before.before.before.before.before.before.before.before.before.before.before.before.args.ws.now))
 
-pub sight-spec : {M : Type 1} → statement M
-sight-spec = tie.close (tie.spec fix-requires fix-requires-2 element-copy-out-heading element-copy-out-heading-2 heading-requires heading-requires-2 element-copy-out-long element-copy-out-long-2 long-requires low-requires high-requires slice-aggregate-held held-requires places-requires slice-aggregate-held-2 held-requires-2 slice-aggregate-held-3 held-requires-3 both-requires both-requires-2 both-requires-3 returns)
+pub sight_spec : {M : Type 1} → statement M
+sight_spec = tie.close (tie.spec fix-requires fix-requires-2 element-copy-out-heading element-copy-out-heading-2 heading-requires heading-requires-2 element-copy-out-long element-copy-out-long-2 long-requires low-requires high-requires slice-aggregate-held held-requires places-requires slice-aggregate-held-2 held-requires-2 slice-aggregate-held-3 held-requires-3 both-requires both-requires-2 both-requires-3 returns)

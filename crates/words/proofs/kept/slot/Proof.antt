@@ -18,6 +18,6 @@ held-requires c κs = search rules
 returns : tie.Need-returns
 returns c = rw (c.held.ensures, c.before.before.slot2.ensures, c.before.before.before.slot.ensures)
 
-pub slot-spec : {M : Type 1} → statement M
-slot-spec =
+pub slot_spec : {M : Type 1} → statement M
+slot_spec =
     tie.close (tie.spec slot-requires slot-requires-2 slice-aggregate-held held-requires returns)

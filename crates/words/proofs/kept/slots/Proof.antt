@@ -1,5 +1,5 @@
 -- `kept::slots` meets its contract. The loop's invariant: so far each is held or one is not.
-use Rattle.words.specs.Held.{slotsHeld}
+use Rattle.words.specs.Held.{slots_held}
 use Rattle.tile.proofs.Laws.{all_none}
 use Rattle.words.proofs.HeldLaws.{below_next}
 use Rattle.std.proofs.Common.{◌≡◌, ◌-◌, ◌≤◌, sym, arith, rules}
@@ -7,7 +7,7 @@ use Rattle.words.proofs.kept.slots.Statement.{statement}
 use Rattle.words.proofs.kept.slots.Tie as tie
 
 abbrev invariant-loop : tie.invariant-loop
-invariant-loop ws ok₀ i₀ ok i = (i ≤ 96) × (ok ≡ slotsHeld ws i)
+invariant-loop ws ok₀ i₀ ok i = (i ≤ 96) × (ok ≡ slots_held ws i)
 
 abbrev decreases-loop : tie.decreases-loop
 decreases-loop ws ok₀ i₀ ok i = 96 - i
@@ -39,8 +39,8 @@ loop-again c = (search rules, rw (c.both.ensures, c.before.slot.ensures, c.befor
 returns : tie.Need-returns invariant-loop decreases-loop
 returns c = let end : c.before.loop.i ≡ 96 = omega arith in rw end at c.before.loop.invariant.1
 
-pub slots-spec : {M : Type 1} → statement M
-slots-spec =
+pub slots_spec : {M : Type 1} → statement M
+slots_spec =
     tie.close
     (tie.spec
     invariant-loop

@@ -18,5 +18,5 @@ returns c = rw c.enum_told.given.1
 returns-2 : tie.Need-returns-2
 returns-2 c = rw (c.before.before.key.given.1, c.landed.ensures)
 
-pub land-spec : {M : Type 1} → statement M
-land-spec = tie.close (tie.spec enum_told enum-known-key landed-requires returns returns-2)
+pub land_spec : {M : Type 1} → statement M
+land_spec = tie.close (tie.spec enum_told enum-known-key landed-requires returns returns-2)

@@ -1,8 +1,8 @@
 -- `look::landed` meets its contract: each return by the ring and the ready run, whose length stands in its page's words.
 use Rattle.std.proofs.Common.{sym, ◌∙◌, rules}
-use Rattle.cache.specs.Lookups.{landsOn, landed}
-use Rattle.words.specs.Words.{cacheOf}
-use Rattle.words.proofs.LookLaws.{len-at, len-past}
+use Rattle.cache.specs.Lookups.{lands_on, landed}
+use Rattle.words.specs.Words.{cache_of}
+use Rattle.words.proofs.LookLaws.{len_at, len_past}
 use Rattle.words.proofs.look.landed.Statement.{statement}
 use Rattle.words.proofs.look.landed.Tie as tie
 
@@ -10,7 +10,7 @@ in-ring-requires : tie.Need-in-ring-requires
 in-ring-requires c κs = search rules
 
 returns : tie.Need-returns
-unfolding landed landsOn cacheOf
+unfolding landed lands_on cache_of
 returns c = rw (sym c.before.in-ring.ensures ∙ c.if1.true)
 
 ready-at-requires : tie.Need-ready-at-requires
@@ -23,9 +23,9 @@ enum-known-i : tie.Need-enum-known-i
 enum-known-i c = search rules
 
 returns-2 : tie.Need-returns-2
-unfolding landed landsOn cacheOf
+unfolding landed lands_on cache_of
 returns-2 c =
-    rw (sym c.before.before.before.before.before.before.in-ring.ensures ∙ c.before.before.before.before.before.if1.false, sym c.before.before.before.before.ready_at.ensures ∙ c.before.before.i.given.1, len-past c.before.before.before.before.before.before.before.args.ws.now _ c.if2.true)
+    rw (sym c.before.before.before.before.before.before.in-ring.ensures ∙ c.before.before.before.before.before.if1.false, sym c.before.before.before.before.ready_at.ensures ∙ c.before.before.i.given.1, len_past c.before.before.before.before.before.before.before.args.ws.now _ c.if2.true)
 
 mul-t8 : tie.Need-overflow-mul-t8
 mul-t8 c = search rules
@@ -43,16 +43,16 @@ cast-t15 : tie.Need-overflow-cast-t15
 cast-t15 c = search rules
 
 returns-3 : tie.Need-returns-3
-unfolding landed landsOn cacheOf
+unfolding landed lands_on cache_of
 returns-3 c = rw (sym c.before.before.before.before.in-ring.ensures ∙ c.before.before.before.if1.false, sym c.before.before.ready_at.ensures ∙ c.enum_told.given.1)
 
 returns-4 : tie.Need-returns-4
-unfolding landed landsOn cacheOf
+unfolding landed lands_on cache_of
 returns-4 c =
-    rw (sym c.before.before.before.before.before.before.before.in-ring.ensures ∙ c.before.before.before.before.before.before.if1.false, sym c.before.before.before.before.before.ready_at.ensures ∙ c.before.before.before.i.given.1, len-at c.before.before.before.before.before.before.before.before.args.ws.now _ c.before.if2.false)
+    rw (sym c.before.before.before.before.before.before.before.in-ring.ensures ∙ c.before.before.before.before.before.before.if1.false, sym c.before.before.before.before.before.ready_at.ensures ∙ c.before.before.before.i.given.1, len_at c.before.before.before.before.before.before.before.before.args.ws.now _ c.before.if2.false)
 
-pub landed-spec : {M : Type 1} → statement M
-landed-spec =
+pub landed_spec : {M : Type 1} → statement M
+landed_spec =
     tie.close
     (tie.spec
     in-ring-requires

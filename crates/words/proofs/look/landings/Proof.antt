@@ -32,8 +32,8 @@ returns : tie.Need-returns
 unfolding landings
 returns c = rw (c.land4.ensures, c.before.before.land3.ensures, c.before.before.before.before.land2.ensures, c.before.before.before.before.before.before.land.ensures)
 
-pub landings-spec : {M : Type 1} → statement M
-landings-spec =
+pub landings_spec : {M : Type 1} → statement M
+landings_spec =
     tie.close
     (tie.spec
     element-copy-out-land

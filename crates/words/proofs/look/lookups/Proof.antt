@@ -1,6 +1,6 @@
 -- `look::lookups` meets its contract, call by call.
-use Rattle.cache.specs.Ages.{lookupsOf}
-use Rattle.words.specs.Words.{pagesOf, cacheOf}
+use Rattle.cache.specs.Ages.{lookups_of}
+use Rattle.words.specs.Words.{pages_of, cache_of}
 use Rattle.std.proofs.Common.{rules}
 use Rattle.words.proofs.look.lookups.Statement.{statement}
 use Rattle.words.proofs.look.lookups.Tie as tie
@@ -27,8 +27,8 @@ array-write-looks-2 : tie.Need-array-write-looks-2
 array-write-looks-2 c = search rules
 
 returns : tie.Need-returns
-unfolding lookupsOf cacheOf pagesOf
+unfolding lookups_of cache_of pages_of
 returns c = rw (c.most.ensures, c.before.before.before.ring_in.ensures, c.before.before.before.before.before.pages-in.ensures)
 
-pub lookups-spec : {M : Type 1} → statement M
-lookups-spec = tie.close (tie.spec pages-in-requires ring-in-requires element-copy-out-looks array-write-looks element-copy-out-most most-requires array-write-looks-2 returns)
+pub lookups_spec : {M : Type 1} → statement M
+lookups_spec = tie.close (tie.spec pages-in-requires ring-in-requires element-copy-out-looks array-write-looks element-copy-out-most most-requires array-write-looks-2 returns)

@@ -1,6 +1,6 @@
 -- `look::page_in` meets its contract: a page's words are taken, with its key where a tile is ready there.
 use Rattle.std.proofs.Common.{true, false, ◌∙◌, ⊎_elim, rules, eq-eqb, ne_eqb}
-use Rattle.words.proofs.LookLaws.{page-taken}
+use Rattle.words.proofs.LookLaws.{page_taken}
 use Rattle.words.proofs.look.page_in.Statement.{statement}
 use Rattle.words.proofs.look.page_in.Tie as tie
 
@@ -92,12 +92,12 @@ returns : tie.Need-returns
 returns c =
     let args = c.before.before.before.before.args in
     ⊎_elim
-    (λ w. page-taken args.ws.now args.looks.now args.i true c.before.before.before.before.requires (eq-eqb _ _ w.0.taken) (w.4 ∙ w.2.ensures) w.5)
-    (λ w. page-taken args.ws.now args.looks.now args.i false c.before.before.before.before.requires (ne_eqb _ _ w.0.left) w.1 w.2)
+    (λ w. page_taken args.ws.now args.looks.now args.i true c.before.before.before.before.requires (eq-eqb _ _ w.0.taken) (w.4 ∙ w.2.ensures) w.5)
+    (λ w. page_taken args.ws.now args.looks.now args.i false c.before.before.before.before.requires (ne_eqb _ _ w.0.left) w.1 w.2)
     c.before.before.if1.branch
 
-pub page-in-spec : {M : Type 1} → statement M
-page-in-spec =
+pub page_in_spec : {M : Type 1} → statement M
+page_in_spec =
     tie.close
     (tie.spec
     mul_at

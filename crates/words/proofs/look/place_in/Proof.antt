@@ -1,6 +1,6 @@
 -- `look::place_in` meets its contract: a place's words are taken, with its key where there is one.
 use Rattle.std.proofs.Common.{true, false, ◌∙◌, ⊎_elim, rules, eq-eqb, ne_eqb}
-use Rattle.words.proofs.LookLaws.{place-taken}
+use Rattle.words.proofs.LookLaws.{place_taken}
 use Rattle.words.proofs.look.place_in.Statement.{statement}
 use Rattle.words.proofs.look.place_in.Tie as tie
 
@@ -59,12 +59,12 @@ returns : tie.Need-returns
 returns c =
     let args = c.before.before.args in
     ⊎_elim
-    (λ w. place-taken args.ws.now args.looks.now args.i true c.before.before.requires (eq-eqb _ _ w.0.taken) (w.4 ∙ w.2.ensures) w.5)
-    (λ w. place-taken args.ws.now args.looks.now args.i false c.before.before.requires (ne_eqb _ _ w.0.left) w.1 w.2)
+    (λ w. place_taken args.ws.now args.looks.now args.i true c.before.before.requires (eq-eqb _ _ w.0.taken) (w.4 ∙ w.2.ensures) w.5)
+    (λ w. place_taken args.ws.now args.looks.now args.i false c.before.before.requires (ne_eqb _ _ w.0.left) w.1 w.2)
     c.if1.branch
 
-pub place-in-spec : {M : Type 1} → statement M
-place-in-spec =
+pub place_in_spec : {M : Type 1} → statement M
+place_in_spec =
     tie.close
     (tie.spec
     mul_at

@@ -1,11 +1,11 @@
 -- `pages::tile_loads` meets its contract: each return by the tests before it.
 use Rattle.std.proofs.Common.{◌+◌, ◌*◌, sym, add-zero, rules, eq-eqb, ne_eqb}
-use Rattle.words.proofs.PagesLaws.{loads-is, loads-past}
+use Rattle.words.proofs.PagesLaws.{loads_is, loads_past}
 use Rattle.words.proofs.pages.tile_loads.Statement.{statement}
 use Rattle.words.proofs.pages.tile_loads.Tie as tie
 
 returns : tie.Need-returns
-returns c = sym (loads-past c.before.before.args.ws.now 15 c.before.before.args.l c.if1.true)
+returns c = sym (loads_past c.before.before.args.ws.now 15 c.before.before.args.l c.if1.true)
 
 mul_at : tie.Need-overflow-mul-at
 mul_at c = search rules
@@ -25,7 +25,7 @@ returns-2 c =
     let inside = c.before.before.before.if1.false in
     let short = start.well-formed.1.0.1.1.0.1.1.1.0.1 in
     rw (
-      loads-is start.args.ws.now 15 start.args.l inside short,
+      loads_is start.args.ws.now 15 start.args.l inside short,
       add-zero (15 + 3 * start.args.l.slot),
       ne_eqb _ _ c.if2.true,
     )
@@ -48,7 +48,7 @@ returns-3 c =
     let inside = c.before.before.before.before.before.before.before.if1.false in
     let short = start.well-formed.1.0.1.1.0.1.1.1.0.1 in
     rw (
-      loads-is start.args.ws.now 15 start.args.l inside short,
+      loads_is start.args.ws.now 15 start.args.l inside short,
       add-zero (15 + 3 * start.args.l.slot),
       eq-eqb _ _ c.before.before.before.before.if2.false,
       ← c.before.of-key.ensures,
@@ -70,7 +70,7 @@ returns-4 c =
     let inside = c.before.before.before.before.before.before.before.before.before.before.if1.false in
     let short = start.well-formed.1.0.1.1.0.1.1.1.0.1 in
     rw (
-      loads-is start.args.ws.now 15 start.args.l inside short,
+      loads_is start.args.ws.now 15 start.args.l inside short,
       add-zero (15 + 3 * start.args.l.slot),
       eq-eqb _ _ c.before.before.before.before.before.before.before.if2.false,
       ← c.before.before.before.before.of-key.ensures,
@@ -84,7 +84,7 @@ returns-5 c =
     let inside = c.before.before.before.before.before.before.before.before.before.before.before.if1.false in
     let short = start.well-formed.1.0.1.1.0.1.1.1.0.1 in
     rw (
-      loads-is start.args.ws.now 15 start.args.l inside short,
+      loads_is start.args.ws.now 15 start.args.l inside short,
       add-zero (15 + 3 * start.args.l.slot),
       eq-eqb _ _ c.before.before.before.before.before.before.before.before.if2.false,
       ← c.before.before.before.before.before.of-key.ensures,
@@ -92,5 +92,5 @@ returns-5 c =
       eq-eqb _ _ c.before.if4.false,
     )
 
-pub tile-loads-spec : {M : Type 1} → statement M
-tile-loads-spec = tie.close (tie.spec returns mul_at add_at mul-if2 element-copy-out-if2 returns-2 add-if3 mul-if3 element-copy-out-if3 of-key-requires returns-3 add-if4 mul-if4 element-copy-out-if4 returns-4 returns-5)
+pub tile_loads_spec : {M : Type 1} → statement M
+tile_loads_spec = tie.close (tie.spec returns mul_at add_at mul-if2 element-copy-out-if2 returns-2 add-if3 mul-if3 element-copy-out-if3 of-key-requires returns-3 add-if4 mul-if4 element-copy-out-if4 returns-4 returns-5)

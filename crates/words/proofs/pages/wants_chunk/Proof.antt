@@ -5,14 +5,14 @@ use Rattle.cache.specs.declared.Loading.{Loading}
 use Rattle.cache.specs.declared.MaybeLoading.{MaybeLoading}
 use Rattle.cache.specs.declared.MaybeLoading.TheVariants as MaybeLoading
 use Rattle.cache.specs.declared.next.Next.{Next}
-use Rattle.cache.specs.Lookups.{nextStep}
-use Rattle.cache.specs.State.{isChunk, wantsChunkOf, wantsChunk}
-use Rattle.words.specs.Words.{cacheOf}
+use Rattle.cache.specs.Lookups.{next_step}
+use Rattle.cache.specs.State.{is_chunk, wants_chunk_of, wants_chunk}
+use Rattle.words.specs.Words.{cache_of}
 use Rattle.words.proofs.pages.wants_chunk.Statement.{statement}
 use Rattle.words.proofs.pages.wants_chunk.Tie as tie
 
-by_next : (c : Cache) (l : Loading) {n : Next} → c.loading ≡ MaybeLoading.Tile l → nextStep c l.key ≡ n → isChunk n ≡ wantsChunk c
-by_next c l e q = sym (ap (λ (m : MaybeLoading). wantsChunkOf m c) e ∙ ap isChunk q)
+by_next : (c : Cache) (l : Loading) {n : Next} → c.loading ≡ MaybeLoading.Tile l → next_step c l.key ≡ n → is_chunk n ≡ wants_chunk c
+by_next c l e q = sym (ap (λ (m : MaybeLoading). wants_chunk_of m c) e ∙ ap is_chunk q)
 
 loading-requires : tie.Need-loading-requires
 loading-requires c κs = search rules
@@ -42,28 +42,28 @@ enum-told-6 : tie.Need-enum-told-6
 enum-told-6 c = search rules
 
 returns : tie.Need-returns
-unfolding cacheOf
-returns c = sym (ap (λ (m : MaybeLoading). wantsChunkOf m (cacheOf c.before.before.before.args.ws.now 15)) (sym c.before.before.loading.ensures ∙ c.enum_told.given.1))
+unfolding cache_of
+returns c = sym (ap (λ (m : MaybeLoading). wants_chunk_of m (cache_of c.before.before.before.args.ws.now 15)) (sym c.before.before.loading.ensures ∙ c.enum_told.given.1))
 
 returns-2 : tie.Need-returns-2
-unfolding cacheOf
-returns-2 c = by_next (cacheOf c.before.before.before.before.before.before.before.args.ws.now 15) _ (sym c.before.before.before.before.before.before.loading.ensures ∙ c.before.before.before.before.loading2.given.1) (sym c.before.before.next-step.ensures ∙ c.enum-told2.given.1)
+unfolding cache_of
+returns-2 c = by_next (cache_of c.before.before.before.before.before.before.before.args.ws.now 15) _ (sym c.before.before.before.before.before.before.loading.ensures ∙ c.before.before.before.before.loading2.given.1) (sym c.before.before.next-step.ensures ∙ c.enum-told2.given.1)
 
 returns-3 : tie.Need-returns-3
-unfolding cacheOf
-returns-3 c = by_next (cacheOf c.before.before.before.before.before.before.before.args.ws.now 15) _ (sym c.before.before.before.before.before.before.loading.ensures ∙ c.before.before.before.before.loading2.given.1) (sym c.before.before.next-step.ensures ∙ c.enum-told3.given.1)
+unfolding cache_of
+returns-3 c = by_next (cache_of c.before.before.before.before.before.before.before.args.ws.now 15) _ (sym c.before.before.before.before.before.before.loading.ensures ∙ c.before.before.before.before.loading2.given.1) (sym c.before.before.next-step.ensures ∙ c.enum-told3.given.1)
 
 returns-4 : tie.Need-returns-4
-unfolding cacheOf
-returns-4 c = by_next (cacheOf c.before.before.before.before.before.before.before.args.ws.now 15) _ (sym c.before.before.before.before.before.before.loading.ensures ∙ c.before.before.before.before.loading2.given.1) (sym c.before.before.next-step.ensures ∙ c.enum-told4.given.1)
+unfolding cache_of
+returns-4 c = by_next (cache_of c.before.before.before.before.before.before.before.args.ws.now 15) _ (sym c.before.before.before.before.before.before.loading.ensures ∙ c.before.before.before.before.loading2.given.1) (sym c.before.before.next-step.ensures ∙ c.enum-told4.given.1)
 
 returns-5 : tie.Need-returns-5
-unfolding cacheOf
-returns-5 c = by_next (cacheOf c.before.before.before.before.before.before.before.args.ws.now 15) _ (sym c.before.before.before.before.before.before.loading.ensures ∙ c.before.before.before.before.loading2.given.1) (sym c.before.before.next-step.ensures ∙ c.enum-told5.given.1)
+unfolding cache_of
+returns-5 c = by_next (cache_of c.before.before.before.before.before.before.before.args.ws.now 15) _ (sym c.before.before.before.before.before.before.loading.ensures ∙ c.before.before.before.before.loading2.given.1) (sym c.before.before.next-step.ensures ∙ c.enum-told5.given.1)
 
 returns-6 : tie.Need-returns-6
-unfolding cacheOf
-returns-6 c = by_next (cacheOf c.before.before.before.before.before.before.before.args.ws.now 15) _ (sym c.before.before.before.before.before.before.loading.ensures ∙ c.before.before.before.before.loading2.given.1) (sym c.before.before.next-step.ensures ∙ c.enum-told6.given.1)
+unfolding cache_of
+returns-6 c = by_next (cache_of c.before.before.before.before.before.before.before.args.ws.now 15) _ (sym c.before.before.before.before.before.before.loading.ensures ∙ c.before.before.before.before.loading2.given.1) (sym c.before.before.next-step.ensures ∙ c.enum-told6.given.1)
 
-pub wants-chunk-spec : {M : Type 1} → statement M
-wants-chunk-spec = tie.close (tie.spec loading-requires enum_told enum-known-loading next-step-requires enum-told-2 enum-told-3 enum-told-4 enum-told-5 enum-told-6 returns returns-2 returns-3 returns-4 returns-5 returns-6)
+pub wants_chunk_spec : {M : Type 1} → statement M
+wants_chunk_spec = tie.close (tie.spec loading-requires enum_told enum-known-loading next-step-requires enum-told-2 enum-told-3 enum-told-4 enum-told-5 enum-told-6 returns returns-2 returns-3 returns-4 returns-5 returns-6)

@@ -36,5 +36,5 @@ returns-4 c = rw (sym c.before.before.next-step.ensures ∙ c.enum-told4.given.1
 returns-5 : tie.Need-returns-5
 returns-5 c = rw (sym c.before.before.next-step.ensures ∙ c.enum-told5.given.1)
 
-pub opens-next-spec : {M : Type 1} → statement M
-opens-next-spec = tie.close (tie.spec next-step-requires enum_told enum-told-2 enum-told-3 enum-told-4 enum-told-5 returns returns-2 returns-3 returns-4 returns-5)
+pub opens_next_spec : {M : Type 1} → statement M
+opens_next_spec = tie.close (tie.spec next-step-requires enum_told enum-told-2 enum-told-3 enum-told-4 enum-told-5 returns returns-2 returns-3 returns-4 returns-5)

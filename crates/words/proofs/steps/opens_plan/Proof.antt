@@ -54,8 +54,8 @@ returns-7 c = rw c.enum-told6.given.1
 returns-8 : tie.Need-returns-8
 returns-8 c = rw c.enum-told7.given.1
 
-pub opens-plan-spec : {M : Type 1} → statement M
-opens-plan-spec =
+pub opens_plan_spec : {M : Type 1} → statement M
+opens_plan_spec =
     tie.close
     (tie.spec
     enum_told

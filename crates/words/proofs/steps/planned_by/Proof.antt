@@ -51,8 +51,8 @@ returns-6 c = rw c.enum-told7.given.1
 returns-7 : tie.Need-returns-7
 returns-7 c = rw c.enum-told8.given.1
 
-pub planned-by-spec : {M : Type 1} → statement M
-planned-by-spec =
+pub planned_by_spec : {M : Type 1} → statement M
+planned_by_spec =
     tie.close
     (tie.spec
     enum_told

@@ -1,7 +1,7 @@
 -- `work::asks` meets its contract: the words that change are put.
 use Rattle.std.proofs.Common.{rules}
-use Rattle.words.proofs.CountLaws.{accepted-long}
-use Rattle.words.proofs.WorkLaws.{asked-words}
+use Rattle.words.proofs.CountLaws.{accepted_long}
+use Rattle.words.proofs.WorkLaws.{asked_words}
 use Rattle.words.proofs.work.asks.Statement.{statement}
 use Rattle.words.proofs.work.asks.Tie as tie
 
@@ -12,7 +12,7 @@ wrapping-add-u32-requires : tie.Need-wrapping-add-u32-requires
 wrapping-add-u32-requires c κs = search rules
 
 put-due-requires : tie.Need-put-due-requires
-put-due-requires c κs = accepted-long c.before.before.before.args.ws.now c.before.before.before.requires
+put-due-requires c κs = accepted_long c.before.before.before.args.ws.now c.before.before.before.requires
 
 put-word-requires : tie.Need-put-word-requires
 put-word-requires c κs = search rules
@@ -20,7 +20,7 @@ put-word-requires c κs = search rules
 returns : tie.Need-returns
 returns c =
     let start = c.before.before.before.before.before.before in
-    rw (c.put_word.ensures.0, c.before.before.put-due.ensures.0) (asked-words start.args.ws.now start.requires _ c.before.before.before.before.wrapping-add-u32.ensures start.args.due)
+    rw (c.put_word.ensures.0, c.before.before.put-due.ensures.0) (asked_words start.args.ws.now start.requires _ c.before.before.before.before.wrapping-add-u32.ensures start.args.due)
 
-pub asks-spec : {M : Type 1} → statement M
-asks-spec = tie.close (tie.spec element-copy-out-wrapping-add-u32 wrapping-add-u32-requires put-due-requires put-word-requires returns)
+pub asks_spec : {M : Type 1} → statement M
+asks_spec = tie.close (tie.spec element-copy-out-wrapping-add-u32 wrapping-add-u32-requires put-due-requires put-word-requires returns)

@@ -1,8 +1,8 @@
 -- `work::left_map` meets its contract: the words that change are put, with a road that is published or without one.
 use Rattle.std.proofs.Common.{length, ap, ◌∙◌, rules, eq-eqb, ne_eqb}
-use Rattle.words.proofs.CountLaws.{accepted-long}
+use Rattle.words.proofs.CountLaws.{accepted_long}
 use Rattle.words.proofs.PieceLaws.{words-length}
-use Rattle.words.proofs.WorkLaws.{either, is-published, gone-left, still-left}
+use Rattle.words.proofs.WorkLaws.{either, is_published, gone_left, still_left}
 use Rattle.words.proofs.work.left_map.Statement.{statement}
 use Rattle.words.proofs.work.left_map.Tie as tie
 
@@ -21,7 +21,7 @@ road-gone-requires c κs = search rules
 put-word-requires : tie.Need-put-word-requires
 put-word-requires c κs =
     let start = c.before.before.before.before.before in
-    (search rules, either c.before.if1.branch (λ w. ap length (w.3 ∙ w.2.ensures) ∙ words-length _) (λ w. ap length w.1 ∙ accepted-long start.args.ws.now start.requires))
+    (search rules, either c.before.if1.branch (λ w. ap length (w.3 ∙ w.2.ensures) ∙ words-length _) (λ w. ap length w.1 ∙ accepted_long start.args.ws.now start.requires))
 
 put-word-requires-2 : tie.Need-put-word-requires-2
 put-word-requires-2 c κs = search rules
@@ -32,11 +32,11 @@ returns c =
     let ws = start.args.ws.now in
     let counts = c.before.before.before.before.before.before.wrapping-add-u32.ensures in
     let fix = start.args.fix in
-    let left = either c.before.before.before.before.if1.branch (λ w. gone-left ws start.requires _ counts fix (is-published ws ∙ eq-eqb _ _ w.0.taken) (w.3 ∙ w.2.ensures)) (λ w. still-left ws start.requires _ counts fix (is-published ws ∙ ne_eqb _ _ w.0.left) w.1) in
+    let left = either c.before.before.before.before.if1.branch (λ w. gone_left ws start.requires _ counts fix (is_published ws ∙ eq-eqb _ _ w.0.taken) (w.3 ∙ w.2.ensures)) (λ w. still_left ws start.requires _ counts fix (is_published ws ∙ ne_eqb _ _ w.0.left) w.1) in
     (search rules, rw (c.put-word2.ensures.0, c.before.before.put_word.ensures.0) left)
 
-pub left-map-spec : {M : Type 1} → statement M
-left-map-spec =
+pub left_map_spec : {M : Type 1} → statement M
+left_map_spec =
     tie.close
     (tie.spec
     element-copy-out-wrapping-add-u32

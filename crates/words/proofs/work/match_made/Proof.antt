@@ -2,8 +2,8 @@
 use Rattle.std.proofs.Common.{sym, ◌∙◌, rules}
 use borrow.Author.Tests.{not-true}
 use Rattle.engine.specs.Work.{counted}
-use Rattle.words.specs.Words.{engineOf}
-use Rattle.words.proofs.WorkLaws.{either, due_in, published-in, matched-found, matched-lost, matched-still}
+use Rattle.words.specs.Words.{engine_of}
+use Rattle.words.proofs.WorkLaws.{either, due_in, published_in, matched_found, matched_lost, matched_still}
 use Rattle.words.proofs.work.match_made.Statement.{statement}
 use Rattle.words.proofs.work.match_made.Tie as tie
 
@@ -29,10 +29,10 @@ returns : tie.Need-returns
 returns c =
     let start = c.before.before.before.before.before.before.before.before.before in
     let ws = start.args.ws.now in
-    let f = counted (engineOf ws).follower in
+    let f = counted (engine_of ws).follower in
     either c.before.before.if1.branch
-    (λ test. rw (c.match-found.ensures, c.before.before.before.before.matched-due.ensures, c.before.before.before.before.before.current.ensures, c.before.before.before.before.before.before.before.due.ensures, due_in ws, published-in ws, matched-found f start.args.m start.args.fix (sym c.before.before.before.is-matched.ensures ∙ test.taken)))
-    (λ test. rw (c.match-found.ensures, c.before.before.before.before.matched-due.ensures, c.before.before.before.before.before.current.ensures, c.before.before.before.before.before.before.before.due.ensures, due_in ws, published-in ws, matched-still f start.args.m start.args.fix (sym c.before.before.before.is-matched.ensures ∙ test.0.left) (rw (c.before.before.before.before.before.current.ensures, published-in ws) at (sym test.1.ensures ∙ not-true _ test.2.taken))))
+    (λ test. rw (c.match-found.ensures, c.before.before.before.before.matched-due.ensures, c.before.before.before.before.before.current.ensures, c.before.before.before.before.before.before.before.due.ensures, due_in ws, published_in ws, matched_found f start.args.m start.args.fix (sym c.before.before.before.is-matched.ensures ∙ test.taken)))
+    (λ test. rw (c.match-found.ensures, c.before.before.before.before.matched-due.ensures, c.before.before.before.before.before.current.ensures, c.before.before.before.before.before.before.before.due.ensures, due_in ws, published_in ws, matched_still f start.args.m start.args.fix (sym c.before.before.before.is-matched.ensures ∙ test.0.left) (rw (c.before.before.before.before.before.current.ensures, published_in ws) at (sym test.1.ensures ∙ not-true _ test.2.taken))))
 
 match-lost-requires : tie.Need-match-lost-requires
 match-lost-requires c κs = search rules
@@ -41,7 +41,7 @@ returns-2 : tie.Need-returns-2
 returns-2 c =
     let start = c.before.before.before.before.before.before.before.before.before.before.before in
     let ws = start.args.ws.now in
-    rw (c.match-lost.ensures, c.before.before.before.before.before.before.matched-due.ensures, c.before.before.before.before.before.before.before.current.ensures, c.before.before.before.before.before.before.before.before.before.due.ensures, due_in ws, published-in ws, matched-lost (counted (engineOf ws).follower) start.args.m start.args.fix (sym c.before.before.before.before.before.is-matched.ensures ∙ c.before.before.before.before.if1.false))
+    rw (c.match-lost.ensures, c.before.before.before.before.before.before.matched-due.ensures, c.before.before.before.before.before.before.before.current.ensures, c.before.before.before.before.before.before.before.before.before.due.ensures, due_in ws, published_in ws, matched_lost (counted (engine_of ws).follower) start.args.m start.args.fix (sym c.before.before.before.before.before.is-matched.ensures ∙ c.before.before.before.before.if1.false))
 
-pub match-made-spec : {M : Type 1} → statement M
-match-made-spec = tie.close (tie.spec due-requires current-requires matched-due-requires is-matched-requires is-matched-requires-2 match-found-requires returns match-lost-requires returns-2)
+pub match_made_spec : {M : Type 1} → statement M
+match_made_spec = tie.close (tie.spec due-requires current-requires matched-due-requires is-matched-requires is-matched-requires-2 match-found-requires returns match-lost-requires returns-2)

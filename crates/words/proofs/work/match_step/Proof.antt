@@ -2,14 +2,14 @@
 use Rattle.std.proofs.Common.{◌≡◌, ap, ◌∙◌, w32, rules}
 use Rattle.pack.proofs.Signed.{got}
 use Rattle.matcher.specs.declared.Made.{Made}
-use Rattle.matcher.proofs.GatherLaws.{updated-uses, searched-tiles, made-by-cache}
-use Rattle.cache.specs.Uses.{usesOf}
-use Rattle.matcher.specs.Gather.{updated, made_of, madeBy}
+use Rattle.matcher.proofs.GatherLaws.{updated_uses, searched_tiles, made_by_cache}
+use Rattle.cache.specs.Uses.{uses_of}
+use Rattle.matcher.specs.Gather.{updated, made_of, made_by}
 use Rattle.engine.specs.Fixes.{place_of}
-use Rattle.engine.specs.Plans.{matchMade}
-use Rattle.engine.specs.Work.{matchStep}
-use Rattle.words.specs.Words.{engineOf, words}
-use Rattle.words.proofs.WorkLaws.{cache-in, header-in, heading-in, matcher-in}
+use Rattle.engine.specs.Plans.{match_made}
+use Rattle.engine.specs.Work.{match_step}
+use Rattle.words.specs.Words.{engine_of, words}
+use Rattle.words.proofs.WorkLaws.{cache_in, header_in, heading_in, matcher_in}
 use Rattle.words.proofs.work.match_step.Statement.{statement}
 use Rattle.words.proofs.work.match_step.Tie as tie
 
@@ -38,36 +38,36 @@ searched-requires : tie.Need-searched-requires
 searched-requires c κs = search rules
 
 match-ended-requires : tie.Need-match-ended-requires
-match-ended-requires c κs = (c.before.before.before.before.before.before.before.before.before.before.before.before.before.before.requires, rw c.before.searched.ensures (searched-tiles _ _ _ _ _ _ _))
+match-ended-requires c κs = (c.before.before.before.before.before.before.before.before.before.before.before.before.before.before.requires, rw c.before.searched.ensures (searched_tiles _ _ _ _ _ _ _))
 
 returns : tie.Need-returns
-unfolding matchStep
+unfolding match_step
 returns c =
     let start = c.before.before.before.before.before.before.before.before.before.before.before.before.before.before.before in
     let ws = start.args.ws.now in
-    let e = engineOf ws in
+    let e = engine_of ws in
     let arena = start.args.arena.now in
     let point = place_of start.args.fix in
-    let made : madeBy c.before.before.before.landings.result (usesOf e.shared.cache) c.before.before.searched.result ≡ made_of (updated e.follower.matcher e.shared.cache arena e.shared.header point e.follower.sight.heading)
+    let made : made_by c.before.before.before.landings.result (uses_of e.shared.cache) c.before.before.searched.result ≡ made_of (updated e.follower.matcher e.shared.cache arena e.shared.header point e.follower.sight.heading)
     = rw (
       c.before.before.searched.ensures,
       c.before.before.before.landings.ensures,
       c.before.before.before.before.before.Near-of.ensures,
-      cache-in ws,
+      cache_in ws,
       got w32 {z = start.args.fix.lat} c.before.before.before.before.before.before.struct_told.given.0.1,
       got w32 {z = start.args.fix.lon} c.before.before.before.before.before.before.struct_told.given.1.0.1,
       c.before.before.before.before.before.before.before.before.before.before.before.before.matcher.ensures,
       c.before.before.before.before.before.before.before.before.before.before.header.ensures,
       c.before.before.before.before.before.before.before.heading.ensures,
-      matcher-in ws,
-      header-in ws,
-      heading-in ws,
+      matcher_in ws,
+      header_in ws,
+      heading_in ws,
     )
-    (made-by-cache e.follower.matcher e.shared.cache arena e.shared.header point e.follower.sight.heading) in
-    let kept = updated-uses e.follower.matcher e.shared.cache arena e.shared.header point e.follower.sight.heading in (
-      c.match-ended.ensures.0 ∙ ap (λ (x : Made). (matchMade e start.args.fix x).answer) made ∙ rw kept,
-      c.match-ended.ensures.1 ∙ ap (λ (x : Made). words (matchMade e start.args.fix x).engine) made ∙ rw kept,
+    (made_by_cache e.follower.matcher e.shared.cache arena e.shared.header point e.follower.sight.heading) in
+    let kept = updated_uses e.follower.matcher e.shared.cache arena e.shared.header point e.follower.sight.heading in (
+      c.match-ended.ensures.0 ∙ ap (λ (x : Made). (match_made e start.args.fix x).answer) made ∙ rw kept,
+      c.match-ended.ensures.1 ∙ ap (λ (x : Made). words (match_made e start.args.fix x).engine) made ∙ rw kept,
     )
 
-pub match-step-spec : {M : Type 1} → statement M
-match-step-spec = tie.close (tie.spec matcher-requires header-requires element-copy-out-heading element-copy-out-heading-2 heading-requires near-of-requires landings-requires searched-requires match-ended-requires returns)
+pub match_step_spec : {M : Type 1} → statement M
+match_step_spec = tie.close (tie.spec matcher-requires header-requires element-copy-out-heading element-copy-out-heading-2 heading-requires near-of-requires landings-requires searched-requires match-ended-requires returns)

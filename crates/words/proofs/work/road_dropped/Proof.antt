@@ -1,6 +1,6 @@
 -- `work::road_dropped` meets its contract: the words that change are put.
-use Rattle.words.proofs.CountLaws.{accepted-long}
-use Rattle.words.proofs.WorkLaws.{dropped-words}
+use Rattle.words.proofs.CountLaws.{accepted_long}
+use Rattle.words.proofs.WorkLaws.{dropped_words}
 use Rattle.std.proofs.Common.{rules}
 use Rattle.words.proofs.work.road_dropped.Statement.{statement}
 use Rattle.words.proofs.work.road_dropped.Tie as tie
@@ -12,7 +12,7 @@ wrapping-add-u32-requires : tie.Need-wrapping-add-u32-requires
 wrapping-add-u32-requires c κs = search rules
 
 put-word-requires : tie.Need-put-word-requires
-put-word-requires c κs = (search rules, accepted-long c.before.before.before.args.ws.now c.before.before.before.requires)
+put-word-requires c κs = (search rules, accepted_long c.before.before.before.args.ws.now c.before.before.before.requires)
 
 put-word-requires-2 : tie.Need-put-word-requires-2
 put-word-requires-2 c κs = search rules
@@ -20,10 +20,10 @@ put-word-requires-2 c κs = search rules
 returns : tie.Need-returns
 returns c =
     let start = c.before.before.before.before.before.before in
-    (search rules, rw (c.put-word2.ensures.0, c.before.before.put_word.ensures.0) (dropped-words start.args.ws.now start.requires _ c.before.before.before.before.wrapping-add-u32.ensures))
+    (search rules, rw (c.put-word2.ensures.0, c.before.before.put_word.ensures.0) (dropped_words start.args.ws.now start.requires _ c.before.before.before.before.wrapping-add-u32.ensures))
 
-pub road-dropped-spec : {M : Type 1} → statement M
-road-dropped-spec =
+pub road_dropped_spec : {M : Type 1} → statement M
+road_dropped_spec =
     tie.close
     (tie.spec
     element-copy-out-wrapping-add-u32

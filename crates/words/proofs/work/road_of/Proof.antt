@@ -10,5 +10,5 @@ wrapping-add-u32-requires c κs = search rules
 returns : tie.Need-returns
 returns c = rw (got w32 {z = c.before.before.args.found.z_dm} c.struct_told.given.1.1.1.1.1.1.0.1, c.before.wrapping-add-u32.ensures)
 
-pub road-of-spec : {M : Type 1} → statement M
-road-of-spec = tie.close (tie.spec wrapping-add-u32-requires returns)
+pub road_of_spec : {M : Type 1} → statement M
+road_of_spec = tie.close (tie.spec wrapping-add-u32-requires returns)

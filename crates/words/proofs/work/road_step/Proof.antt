@@ -1,9 +1,9 @@
--- `work::road_step` meets its contract: over the numbers that its lookups go by, and over heights of 0 (`road-looked`).
+-- `work::road_step` meets its contract: over the numbers that its lookups go by, and over heights of 0 (`road_looked`).
 use Rattle.std.proofs.Common.{ap, ◌∙◌, rules}
 use Rattle.engine.specs.declared.Stepped.{Stepped}
-use Rattle.words.specs.Words.{engineOf, words}
-use Rattle.words.proofs.LookLaws.{engine-sized}
-use Rattle.words.proofs.WorkLaws.{cache-in, count-in, header-in, horizon-in, road-looked}
+use Rattle.words.specs.Words.{engine_of, words}
+use Rattle.words.proofs.LookLaws.{engine_sized}
+use Rattle.words.proofs.WorkLaws.{cache_in, count_in, header_in, horizon_in, road_looked}
 use Rattle.words.proofs.work.road_step.Statement.{statement}
 use Rattle.words.proofs.work.road_step.Tie as tie
 
@@ -44,11 +44,11 @@ returns : tie.Need-returns
 returns c =
     let start = c.before.before.before.before.before.before.before.before.before.before.before.before.before.before.before.before.before.before.before in
     let ws = start.args.ws.now in
-    let road = rw (c.before.before.before.before.before.before.before.before.before.before.before.before.before.before.before.before.lookups.ensures, cache-in ws, c.before.before.before.before.before.before.before.before.before.size.ensures ∙ count-in ws, c.before.before.before.before.before.before.before.before.before.before.before.before.before.before.header.ensures ∙ header-in ws, c.before.before.before.before.before.before.before.before.before.before.before.before.float.ensures ∙ horizon-in ws) at c.before.before.before.before.before.before.from-looks.ensures in
-    let looked = road-looked (engineOf ws) start.args.fix start.args.found (engine-sized ws) start.args.arena.now in (
+    let road = rw (c.before.before.before.before.before.before.before.before.before.before.before.before.before.before.before.before.lookups.ensures, cache_in ws, c.before.before.before.before.before.before.before.before.before.size.ensures ∙ count_in ws, c.before.before.before.before.before.before.before.before.before.before.before.before.before.before.header.ensures ∙ header_in ws, c.before.before.before.before.before.before.before.before.before.before.before.before.float.ensures ∙ horizon_in ws) at c.before.before.before.before.before.before.from-looks.ensures in
+    let looked = road_looked (engine_of ws) start.args.fix start.args.found (engine_sized ws) start.args.arena.now in (
       rw (c.road-ended.ensures.0, c.before.before.uses-from.ensures, road.0, road.1.0, road.1.1.0, road.1.1.1) (ap (λ (s : Stepped). s.answer) looked),
       rw (c.road-ended.ensures.1, c.before.before.uses-from.ensures, road.0, road.1.0, road.1.1.0, road.1.1.1) (ap (λ (s : Stepped). words s.engine) looked),
     )
 
-pub road-step-spec : {M : Type 1} → statement M
-road-step-spec = tie.close (tie.spec lookups-requires header-requires element-copy-out-float float-requires element-copy-out-size size-requires slice-aggregate-from-looks slice-aggregate-from-looks-2 from-looks-requires uses-from-requires road-ended-requires returns)
+pub road_step_spec : {M : Type 1} → statement M
+road_step_spec = tie.close (tie.spec lookups-requires header-requires element-copy-out-float float-requires element-copy-out-size size-requires slice-aggregate-from-looks slice-aggregate-from-looks-2 from-looks-requires uses-from-requires road-ended-requires returns)

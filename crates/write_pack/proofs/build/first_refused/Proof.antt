@@ -46,8 +46,8 @@ same_length c = search rules
 returns : tie.Need-returns invariant-loop decreases-loop
 returns c = search rules
 
-pub first-refused-spec : {M : Type 1} → statement M
-first-refused-spec =
+pub first_refused_spec : {M : Type 1} → statement M
+first_refused_spec =
     tie.close
     (tie.spec
     invariant-loop

@@ -42,8 +42,8 @@ returns-2 c = search rules
 returns-3 : tie.Need-returns-3 invariant-loop decreases-loop
 returns-3 c = search rules
 
-pub read-digits-spec : {M : Type 1} → statement M
-read-digits-spec =
+pub read_digits_spec : {M : Type 1} → statement M
+read_digits_spec =
     tie.close
     (tie.spec
     invariant-loop

@@ -5,7 +5,7 @@ use mathlib.Core.Path.{◌≡◌, refl, ◌∙◌}
 use native.Mathlib.Omega.{arith}
 use lib.ListN.{length, replicate, drop, length-set}
 use borrow.Author.Rules.{rules}
-use Rattle.writer.proofs.Putting.{cleared_more, cleared-all}
+use Rattle.writer.proofs.Putting.{cleared_more, cleared_all}
 use Rattle.writer.proofs.fields.clear.Statement.{statement}
 use Rattle.writer.proofs.fields.clear.Tie as tie
 
@@ -38,7 +38,7 @@ same_length c = search rules
 returns : tie.Need-returns invariant-loop decreases-loop
 returns c =
     let args = c.before.before.args in
-    c.before.loop.invariant.1.1 ∙ cleared-all args.out.now c.before.loop.i (omega arith) (omega arith)
+    c.before.loop.invariant.1.1 ∙ cleared_all args.out.now c.before.loop.i (omega arith) (omega arith)
 
 pub clear_spec : {M : Type 1} → statement M
 clear_spec =

@@ -1,6 +1,6 @@
 -- `writer::fields::put16` meets its contract: two fields of one byte, side by side.
 use borrow.Author.Rules.{rules}
-use Rattle.writer.proofs.Putting.{join-16}
+use Rattle.writer.proofs.Putting.{join_16}
 use Rattle.writer.proofs.fields.put16.Statement.{statement}
 use Rattle.writer.proofs.fields.put16.Tie as tie
 
@@ -22,7 +22,7 @@ returns c =
     let put8 = c.before.before.before.before.before.before.put8 in
     let pre = c.before.before.before.before.before.before.before.before.before.requires in
     let args = c.before.before.before.before.before.before.before.before.before.args in
-    rw (put82.ensures, put8.ensures) (join-16 args.out.now args.at args.value (pre))
+    rw (put82.ensures, put8.ensures) (join_16 args.out.now args.at args.value (pre))
 
-pub put16-spec : {M : Type 1} → statement M
-put16-spec = tie.close (tie.spec put8-requires add-put8 put8-requires-2 same_length returns)
+pub put16_spec : {M : Type 1} → statement M
+put16_spec = tie.close (tie.spec put8-requires add-put8 put8-requires-2 same_length returns)

@@ -1,6 +1,6 @@
 -- `writer::fields::put32` meets its contract: two fields of two bytes, side by side.
 use borrow.Author.Rules.{rules}
-use Rattle.writer.proofs.Putting.{join-32}
+use Rattle.writer.proofs.Putting.{join_32}
 use Rattle.writer.proofs.fields.put32.Statement.{statement}
 use Rattle.writer.proofs.fields.put32.Tie as tie
 
@@ -22,7 +22,7 @@ returns c =
     let put16 = c.before.before.before.before.before.before.put16 in
     let pre = c.before.before.before.before.before.before.before.before.before.requires in
     let args = c.before.before.before.before.before.before.before.before.before.args in
-    rw (put162.ensures, put16.ensures) (join-32 args.out.now args.at args.value (pre))
+    rw (put162.ensures, put16.ensures) (join_32 args.out.now args.at args.value (pre))
 
-pub put32-spec : {M : Type 1} → statement M
-put32-spec = tie.close (tie.spec put16-requires add-put16 put16-requires-2 same_length returns)
+pub put32_spec : {M : Type 1} → statement M
+put32_spec = tie.close (tie.spec put16-requires add-put16 put16-requires-2 same_length returns)

@@ -1,7 +1,7 @@
 -- `writer::fields::put8` meets its contract: one store is a field of one byte.
 use native.Mathlib.Omega.{arith}
 use borrow.Author.Rules.{rules}
-use Rattle.writer.proofs.Putting.{store-put}
+use Rattle.writer.proofs.Putting.{store_put}
 use Rattle.writer.proofs.fields.put8.Statement.{statement}
 use Rattle.writer.proofs.fields.put8.Tie as tie
 
@@ -15,7 +15,7 @@ same_length : tie.Need-same-length
 same_length c = search rules
 
 returns : tie.Need-returns
-returns c = store-put c.args.out.now c.args.at c.args.value (omega arith)
+returns c = store_put c.args.out.now c.args.at c.args.value (omega arith)
 
-pub put8-spec : {M : Type 1} → statement M
-put8-spec = tie.close (tie.spec cast-out slice-write-out same_length returns)
+pub put8_spec : {M : Type 1} → statement M
+put8_spec = tie.close (tie.spec cast-out slice-write-out same_length returns)

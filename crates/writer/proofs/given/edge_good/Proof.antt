@@ -141,8 +141,8 @@ returns-7 c =
     let if1 = c.before.before.before.before.before.before.before.before.before.before.before.before.if1 in
     rw (lt-ltb _ _ if1.false, lt-ltb _ _ if2.false, le-leb _ _ if3.false, le-leb _ _ if4.false, le-leb _ _ if5.false, le-leb _ _ if6.false) (sym (and-true _))
 
-pub edge-good-spec : {M : Type 1} → statement M
-edge-good-spec =
+pub edge_good_spec : {M : Type 1} → statement M
+edge_good_spec =
     tie.close
     (tie.spec
     mul_at

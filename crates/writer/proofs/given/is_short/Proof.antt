@@ -27,5 +27,5 @@ returns-4 c =
     let args = c.before.before.before.before.args in
     rw c.length-of.ensures (sym (fits args.nodes args.edges args.vertices (omega arith) (omega arith) (omega arith)))
 
-pub is-short-spec : {M : Type 1} → statement M
-is-short-spec = tie.close (tie.spec returns returns-2 returns-3 length-of-requires returns-4)
+pub is_short_spec : {M : Type 1} → statement M
+is_short_spec = tie.close (tie.spec returns returns-2 returns-3 length-of-requires returns-4)

@@ -3,7 +3,7 @@ use Prim.Native.Nat.{◌+◌, ◌*◌}
 use native.Mathlib.Omega.{arith}
 use lib.ListN.{get_or}
 use borrow.Author.Rules.{rules}
-use Rattle.writer.proofs.GivenLaws.{past-size, in_size, follows-first, follows_next}
+use Rattle.writer.proofs.GivenLaws.{past_size, in_size, follows_first, follows_next}
 use Rattle.writer.proofs.given.node_good.Statement.{statement}
 use Rattle.writer.proofs.given.node_good.Tie as tie
 
@@ -31,31 +31,31 @@ shared-slice-read-y c = search rules
 cast-if1 : tie.Need-overflow-cast-if1
 cast-if1 c =
     let args = c.before.before.before.args in
-    let shared-slice-known = c.before.before.shared-slice-known in
-    omega (arith, shared-slice-known.given (args.i * 3))
+    let shared_slice_known = c.before.before.shared-slice-known in
+    omega (arith, shared_slice_known.given (args.i * 3))
 
 returns : tie.Need-returns
 returns c =
     let args = c.before.before.before.before.args in
-    rw (past-size (get_or args.nodes.now (args.i * 3) 0) args.size c.if1.true)
+    rw (past_size (get_or args.nodes.now (args.i * 3) 0) args.size c.if1.true)
 
 cast-if2 : tie.Need-overflow-cast-if2
 cast-if2 c =
     let args = c.before.before.before.before.args in
-    let shared-slice-known = c.before.before.before.shared-slice-known in
-    omega (arith, shared-slice-known.given (args.i * 3 + 1))
+    let shared_slice_known = c.before.before.before.shared-slice-known in
+    omega (arith, shared_slice_known.given (args.i * 3 + 1))
 
 returns-2 : tie.Need-returns-2
 returns-2 c =
     let args = c.before.before.before.before.before.args in
-    let shared-slice-known = c.before.before.before.before.shared-slice-known in
-    rw (in_size (get_or args.nodes.now (args.i * 3) 0) args.size (omega arith) (omega (arith, shared-slice-known.given (args.i * 3))), past-size (get_or args.nodes.now (args.i * 3 + 1) 0) args.size c.if2.true)
+    let shared_slice_known = c.before.before.before.before.shared-slice-known in
+    rw (in_size (get_or args.nodes.now (args.i * 3) 0) args.size (omega arith) (omega (arith, shared_slice_known.given (args.i * 3))), past_size (get_or args.nodes.now (args.i * 3 + 1) 0) args.size c.if2.true)
 
 returns-3 : tie.Need-returns-3
 returns-3 c =
     let args = c.before.before.before.before.before.before.args in
-    let shared-slice-known = c.before.before.before.before.before.shared-slice-known in
-    rw (in_size (get_or args.nodes.now (args.i * 3) 0) args.size (omega arith) (omega (arith, shared-slice-known.given (args.i * 3))), in_size (get_or args.nodes.now (args.i * 3 + 1) 0) args.size (omega arith) (omega (arith, shared-slice-known.given (args.i * 3 + 1))), follows-first args.nodes.now args.i c.if3.true)
+    let shared_slice_known = c.before.before.before.before.before.shared-slice-known in
+    rw (in_size (get_or args.nodes.now (args.i * 3) 0) args.size (omega arith) (omega (arith, shared_slice_known.given (args.i * 3))), in_size (get_or args.nodes.now (args.i * 3 + 1) 0) args.size (omega arith) (omega (arith, shared_slice_known.given (args.i * 3 + 1))), follows_first args.nodes.now args.i c.if3.true)
 
 mul-before : tie.Need-overflow-mul-before
 mul-before c = search rules
@@ -87,11 +87,11 @@ before-requires c κs = search rules
 returns-4 : tie.Need-returns-4
 returns-4 c =
     let args = c.before.before.before.before.before.before.before.before.before.args in
-    let shared-slice-known = c.before.before.before.before.before.before.before.before.shared-slice-known in
-    rw (in_size (get_or args.nodes.now (args.i * 3) 0) args.size (omega arith) (omega (arith, shared-slice-known.given (args.i * 3))), in_size (get_or args.nodes.now (args.i * 3 + 1) 0) args.size (omega arith) (omega (arith, shared-slice-known.given (args.i * 3 + 1))), follows_next args.nodes.now args.i (omega arith), c.before2.ensures)
+    let shared_slice_known = c.before.before.before.before.before.before.before.before.shared-slice-known in
+    rw (in_size (get_or args.nodes.now (args.i * 3) 0) args.size (omega arith) (omega (arith, shared_slice_known.given (args.i * 3))), in_size (get_or args.nodes.now (args.i * 3 + 1) 0) args.size (omega arith) (omega (arith, shared_slice_known.given (args.i * 3 + 1))), follows_next args.nodes.now args.i (omega arith), c.before2.ensures)
 
-pub node-good-spec : {M : Type 1} → statement M
-node-good-spec =
+pub node_good_spec : {M : Type 1} → statement M
+node_good_spec =
     tie.close
     (tie.spec
     mul-x

@@ -24,5 +24,5 @@ returns-4 c =
     let if1 = c.before.before.before.if1 in
     rw (eq-eqb _ _ if1.false, eq-eqb _ _ if2.false, eq-eqb _ _ c.before.if3.false) c.is-short.ensures
 
-pub sized-spec : {M : Type 1} → statement M
-sized-spec = tie.close (tie.spec returns returns-2 returns-3 is-short-requires returns-4)
+pub sized_spec : {M : Type 1} → statement M
+sized_spec = tie.close (tie.spec returns returns-2 returns-3 is-short-requires returns-4)

@@ -1,7 +1,7 @@
 -- `writer::pack_rules::accepts` meets its contract: what `tile::parse` answers tells.
 use mathlib.Core.Path.{sym, ◌∙◌}
 use borrow.Author.Rules.{rules}
-use Rattle.writer.proofs.PackRules.{parse-tile, parse-refused}
+use Rattle.writer.proofs.PackRules.{parse_tile, parse_refused}
 use Rattle.writer.proofs.pack_rules.accepts.Statement.{statement}
 use Rattle.writer.proofs.pack_rules.accepts.Tie as tie
 
@@ -17,12 +17,12 @@ enum-told-2 c = search rules
 returns : tie.Need-returns
 returns c =
     let parse = c.before.before.parse in
-    sym (parse-tile _ _ _ _ (sym parse.ensures ∙ c.enum_told.given.1))
+    sym (parse_tile _ _ _ _ (sym parse.ensures ∙ c.enum_told.given.1))
 
 returns-2 : tie.Need-returns-2
 returns-2 c =
     let parse = c.before.before.parse in
-    sym (parse-refused _ _ _ _ (sym parse.ensures ∙ c.enum-told2.given.1))
+    sym (parse_refused _ _ _ _ (sym parse.ensures ∙ c.enum-told2.given.1))
 
-pub accepts-spec : {M : Type 1} → statement M
-accepts-spec = tie.close (tie.spec parse-requires enum_told enum-told-2 returns returns-2)
+pub accepts_spec : {M : Type 1} → statement M
+accepts_spec = tie.close (tie.spec parse-requires enum_told enum-told-2 returns returns-2)

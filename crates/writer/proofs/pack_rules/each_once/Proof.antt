@@ -6,17 +6,17 @@ use mathlib.Core.Path.{ap, ◌≡◌, sym, ◌∙◌}
 use native.Mathlib.Omega.{arith}
 use lib.ListN.{length, get_or, length-set}
 use borrow.Author.Rules.{rules}
-use Rattle.writer.specs.PackSteps.{rank, start_of, tilesFrom, slot as slot_of}
-use Rattle.writer.specs.PackWritten.{keyIn, noKeyTwice}
-use Rattle.writer.proofs.CutLaws.{start-within, start_back, part-back, start-end, from_all}
-use Rattle.writer.proofs.KeyLaws.{NoneBelow, none_end, none_more, Marked, marked-end, marked_more, once-end, once_more, twice-here}
+use Rattle.writer.specs.PackSteps.{rank, start_of, tiles_from, slot as slot_of}
+use Rattle.writer.specs.PackWritten.{key_in, no_key_twice}
+use Rattle.writer.proofs.CutLaws.{start_within, start_back, part_back, start_end, from_all}
+use Rattle.writer.proofs.KeyLaws.{NoneBelow, none_end, none_more, Marked, marked_end, marked_more, once_end, once_more, twice_here}
 use Rattle.writer.proofs.pack_rules.each_once.Statement.{statement}
 use Rattle.writer.proofs.pack_rules.each_once.Tie as tie
 
 abbrev invariant-loop : tie.invariant-loop
 invariant-loop cols tiles lengths marks₀ end₀ after₀ least₀ marks end after least =
     (after ≤ length lengths)
-    × ((end ≡ start_of lengths after) × ((noKeyTwice (tilesFrom lengths tiles after) ≡ true) × (NoneBelow least lengths tiles after × (Marked cols marks lengths tiles after × (length marks ≡ 0x4_0000)))))
+    × ((end ≡ start_of lengths after) × ((no_key_twice (tiles_from lengths tiles after) ≡ true) × (NoneBelow least lengths tiles after × (Marked cols marks lengths tiles after × (length marks ≡ 0x4_0000)))))
 
 abbrev decreases-loop : tie.decreases-loop
 decreases-loop cols tiles lengths marks₀ end₀ after₀ least₀ marks end after least = after
@@ -25,7 +25,7 @@ loop-holds : tie.Need-loop-init invariant-loop decreases-loop
 loop-holds c =
     let pre = c.before.before.before.requires in
     let args = c.before.before.before.args in
-    (search rules, (sym (start-end _ ∙ pre.1), (once-end _ _ _ (search rules), (none_end _ _ _ _ (search rules), (marked-end args.cols args.marks.now _ _ _ (search rules), pre.0)))))
+    (search rules, (sym (start_end _ ∙ pre.1), (once_end _ _ _ (search rules), (none_end _ _ _ _ (search rules), (marked_end args.cols args.marks.now _ _ _ (search rules), pre.0)))))
 
 sub-i : tie.Need-overflow-sub-i invariant-loop decreases-loop
 sub-i c = search rules
@@ -60,7 +60,7 @@ part-key-in-end c =
     let args = c.before.before.before.before.before.before.args in
     let ns = args.lengths.now in
     let i = loop.after - 1 in
-    omega (arith, loop.invariant, start_back ns i loop.after (omega arith) (omega arith), start-within ns i (omega arith))
+    omega (arith, loop.invariant, start_back ns i loop.after (omega arith) (omega arith), start_within ns i (omega arith))
 
 key-in-requires : tie.Need-key-in-requires invariant-loop decreases-loop
 key-in-requires c κs = tt
@@ -85,13 +85,13 @@ same_length c =
 
 returns : tie.Need-returns invariant-loop decreases-loop
 returns c =
-    let key_in = c.before.before.before.before.key_in in
+    let key_in_call = c.before.before.before.before.key_in in
     let loop = c.before.before.before.before.before.before.before.before.loop in
     let args = c.before.before.before.before.before.before.before.before.before.before.before.before.args in
     let ns = args.lengths.now in
     let bs = args.tiles.now in
     let i = loop.after - 1 in
-    let named = key_in.ensures ∙ ap keyIn (part-back ns bs i loop.after loop.end (omega arith) (omega arith) loop.invariant.1.0) in sym (twice-here ns bs i loop.after (omega arith) (omega arith) (rw named at (sym c.before.again.ensures ∙ c.if1.true)))
+    let named = key_in_call.ensures ∙ ap key_in (part_back ns bs i loop.after loop.end (omega arith) (omega arith) loop.invariant.1.0) in sym (twice_here ns bs i loop.after (omega arith) (omega arith) (rw named at (sym c.before.again.ensures ∙ c.if1.true)))
 
 rank-requires : tie.Need-rank-requires invariant-loop decreases-loop
 rank-requires c κs = tt
@@ -112,13 +112,13 @@ loop-again c =
     let if1 = c.before.before.if1 in
     let again = c.before.before.before.again in
     let slot = c.before.before.before.before.before.slot in
-    let key_in = c.before.before.before.before.before.before.key_in in
+    let key_in_call = c.before.before.before.before.before.before.key_in in
     let loop = c.before.before.before.before.before.before.before.before.before.before.loop in
     let args = c.before.before.before.before.before.before.before.before.before.before.before.before.before.before.args in
     let ns = args.lengths.now in
     let bs = args.tiles.now in
     let i = loop.after - 1 in
-    let named = key_in.ensures ∙ ap keyIn (part-back ns bs i loop.after loop.end (omega arith) (omega arith) loop.invariant.1.0) in (
+    let named = key_in_call.ensures ∙ ap key_in (part_back ns bs i loop.after loop.end (omega arith) (omega arith) loop.invariant.1.0) in (
       omega (arith, loop.invariant.0),
       (
         omega (arith, loop.invariant.1.0, start_back ns i loop.after (omega arith) (omega arith)),
@@ -141,8 +141,8 @@ same-length-2 c = c.before.loop.invariant.1.1.1.1.1 ∙ sym c.before.before.befo
 returns-2 : tie.Need-returns-2 invariant-loop decreases-loop
 returns-2 c = let none : c.before.loop.after ≡ 0 = omega arith in sym (rw (none, from_all) at c.before.loop.invariant.1.1.0)
 
-pub each-once-spec : {M : Type 1} → statement M
-each-once-spec =
+pub each_once_spec : {M : Type 1} → statement M
+each_once_spec =
     tie.close
     (tie.spec
     invariant-loop

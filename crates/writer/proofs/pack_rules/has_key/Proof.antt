@@ -4,16 +4,16 @@ use mathlib.Core.Path.{◌≡◌, sym, ◌∙◌, refl}
 use native.Mathlib.Omega.{arith}
 use lib.ListN.{length}
 use borrow.Author.Rules.{rules}
-use Rattle.writer.specs.PackSteps.{start_of, tilesFrom}
+use Rattle.writer.specs.PackSteps.{start_of, tiles_from}
 use Rattle.writer.specs.PackWritten.{has_key}
-use Rattle.writer.proofs.CutLaws.{part-is, start-more, start-within}
-use Rattle.writer.proofs.KeyLaws.{key_here, key-on, key-end}
+use Rattle.writer.proofs.CutLaws.{part_is, start_more, start_within}
+use Rattle.writer.proofs.KeyLaws.{key_here, key_on, key_end}
 use Rattle.writer.proofs.pack_rules.has_key.Statement.{statement}
 use Rattle.writer.proofs.pack_rules.has_key.Tie as tie
 
 abbrev invariant-loop : tie.invariant-loop
 invariant-loop key tiles lengths first start at₀ i₀ at i =
-    (at ≡ start_of lengths i) × (has_key key (tilesFrom lengths tiles i) ≡ has_key key (tilesFrom lengths tiles first))
+    (at ≡ start_of lengths i) × (has_key key (tiles_from lengths tiles i) ≡ has_key key (tiles_from lengths tiles first))
 
 abbrev decreases-loop : tie.decreases-loop
 decreases-loop key tiles lengths first start at₀ i₀ at i = length lengths - i
@@ -39,7 +39,7 @@ add-end c =
     let loop = c.before.before.loop in
     let args = c.before.before.before.before.before.args in
     let ns = args.lengths.now in
-    omega (arith, start-within ns loop.i (omega arith))
+    omega (arith, start_within ns loop.i (omega arith))
 
 sub-is-key : tie.Need-overflow-sub-is-key invariant-loop decreases-loop
 sub-is-key c = search rules
@@ -52,19 +52,19 @@ part-is-key-end c =
     let loop = c.before.before.loop in
     let args = c.before.before.before.before.before.args in
     let ns = args.lengths.now in
-    omega (arith, start-within ns loop.i (omega arith))
+    omega (arith, start_within ns loop.i (omega arith))
 
 is-key-requires : tie.Need-is-key-requires invariant-loop decreases-loop
 is-key-requires c κs = tt
 
 returns : tie.Need-returns invariant-loop decreases-loop
 returns c =
-    let loop-test = c.before.before.before.before.loop-test in
+    let loop_test = c.before.before.before.before.loop-test in
     let loop = c.before.before.before.before.before.loop in
     let args = c.before.before.before.before.before.before.before.before.args in
     let ns = args.lengths.now in
     let bs = args.tiles.now in
-    sym (key_here _ ns bs loop.i loop-test.true (rw (part-is ns bs loop.i loop.at loop.invariant.0) at (sym c.before.is_key.ensures ∙ c.if1.true))) ∙ loop.invariant.1
+    sym (key_here _ ns bs loop.i loop_test.true (rw (part_is ns bs loop.i loop.at loop.invariant.0) at (sym c.before.is_key.ensures ∙ c.if1.true))) ∙ loop.invariant.1
 
 add-i : tie.Need-overflow-add-i invariant-loop decreases-loop
 add-i c = search rules
@@ -74,18 +74,18 @@ loop-less c = search rules
 
 loop-again : tie.Need-loop-preserved invariant-loop decreases-loop
 loop-again c =
-    let loop-test = c.before.before.before.before.loop-test in
+    let loop_test = c.before.before.before.before.loop-test in
     let loop = c.before.before.before.before.before.loop in
     let args = c.before.before.before.before.before.before.before.before.args in
     let ns = args.lengths.now in
     let bs = args.tiles.now in
-    (omega (arith, start-more ns loop.i loop-test.true), sym (key-on _ ns bs loop.i loop-test.true (rw (part-is ns bs loop.i loop.at loop.invariant.0) at (sym c.before.is_key.ensures ∙ c.if1.false))) ∙ loop.invariant.1)
+    (omega (arith, start_more ns loop.i loop_test.true), sym (key_on _ ns bs loop.i loop_test.true (rw (part_is ns bs loop.i loop.at loop.invariant.0) at (sym c.before.is_key.ensures ∙ c.if1.false))) ∙ loop.invariant.1)
 
 returns-2 : tie.Need-returns-2 invariant-loop decreases-loop
-returns-2 c = sym (key-end _ _ _ _ (search rules)) ∙ c.before.loop.invariant.1
+returns-2 c = sym (key_end _ _ _ _ (search rules)) ∙ c.before.loop.invariant.1
 
-pub has-key-spec : {M : Type 1} → statement M
-has-key-spec =
+pub has_key_spec : {M : Type 1} → statement M
+has_key_spec =
     tie.close
     (tie.spec
     invariant-loop

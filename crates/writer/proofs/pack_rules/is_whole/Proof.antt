@@ -8,7 +8,7 @@ use borrow.Author.Rules.{rules}
 use borrow.Author.Tests.{ne_eqb}
 use Rattle.writer.specs.PackSteps.{start_of}
 use Rattle.writer.specs.PackWritten.{sum_of}
-use Rattle.writer.proofs.CutLaws.{start-zero, start-more, start-within, start-end}
+use Rattle.writer.proofs.CutLaws.{start_zero, start_more, start_within, start_end}
 use Rattle.writer.proofs.pack_rules.is_whole.Statement.{statement}
 use Rattle.writer.proofs.pack_rules.is_whole.Tie as tie
 
@@ -19,7 +19,7 @@ abbrev decreases-loop : tie.decreases-loop
 decreases-loop tiles lengths at₀ i₀ at i = length lengths - i
 
 loop-holds : tie.Need-loop-init invariant-loop decreases-loop
-loop-holds c = (search rules, (search rules, sym (start-zero _)))
+loop-holds c = (search rules, (search rules, sym (start_zero _)))
 
 mul_next : tie.Need-overflow-mul-next invariant-loop decreases-loop
 mul_next c = search rules
@@ -41,7 +41,7 @@ returns c =
     let args = c.before.before.before.before.args in
     let ns = args.lengths.now in
     let bs = args.tiles.now in
-    let short : length bs - loop.at < get_or ns loop.i 0 = c.if1.true in sym (ne_eqb (sum_of ns) (length bs) (λ e. omega (arith, loop.invariant, start-within ns loop.i (omega arith))))
+    let short : length bs - loop.at < get_or ns loop.i 0 = c.if1.true in sym (ne_eqb (sum_of ns) (length bs) (λ e. omega (arith, loop.invariant, start_within ns loop.i (omega arith))))
 
 add_at : tie.Need-overflow-add-at invariant-loop decreases-loop
 add_at c = search rules
@@ -57,17 +57,17 @@ loop-again c =
     let loop = c.before.before.before.loop in
     let args = c.before.before.before.before.args in
     let ns = args.lengths.now in
-    (omega arith, (omega arith, omega (arith, start-more ns loop.i (omega arith))))
+    (omega arith, (omega arith, omega (arith, start_more ns loop.i (omega arith))))
 
 returns-2 : tie.Need-returns-2 invariant-loop decreases-loop
 returns-2 c =
     let args = c.before.before.args in
     let ns = args.lengths.now in
     let bs = args.tiles.now in
-    let full : c.before.loop.i ≡ length ns = omega arith in ap (λ (n : ℕ). eqb n (length bs)) (c.before.loop.invariant.1.1 ∙ ap (start_of ns) full ∙ start-end _)
+    let full : c.before.loop.i ≡ length ns = omega arith in ap (λ (n : ℕ). eqb n (length bs)) (c.before.loop.invariant.1.1 ∙ ap (start_of ns) full ∙ start_end _)
 
-pub is-whole-spec : {M : Type 1} → statement M
-is-whole-spec =
+pub is_whole_spec : {M : Type 1} → statement M
+is_whole_spec =
     tie.close
     (tie.spec
     invariant-loop

@@ -12,5 +12,5 @@ u16-at-requires-2 c κs = search rules
 returns : tie.Need-returns
 returns c = rw (c.before.u16-at.ensures, c.u16-at2.ensures)
 
-pub key-in-spec : {M : Type 1} → statement M
-key-in-spec = tie.close (tie.spec u16-at-requires u16-at-requires-2 returns)
+pub key_in_spec : {M : Type 1} → statement M
+key_in_spec = tie.close (tie.spec u16-at-requires u16-at-requires-2 returns)

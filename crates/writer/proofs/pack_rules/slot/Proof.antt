@@ -26,5 +26,5 @@ returns : tie.Need-returns
 unfolding slot
 returns c = (refl, mod-lt _ (omega arith))
 
-pub slot-spec : {M : Type 1} → statement M
-slot-spec = tie.close (tie.spec cast-result mul-result cast-result-2 add-result returns)
+pub slot_spec : {M : Type 1} → statement M
+slot_spec = tie.close (tie.spec cast-result mul-result cast-result-2 add-result returns)

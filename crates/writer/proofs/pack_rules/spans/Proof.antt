@@ -1,8 +1,8 @@
 -- `writer::pack_rules::spans` meets its contract. The far end fits 64 bits, so its test is the definition's.
 use native.Mathlib.Omega.{arith}
 use lib.IntN.{negsuc}
-use Rattle.pack.proofs.Rise.{small, rise-is, sum_fits, sum_is}
-use Rattle.pack.proofs.Signed.{wide, widens, below, not-below}
+use Rattle.pack.proofs.Rise.{small, rise_is, sum_fits, sum_is}
+use Rattle.pack.proofs.Signed.{wide, widens, below, not_below}
 use Rattle.writer.proofs.pack_rules.spans.Statement.{statement}
 use Rattle.writer.proofs.pack_rules.spans.Tie as tie
 
@@ -20,15 +20,15 @@ cast-to-2 c = record { sfits = omega (arith, small c.before.ranges.tiles c.befor
 
 add-to : tie.Need-overflow-add-to
 add-to c =
-    rw (wide c.before.ranges.from, rise-is c.before.ranges.tiles c.before.ranges.size)
+    rw (wide c.before.ranges.from, rise_is c.before.ranges.tiles c.before.ranges.size)
     (sum_fits c.before.ranges.tiles c.before.ranges.size c.before.ranges.from)
 
 returns-2 : tie.Need-returns-2
 returns-2 c =
     rw (
       sum_is c.before.ranges.tiles c.before.ranges.size c.before.ranges.from,
-      not-below c.before.ranges.from (negsuc 359999999) c.if1.false,
+      not_below c.before.ranges.from (negsuc 359999999) c.if1.false,
     )
 
-pub spans-spec : {M : Type 1} → statement M
-spans-spec = tie.close (tie.spec returns cast-to mul-to cast-to-2 add-to returns-2)
+pub spans_spec : {M : Type 1} → statement M
+spans_spec = tie.close (tie.spec returns cast-to mul-to cast-to-2 add-to returns-2)

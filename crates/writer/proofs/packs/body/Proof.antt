@@ -8,7 +8,7 @@ use lib.Seq.{length_front, length-take-le}
 use borrow.Author.Rules.{rules}
 use Rattle.pack.proofs.Rise.{square}
 use Rattle.writer.specs.PackSteps.{given}
-use Rattle.writer.proofs.LayLaws.{begun, AllLaid, laid-first, laid-behind, laid-source, laid-fits, laid_next, laid-all}
+use Rattle.writer.proofs.LayLaws.{begun, AllLaid, laid_first, laid_behind, laid_source, laid_fits, laid_next, laid_all}
 use Rattle.writer.proofs.packs.body.Statement.{statement}
 use Rattle.writer.proofs.packs.body.Tie as tie
 
@@ -52,26 +52,26 @@ place-tiles-requires c κs =
 
 loop-holds : tie.Need-loop-init invariant-loop decreases-loop
 loop-holds c =
-    let place-tiles = c.before.before.place-tiles in
+    let place_tiles = c.before.before.place-tiles in
     let args = c.before.before.before.before.before.before.before.before.before.args in
     let bs = args.tiles.now in
     let count = args.grid.rows * args.grid.cols in
     let last = count * 8 in
-    let dir = place-tiles.new.1.1.1.0 in
+    let dir = place_tiles.new.1.1.1.0 in
     let began = dir ++ drop last args.out.now in
     let rest = drop last began in
-    (omega arith, (refl, laid-first bs count rest began last refl))
+    (omega arith, (refl, laid_first bs count rest began last refl))
 
 mul-lay : tie.Need-overflow-mul-lay invariant-loop decreases-loop
 mul-lay c =
-    let struct-known2 = c.before.before.before.before.before.before.before.struct-known2 in
+    let struct_known2 = c.before.before.before.before.before.before.before.struct-known2 in
     let struct_known = c.before.before.before.before.before.before.before.before.struct_known in
-    omega (arith, square struct_known.given.1.1.1.0 struct-known2.given.1.1.1.1.0)
+    omega (arith, square struct_known.given.1.1.1.0 struct_known2.given.1.1.1.1.0)
 
 lay-requires : tie.Need-lay-requires invariant-loop decreases-loop
 lay-requires c κs =
     let loop = c.before.before.loop in
-    let place-tiles = c.before.before.before.before.before.place-tiles in
+    let place_tiles = c.before.before.before.before.before.place-tiles in
     let args = c.before.before.before.before.before.before.before.before.before.before.before.before.args in
     let pre = c.before.before.before.before.before.before.before.before.before.before.before.before.requires in
     let ns = args.lengths.now in
@@ -79,12 +79,12 @@ lay-requires c κs =
     let g = given args.grid bs ns in
     let count = args.grid.rows * args.grid.cols in
     let last = count * 8 in
-    let dir = place-tiles.new.1.1.1.0 in
+    let dir = place_tiles.new.1.1.1.0 in
     let began = dir ++ drop last args.out.now in
     let rest = drop last began in
-    let begins = begun g bs count dir (drop last args.out.now) pre.0 refl refl place-tiles.ensures in
-    let long : length loop.out ≡ length args.out.now = loop.invariant.1.0 ∙ length_front args.out.now dir last place-tiles.auto.1.1.1.0 in
-    (laid-behind bs count (omega (arith, pre)) rest began loop.place c.before.loop-test.true loop.out loop.at loop.invariant.1.1 g begins, (laid-source bs count (omega (arith, pre)) rest began loop.place c.before.loop-test.true loop.out loop.at loop.invariant.1.1 g begins, (omega (arith, laid-fits bs count (omega (arith, pre)) rest began loop.place c.before.loop-test.true loop.out loop.at loop.invariant.1.1 g begins, pre), omega (arith, pre))))
+    let begins = begun g bs count dir (drop last args.out.now) pre.0 refl refl place_tiles.ensures in
+    let long : length loop.out ≡ length args.out.now = loop.invariant.1.0 ∙ length_front args.out.now dir last place_tiles.auto.1.1.1.0 in
+    (laid_behind bs count (omega (arith, pre)) rest began loop.place c.before.loop-test.true loop.out loop.at loop.invariant.1.1 g begins, (laid_source bs count (omega (arith, pre)) rest began loop.place c.before.loop-test.true loop.out loop.at loop.invariant.1.1 g begins, (omega (arith, laid_fits bs count (omega (arith, pre)) rest began loop.place c.before.loop-test.true loop.out loop.at loop.invariant.1.1 g begins, pre), omega (arith, pre))))
 
 add-place : tie.Need-overflow-add-place invariant-loop decreases-loop
 add-place c = search rules
@@ -95,31 +95,31 @@ loop-less c = search rules
 loop-again : tie.Need-loop-preserved invariant-loop decreases-loop
 loop-again c =
     let lay = c.before.before.lay in
-    let loop-test = c.before.before.before.before.loop-test in
+    let loop_test = c.before.before.before.before.loop-test in
     let loop = c.before.before.before.before.before.loop in
-    let place-tiles = c.before.before.before.before.before.before.before.before.place-tiles in
+    let place_tiles = c.before.before.before.before.before.before.before.before.place-tiles in
     let args = c.before.before.before.before.before.before.before.before.before.before.before.before.before.before.before.args in
     let pre = c.before.before.before.before.before.before.before.before.before.before.before.before.before.before.before.requires in
     let bs = args.tiles.now in
     let count = args.grid.rows * args.grid.cols in
     let last = count * 8 in
-    let dir = place-tiles.new.1.1.1.0 in
+    let dir = place_tiles.new.1.1.1.0 in
     let began = dir ++ drop last args.out.now in
     let rest = drop last began in
-    (omega (arith, loop-test.true), (lay.auto.1.0 ∙ loop.invariant.1.0, λ g b. laid_next bs count (omega (arith, pre)) rest began loop.place loop-test.true loop.out loop.at loop.invariant.1.1 g b lay.new.1.0 lay.result lay.ensures.1 lay.ensures.0))
+    (omega (arith, loop_test.true), (lay.auto.1.0 ∙ loop.invariant.1.0, λ g b. laid_next bs count (omega (arith, pre)) rest began loop.place loop_test.true loop.out loop.at loop.invariant.1.1 g b lay.new.1.0 lay.result lay.ensures.1 lay.ensures.0))
 
 same_length : tie.Need-same-length invariant-loop decreases-loop
 same_length c =
-    let place-tiles = c.before.before.before.before.place-tiles in
+    let place_tiles = c.before.before.before.before.place-tiles in
     let args = c.before.before.before.before.before.before.before.before.before.before.before.args in
     let count = args.grid.rows * args.grid.cols in
     let last = count * 8 in
-    let dir = place-tiles.new.1.1.1.0 in
-    c.before.loop.invariant.1.0 ∙ length_front args.out.now dir last place-tiles.auto.1.1.1.0
+    let dir = place_tiles.new.1.1.1.0 in
+    c.before.loop.invariant.1.0 ∙ length_front args.out.now dir last place_tiles.auto.1.1.1.0
 
 returns : tie.Need-returns invariant-loop decreases-loop
 returns c =
-    let place-tiles = c.before.before.before.before.place-tiles in
+    let place_tiles = c.before.before.before.before.place-tiles in
     let args = c.before.before.before.before.before.before.before.before.before.before.before.args in
     let pre = c.before.before.before.before.before.before.before.before.before.before.before.requires in
     let ns = args.lengths.now in
@@ -127,15 +127,15 @@ returns c =
     let g = given args.grid bs ns in
     let count = args.grid.rows * args.grid.cols in
     let last = count * 8 in
-    let dir = place-tiles.new.1.1.1.0 in
+    let dir = place_tiles.new.1.1.1.0 in
     let began = dir ++ drop last args.out.now in
     let rest = drop last began in
-    let begins = begun g bs count dir (drop last args.out.now) pre.0 refl refl place-tiles.ensures in
+    let begins = begun g bs count dir (drop last args.out.now) pre.0 refl refl place_tiles.ensures in
     let full : c.before.loop.place ≡ count = omega (arith, c.loop-test.false, c.before.loop.invariant.0) in
-    laid-all g pre.0 rest c.before.loop.out c.before.loop.at (omega (arith, length-drop last began, length_front args.out.now dir last place-tiles.auto.1.1.1.0, pre)) (rw full at (c.before.loop.invariant.1.1 g begins))
+    laid_all g pre.0 rest c.before.loop.out c.before.loop.at (omega (arith, length-drop last began, length_front args.out.now dir last place_tiles.auto.1.1.1.0, pre)) (rw full at (c.before.loop.invariant.1.1 g begins))
 
-pub body-spec : {M : Type 1} → statement M
-body-spec =
+pub body_spec : {M : Type 1} → statement M
+body_spec =
     tie.close
     (tie.spec
     invariant-loop

@@ -27,6 +27,6 @@ mul-result-2 c =
 returns : tie.Need-returns
 returns c = search rules
 
-pub entry-of-spec : {M : Type 1} → statement M
-entry-of-spec =
+pub entry_of_spec : {M : Type 1} → statement M
+entry_of_spec =
     tie.close (tie.spec cast-result mul-result cast-result-2 add-result mul-result-2 returns)

@@ -7,9 +7,9 @@ use mir.Syntax.{w32}
 use borrow.Author.Rules.{rules}
 use Rattle.pack.proofs.Signed.{got}
 use Rattle.writer.specs.PackSteps.{given}
-use Rattle.writer.specs.PackWritten.{total, packBytes}
+use Rattle.writer.specs.PackWritten.{total, pack_bytes}
 use Rattle.writer.proofs.PlaceLaws.{sum_is}
-use Rattle.writer.proofs.WriteLaws.{count_fits, part_length, part-back}
+use Rattle.writer.proofs.WriteLaws.{count_fits, part_length, part_back}
 use Rattle.writer.proofs.packs.fill.Statement.{statement}
 use Rattle.writer.proofs.packs.fill.Tie as tie
 
@@ -77,7 +77,7 @@ same_length : tie.Need-same-length
 same_length c = search rules
 
 returns : tie.Need-returns
-unfolding packBytes
+unfolding pack_bytes
 returns c =
     let body = c.before.before.body in
     let sector = c.before.before.before.before.before.before.sector in
@@ -90,7 +90,7 @@ returns c =
     let first = sector.new.0 in
     let front : length first ≡ 512 = sector.auto.0 ∙ length-take-le 512 args.out.now (omega (arith, pre)) in
     let ends : length args.out.now ≡ total g = omega (arith, pre, sum_is g pre.0) in
-    part-back first (drop 512 args.out.now) body.new.1.1.1.0 front ∙ rw (sector.ensures, body.ensures, got w32 {z = args.grid.south} struct_told.given.0.1, got w32 {z = args.grid.west} struct_told.given.1.0.1, ends)
+    part_back first (drop 512 args.out.now) body.new.1.1.1.0 front ∙ rw (sector.ensures, body.ensures, got w32 {z = args.grid.south} struct_told.given.0.1, got w32 {z = args.grid.west} struct_told.given.1.0.1, ends)
 
 pub fill_spec : {M : Type 1} → statement M
 fill_spec =

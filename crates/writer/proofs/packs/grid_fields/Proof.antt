@@ -44,16 +44,16 @@ returns c =
     let put16 = c.before.before.before.before.before.before.before.put16 in
     let wide = c.before.before.before.before.before.before.before.before.wide in
     let put323 = c.before.before.before.before.before.before.before.before.before.before.before.before.put323 in
-    let u32-of-i322 = c.before.before.before.before.before.before.before.before.before.before.before.before.before.u32-of-i322 in
-    let struct-told2 = c.before.before.before.before.before.before.before.before.before.before.before.before.before.before.struct-told2 in
+    let u32_of_i322 = c.before.before.before.before.before.before.before.before.before.before.before.before.before.u32-of-i322 in
+    let struct_told2 = c.before.before.before.before.before.before.before.before.before.before.before.before.before.before.struct-told2 in
     let put322 = c.before.before.before.before.before.before.before.before.before.before.before.before.before.before.before.before.before.before.put322 in
-    let u32-of-i32 = c.before.before.before.before.before.before.before.before.before.before.before.before.before.before.before.before.before.before.before.u32-of-i32 in
+    let u32_of_i32 = c.before.before.before.before.before.before.before.before.before.before.before.before.before.before.before.before.before.before.before.u32-of-i32 in
     let struct_told = c.before.before.before.before.before.before.before.before.before.before.before.before.before.before.before.before.before.before.before.before.struct_told in
     let put32 = c.before.before.before.before.before.before.before.before.before.before.before.before.before.before.before.before.before.before.before.before.before.before.before.before.put32 in
-    rw (put162.ensures, wide2.ensures, put16.ensures, wide.ensures, put323.ensures, rw (got w32 struct-told2.given.1.1.0.1) at u32-of-i322.ensures, put322.ensures, rw (got w32 struct_told.given.1.0.1) at u32-of-i32.ensures, put32.ensures)
+    rw (put162.ensures, wide2.ensures, put16.ensures, wide.ensures, put323.ensures, rw (got w32 struct_told2.given.1.1.0.1) at u32_of_i322.ensures, put322.ensures, rw (got w32 struct_told.given.1.0.1) at u32_of_i32.ensures, put32.ensures)
 
-pub grid-fields-spec : {M : Type 1} → statement M
-grid-fields-spec =
+pub grid_fields_spec : {M : Type 1} → statement M
+grid_fields_spec =
     tie.close
     (tie.spec
     put32-requires

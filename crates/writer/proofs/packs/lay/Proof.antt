@@ -52,15 +52,15 @@ returns : tie.Need-returns
 returns c =
     let copy = c.before.before.copy in
     let put32 = c.before.before.before.before.before.before.before.put32 in
-    let offset-of = c.before.before.before.before.before.before.before.before.offset-of in
-    let u32-at2 = c.before.before.before.before.before.before.before.before.before.before.u32-at2 in
-    let u32-at = c.before.before.before.before.before.before.before.before.before.before.before.before.u32-at in
+    let offset_of = c.before.before.before.before.before.before.before.before.offset-of in
+    let u32_at2 = c.before.before.before.before.before.before.before.before.before.before.u32-at2 in
+    let u32_at = c.before.before.before.before.before.before.before.before.before.before.before.before.u32-at in
     let args = c.before.before.before.before.before.before.before.before.before.before.before.before.before.before.before.before.args in
     let pre = c.before.before.before.before.before.before.before.before.before.before.before.before.before.before.before.before.requires in
-    (rw u32-at2.ensures, copy.ensures ∙ (copy_is put32.new.0 args.at args.tiles.now u32-at.result u32-at2.result (omega (arith, pre, u32-at.ensures, u32-at2.ensures)) ∙ rw (put32.ensures, offset-of.ensures, u32-at.ensures, u32-at2.ensures)))
+    (rw u32_at2.ensures, copy.ensures ∙ (copy_is put32.new.0 args.at args.tiles.now u32_at.result u32_at2.result (omega (arith, pre, u32_at.ensures, u32_at2.ensures)) ∙ rw (put32.ensures, offset_of.ensures, u32_at.ensures, u32_at2.ensures)))
 
-pub lay-spec : {M : Type 1} → statement M
-lay-spec =
+pub lay_spec : {M : Type 1} → statement M
+lay_spec =
     tie.close
     (tie.spec
     u32-at-requires

@@ -16,5 +16,5 @@ cast-result c = search rules
 returns-2 : tie.Need-returns-2
 returns-2 c = rw (ne_eqb _ _ c.if1.false)
 
-pub offset-of-spec : {M : Type 1} → statement M
-offset-of-spec = tie.close (tie.spec returns add-result cast-result returns-2)
+pub offset_of_spec : {M : Type 1} → statement M
+offset_of_spec = tie.close (tie.spec returns add-result cast-result returns-2)

@@ -28,8 +28,8 @@ returns c =
     let put32 = c.before.before.before.before.before.before.before.before.before.before.before.before.before.before.put32 in
     rw (put324.ensures, put323.ensures, put322.ensures, put32.ensures)
 
-pub part-fields-spec : {M : Type 1} → statement M
-part-fields-spec =
+pub part_fields_spec : {M : Type 1} → statement M
+part_fields_spec =
     tie.close
     (tie.spec
     put32-requires

@@ -5,9 +5,9 @@ use native.Mathlib.Omega.{arith}
 use lib.ListN.{length, replicate}
 use borrow.Author.Rules.{rules}
 use Rattle.writer.specs.PackSteps.{start_of, source, long, entries, given}
-use Rattle.writer.proofs.CutLaws.{start_back, start-within, start-end}
-use Rattle.writer.proofs.EntryBytes.{entries-zero, length-entries}
-use Rattle.writer.proofs.PlaceLaws.{turn-fits, turn-start, turn, source-end, long-end, sum_is}
+use Rattle.writer.proofs.CutLaws.{start_back, start_within, start_end}
+use Rattle.writer.proofs.EntryBytes.{entries_zero, length-entries}
+use Rattle.writer.proofs.PlaceLaws.{turn_fits, turn_start, turn, source_end, long_end, sum_is}
 use Rattle.writer.proofs.packs.place_tiles.Statement.{statement}
 use Rattle.writer.proofs.packs.place_tiles.Tie as tie
 
@@ -32,7 +32,7 @@ loop-holds c =
     let bs = args.tiles.now in
     let g = given args.grid bs ns in
     let g = g in
-    let n = length ns in (search rules, (sym (start-end ns ∙ sum_is g pre.0), clear.ensures ∙ (ap (λ (k : ℕ). replicate k 0) pre.1.1 ∙ entries-zero (source g n) (long g n) (args.grid.rows * args.grid.cols) (λ q h. source-end g n q (search rules)) (λ q h. long-end g n q (search rules)))))
+    let n = length ns in (search rules, (sym (start_end ns ∙ sum_is g pre.0), clear.ensures ∙ (ap (λ (k : ℕ). replicate k 0) pre.1.1 ∙ entries_zero (source g n) (long g n) (args.grid.rows * args.grid.cols) (λ q h. source_end g n q (search rules)) (λ q h. long_end g n q (search rules)))))
 
 sub-i : tie.Need-overflow-sub-i invariant-loop decreases-loop
 sub-i c = search rules
@@ -70,7 +70,7 @@ part-key-in-end c =
     let bs = args.tiles.now in
     let g = given args.grid bs ns in
     let i = loop.after - 1 in
-    omega (arith, loop.invariant, sum_is g pre.0, start_back ns i loop.after (omega arith) (omega arith), start-within ns i (omega arith))
+    omega (arith, loop.invariant, sum_is g pre.0, start_back ns i loop.after (omega arith) (omega arith), start_within ns i (omega arith))
 
 key-in-requires : tie.Need-key-in-requires invariant-loop decreases-loop
 key-in-requires c κs = tt
@@ -87,7 +87,7 @@ cast-put32 c =
     let bs = args.tiles.now in
     let g = given args.grid bs ns in
     let i = loop.after - 1 in
-    omega (arith, pre, loop.invariant, sum_is g pre.0, start_back ns i loop.after (omega arith) (omega arith), start-within ns i (omega arith))
+    omega (arith, pre, loop.invariant, sum_is g pre.0, start_back ns i loop.after (omega arith) (omega arith), start_within ns i (omega arith))
 
 put32-requires : tie.Need-put32-requires invariant-loop decreases-loop
 put32-requires c κs =
@@ -98,11 +98,11 @@ put32-requires c κs =
     let ns = args.lengths.now in
     let bs = args.tiles.now in
     let g = given args.grid bs ns in
-    omega (arith, turn-fits g pre.0 loop.after loop.end c.before.entry-of.result key_in.result (omega arith) loop.invariant.0 loop.invariant.1.0 key_in.ensures c.before.entry-of.ensures, ap length loop.invariant.1.1 ∙ length-entries _ _ _)
+    omega (arith, turn_fits g pre.0 loop.after loop.end c.before.entry-of.result key_in.result (omega arith) loop.invariant.0 loop.invariant.1.0 key_in.ensures c.before.entry-of.ensures, ap length loop.invariant.1.1 ∙ length-entries _ _ _)
 
 add-put32 : tie.Need-overflow-add-put32 invariant-loop decreases-loop
 add-put32 c =
-    let entry-of = c.before.before.before.before.before.entry-of in
+    let entry_of = c.before.before.before.before.before.entry-of in
     let key_in = c.before.before.before.before.before.before.key_in in
     let loop = c.before.before.before.before.before.before.before.before.before.before.loop in
     let args = c.before.before.before.before.before.before.before.before.before.before.before.before.before.before.before.before.before.before.args in
@@ -110,12 +110,12 @@ add-put32 c =
     let ns = args.lengths.now in
     let bs = args.tiles.now in
     let g = given args.grid bs ns in
-    omega (arith, turn-fits g pre.0 loop.after loop.end entry-of.result key_in.result (omega arith) loop.invariant.0 loop.invariant.1.0 key_in.ensures entry-of.ensures, ap length loop.invariant.1.1 ∙ length-entries _ _ _)
+    omega (arith, turn_fits g pre.0 loop.after loop.end entry_of.result key_in.result (omega arith) loop.invariant.0 loop.invariant.1.0 key_in.ensures entry_of.ensures, ap length loop.invariant.1.1 ∙ length-entries _ _ _)
 
 put32-requires-2 : tie.Need-put32-requires-2 invariant-loop decreases-loop
 put32-requires-2 c κs =
     let put32 = c.before.before.before.put32 in
-    let entry-of = c.before.before.before.before.before.entry-of in
+    let entry_of = c.before.before.before.before.before.entry-of in
     let key_in = c.before.before.before.before.before.before.key_in in
     let loop = c.before.before.before.before.before.before.before.before.before.before.loop in
     let args = c.before.before.before.before.before.before.before.before.before.before.before.before.before.before.before.before.before.before.args in
@@ -123,7 +123,7 @@ put32-requires-2 c κs =
     let ns = args.lengths.now in
     let bs = args.tiles.now in
     let g = given args.grid bs ns in
-    omega (arith, turn-fits g pre.0 loop.after loop.end entry-of.result key_in.result (omega arith) loop.invariant.0 loop.invariant.1.0 key_in.ensures entry-of.ensures, ap length loop.invariant.1.1 ∙ length-entries _ _ _, put32.auto.0)
+    omega (arith, turn_fits g pre.0 loop.after loop.end entry_of.result key_in.result (omega arith) loop.invariant.0 loop.invariant.1.0 key_in.ensures entry_of.ensures, ap length loop.invariant.1.1 ∙ length-entries _ _ _, put32.auto.0)
 
 loop-less : tie.Need-loop-smaller invariant-loop decreases-loop
 loop-less c = search rules
@@ -132,7 +132,7 @@ loop-again : tie.Need-loop-preserved invariant-loop decreases-loop
 loop-again c =
     let put322 = c.before.before.put322 in
     let put32 = c.before.before.before.before.before.before.put32 in
-    let entry-of = c.before.before.before.before.before.before.before.before.entry-of in
+    let entry_of = c.before.before.before.before.before.before.before.before.entry-of in
     let key_in = c.before.before.before.before.before.before.before.before.before.key_in in
     let loop = c.before.before.before.before.before.before.before.before.before.before.before.before.before.loop in
     let args = c.before.before.before.before.before.before.before.before.before.before.before.before.before.before.before.before.before.before.before.before.before.args in
@@ -140,7 +140,7 @@ loop-again c =
     let ns = args.lengths.now in
     let bs = args.tiles.now in
     let g = given args.grid bs ns in
-    (omega (arith, loop.invariant), (turn-start g pre.0 loop.after loop.end entry-of.result key_in.result (omega arith) loop.invariant.0 loop.invariant.1.0 key_in.ensures entry-of.ensures, put322.ensures ∙ rw put32.ensures (turn g pre.0 loop.after loop.end entry-of.result key_in.result (omega arith) loop.invariant.0 loop.invariant.1.0 key_in.ensures entry-of.ensures loop.out loop.invariant.1.1)))
+    (omega (arith, loop.invariant), (turn_start g pre.0 loop.after loop.end entry_of.result key_in.result (omega arith) loop.invariant.0 loop.invariant.1.0 key_in.ensures entry_of.ensures, put322.ensures ∙ rw put32.ensures (turn g pre.0 loop.after loop.end entry_of.result key_in.result (omega arith) loop.invariant.0 loop.invariant.1.0 key_in.ensures entry_of.ensures loop.out loop.invariant.1.1)))
 
 same_length : tie.Need-same-length invariant-loop decreases-loop
 same_length c =
@@ -150,8 +150,8 @@ same_length c =
 returns : tie.Need-returns invariant-loop decreases-loop
 returns c = let none : c.before.loop.after ≡ 0 = omega arith in c.before.loop.invariant.1.1 ∙ rw none
 
-pub place-tiles-spec : {M : Type 1} → statement M
-place-tiles-spec =
+pub place_tiles_spec : {M : Type 1} → statement M
+place_tiles_spec =
     tie.close
     (tie.spec
     invariant-loop

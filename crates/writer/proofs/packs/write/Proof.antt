@@ -9,7 +9,7 @@ use borrow.Author.Tests.{not-true, not-false}
 use Rattle.pack.proofs.Rise.{square}
 use Rattle.writer.specs.PackSteps.{given}
 use Rattle.writer.proofs.PlaceLaws.{sum_is}
-use Rattle.writer.proofs.WriteLaws.{refused-13, over-14, short-14, written}
+use Rattle.writer.proofs.WriteLaws.{refused_13, over_14, short_14, written}
 use Rattle.writer.proofs.packs.write.Statement.{statement}
 use Rattle.writer.proofs.packs.write.Tie as tie
 
@@ -22,7 +22,7 @@ returns c =
     let ns = args.lengths.now in
     let bs = args.tiles.now in
     let g = given args.grid bs ns in
-    refused-13 g args.out.now (sym c.before.pack-good.ensures ∙ not-true _ c.if1.true)
+    refused_13 g args.out.now (sym c.before.pack-good.ensures ∙ not-true _ c.if1.true)
 
 cast-data : tie.Need-overflow-cast-data
 cast-data c = search rules
@@ -42,24 +42,24 @@ add-data c = omega (arith, square c.before.struct_known.given.1.1.1.0 c.struct-k
 returns-2 : tie.Need-returns-2
 returns-2 c =
     let if1 = c.before.before.before.if1 in
-    let pack-good = c.before.before.before.before.pack-good in
+    let pack_good = c.before.before.before.before.pack-good in
     let args = c.before.before.before.before.before.before.before.before.args in
     let ns = args.lengths.now in
     let bs = args.tiles.now in
     let g = given args.grid bs ns in
-    let good = sym pack-good.ensures ∙ not-false _ if1.false in
-    over-14 g args.out.now good (omega (arith, c.if2.true, sum_is g good))
+    let good = sym pack_good.ensures ∙ not-false _ if1.false in
+    over_14 g args.out.now good (omega (arith, c.if2.true, sum_is g good))
 
 returns-3 : tie.Need-returns-3
 returns-3 c =
     let if1 = c.before.before.before.before.if1 in
-    let pack-good = c.before.before.before.before.before.pack-good in
+    let pack_good = c.before.before.before.before.before.pack-good in
     let args = c.before.before.before.before.before.before.before.before.before.args in
     let ns = args.lengths.now in
     let bs = args.tiles.now in
     let g = given args.grid bs ns in
-    let good = sym pack-good.ensures ∙ not-false _ if1.false in
-    over-14 g args.out.now good (omega (arith, c.if3.true, c.before.if2.false, sum_is g good))
+    let good = sym pack_good.ensures ∙ not-false _ if1.false in
+    over_14 g args.out.now good (omega (arith, c.if3.true, c.before.if2.false, sum_is g good))
 
 add_total : tie.Need-overflow-add-total
 add_total c = search rules
@@ -67,13 +67,13 @@ add_total c = search rules
 returns-4 : tie.Need-returns-4
 returns-4 c =
     let if1 = c.before.before.before.before.before.if1 in
-    let pack-good = c.before.before.before.before.before.before.pack-good in
+    let pack_good = c.before.before.before.before.before.before.pack-good in
     let args = c.before.before.before.before.before.before.before.before.before.before.args in
     let ns = args.lengths.now in
     let bs = args.tiles.now in
     let g = given args.grid bs ns in
-    let good = sym pack-good.ensures ∙ not-false _ if1.false in
-    short-14 g args.out.now good (omega (arith, c.if4.true, sum_is g good))
+    let good = sym pack_good.ensures ∙ not-false _ if1.false in
+    short_14 g args.out.now good (omega (arith, c.if4.true, sum_is g good))
 
 slice-relend-prefix-fill : tie.Need-slice-relend-prefix-fill
 slice-relend-prefix-fill c = search rules
@@ -90,10 +90,10 @@ fill-requires c κs =
     let if3 = c.before.before.if3 in
     let if2 = c.before.before.before.if2 in
     let if1 = c.before.before.before.before.before.before.if1 in
-    let pack-good = c.before.before.before.before.before.before.before.pack-good in
+    let pack_good = c.before.before.before.before.before.before.before.pack-good in
     let args = c.before.before.before.before.before.before.before.before.before.before.before.args in
     let bs = args.tiles.now in
-    let good = sym pack-good.ensures ∙ not-false _ if1.false in
+    let good = sym pack_good.ensures ∙ not-false _ if1.false in
     let total = 512 + args.grid.rows * args.grid.cols * 8 + length bs in
     let full : length (take total args.out.now) ≡ total = length-take-le total args.out.now (omega (arith, c.before.if4.false)) in
     (good, (omega arith, omega (arith, if3.false, if2.false)))
@@ -111,12 +111,12 @@ returns-5 c =
     let if3 = c.before.before.before.before.before.if3 in
     let if2 = c.before.before.before.before.before.before.if2 in
     let if1 = c.before.before.before.before.before.before.before.before.before.if1 in
-    let pack-good = c.before.before.before.before.before.before.before.before.before.before.pack-good in
+    let pack_good = c.before.before.before.before.before.before.before.before.before.before.pack-good in
     let args = c.before.before.before.before.before.before.before.before.before.before.before.before.before.before.args in
     let ns = args.lengths.now in
     let bs = args.tiles.now in
     let g = given args.grid bs ns in
-    let good = sym pack-good.ensures ∙ not-false _ if1.false in
+    let good = sym pack_good.ensures ∙ not-false _ if1.false in
     let total = 512 + args.grid.rows * args.grid.cols * 8 + length bs in
     written g args.out.now good total fill.new.1.1.1.0 (omega (arith, sum_is g good)) (omega (arith, if3.false, if2.false)) (omega (arith, if4.false)) fill.ensures
 

@@ -5,13 +5,13 @@ use native.Mathlib.Omega.{arith}
 use lib.ListN.{length}
 use borrow.Author.Rules.{rules}
 use Rattle.writer.specs.Fields.{puts}
-use Rattle.writer.specs.TileWritten.{edgeFields, fieldsBelow}
+use Rattle.writer.specs.TileWritten.{edge_fields, fields_below}
 use Rattle.writer.proofs.FieldLaws.{below_none, below_more, below_end}
 use Rattle.writer.proofs.records.all_edges.Statement.{statement}
 use Rattle.writer.proofs.records.all_edges.Tie as tie
 
 abbrev invariant-loop : tie.invariant-loop
-invariant-loop out₀ base edges last i₀ out i = (i ≤ last) × ((length out ≡ length out₀) × (out ≡ puts (fieldsBelow (edgeFields base edges) i) out₀))
+invariant-loop out₀ base edges last i₀ out i = (i ≤ last) × ((length out ≡ length out₀) × (out ≡ puts (fields_below (edge_fields base edges) i) out₀))
 
 abbrev decreases-loop : tie.decreases-loop
 decreases-loop out₀ base edges last i₀ out i = last - i
@@ -19,7 +19,7 @@ decreases-loop out₀ base edges last i₀ out i = last - i
 loop-holds : tie.Need-loop-init invariant-loop decreases-loop
 loop-holds c =
     let args = c.before.before.args in
-    (omega arith, (refl, sym (below_none (edgeFields args.base args.edges.now) args.out.now)))
+    (omega arith, (refl, sym (below_none (edge_fields args.base args.edges.now) args.out.now)))
 
 mul-edge : tie.Need-overflow-mul-edge invariant-loop decreases-loop
 mul-edge c = search rules
@@ -44,7 +44,7 @@ loop-again c =
       omega arith,
       (
         edge.auto.0 ∙ loop.invariant.1.0,
-        rw (edge.ensures, loop.invariant.1.1) (sym (below_more (edgeFields args.base args.edges.now) loop.i args.out.now)),
+        rw (edge.ensures, loop.invariant.1.1) (sym (below_more (edge_fields args.base args.edges.now) loop.i args.out.now)),
       ),
     )
 
@@ -54,10 +54,10 @@ same_length c = search rules
 returns : tie.Need-returns invariant-loop decreases-loop
 returns c =
     let args = c.before.before.before.before.args in
-    below_end (edgeFields args.base args.edges.now) c.before.loop.i _ (omega arith) (omega arith) args.out.now c.before.loop.invariant.1.1
+    below_end (edge_fields args.base args.edges.now) c.before.loop.i _ (omega arith) (omega arith) args.out.now c.before.loop.invariant.1.1
 
-pub all-edges-spec : {M : Type 1} → statement M
-all-edges-spec =
+pub all_edges_spec : {M : Type 1} → statement M
+all_edges_spec =
     tie.close
     (tie.spec
     invariant-loop

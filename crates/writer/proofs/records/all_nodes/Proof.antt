@@ -4,14 +4,14 @@ use mathlib.Core.Path.{◌≡◌, refl, sym, ◌∙◌}
 use native.Mathlib.Omega.{arith}
 use lib.ListN.{length}
 use borrow.Author.Rules.{rules}
-use Rattle.writer.specs.TileWritten.{firstEntry, placesIn, edgesIn}
-use Rattle.writer.proofs.EntryLaws.{first_fits, first_more, first-zero}
-use Rattle.writer.proofs.NodeLaws.{passed, passed_none, passed-more, passed-all}
+use Rattle.writer.specs.TileWritten.{first_entry, places_in, edges_in}
+use Rattle.writer.proofs.EntryLaws.{first_fits, first_more, first_zero}
+use Rattle.writer.proofs.NodeLaws.{passed, passed_none, passed_more, passed_all}
 use Rattle.writer.proofs.records.all_nodes.Statement.{statement}
 use Rattle.writer.proofs.records.all_nodes.Tie as tie
 
 abbrev invariant-loop : tie.invariant-loop
-invariant-loop out₀ nodes edges last base count₀ i₀ out count i = (i ≤ last) × ((length out ≡ length out₀) × ((count ≡ firstEntry edges i) × (out ≡ passed nodes edges last out₀ i)))
+invariant-loop out₀ nodes edges last base count₀ i₀ out count i = (i ≤ last) × ((length out ≡ length out₀) × ((count ≡ first_entry edges i) × (out ≡ passed nodes edges last out₀ i)))
 
 abbrev decreases-loop : tie.decreases-loop
 decreases-loop out₀ nodes edges last base count₀ i₀ out count i = last - i
@@ -25,13 +25,13 @@ add-base c = search rules
 loop-holds : tie.Need-loop-init invariant-loop decreases-loop
 loop-holds c =
     let args = c.before.before.before.args in
-    (omega arith, (refl, (sym (first-zero args.edges.now), passed_none args.nodes.now args.edges.now (placesIn args.nodes.now) args.out.now)))
+    (omega arith, (refl, (sym (first_zero args.edges.now), passed_none args.nodes.now args.edges.now (places_in args.nodes.now) args.out.now)))
 
 cast-node : tie.Need-overflow-cast-node invariant-loop decreases-loop
 cast-node c =
     let loop = c.before.before.loop in
     let args = c.before.before.before.before.before.before.args in
-    omega (arith, first_fits args.edges.now loop.i (placesIn args.nodes.now) (omega arith))
+    omega (arith, first_fits args.edges.now loop.i (places_in args.nodes.now) (omega arith))
 
 node-requires : tie.Need-node-requires invariant-loop decreases-loop
 node-requires c κs = (omega arith, omega arith)
@@ -44,7 +44,7 @@ entries-at-requires c κs =
     let node = c.before.before.before.node in
     let loop = c.before.before.before.before.before.before.loop in
     let args = c.before.before.before.before.before.before.before.before.before.before.args in
-    (omega arith, omega (arith, node.auto.0, first_fits args.edges.now loop.i (placesIn args.nodes.now) (omega arith)))
+    (omega arith, omega (arith, node.auto.0, first_fits args.edges.now loop.i (places_in args.nodes.now) (omega arith)))
 
 add-i : tie.Need-overflow-add-i invariant-loop decreases-loop
 add-i c = search rules
@@ -64,7 +64,7 @@ loop-again c =
         (
           omega (arith, entries_at.ensures.0, first_more args.edges.now loop.i),
           rw (entries_at.ensures.1, node.ensures, loop.invariant.1.1.1, loop.invariant.1.1.0)
-              (passed-more args.nodes.now args.edges.now (placesIn args.nodes.now) args.out.now (omega arith) loop.i (omega arith)),
+              (passed_more args.nodes.now args.edges.now (places_in args.nodes.now) args.out.now (omega arith) loop.i (omega arith)),
         ),
       ),
     )
@@ -75,10 +75,10 @@ same_length c = search rules
 returns : tie.Need-returns invariant-loop decreases-loop
 returns c =
     let args = c.before.before.before.before.before.args in
-    c.before.loop.invariant.1.1.1 ∙ passed-all args.nodes.now args.edges.now (placesIn args.nodes.now) args.out.now (edgesIn args.edges.now * 2) c.before.loop.i (omega arith) (omega arith)
+    c.before.loop.invariant.1.1.1 ∙ passed_all args.nodes.now args.edges.now (places_in args.nodes.now) args.out.now (edges_in args.edges.now * 2) c.before.loop.i (omega arith) (omega arith)
 
-pub all-nodes-spec : {M : Type 1} → statement M
-all-nodes-spec =
+pub all_nodes_spec : {M : Type 1} → statement M
+all_nodes_spec =
     tie.close
     (tie.spec
     invariant-loop

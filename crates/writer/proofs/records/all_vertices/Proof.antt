@@ -5,13 +5,13 @@ use native.Mathlib.Omega.{arith}
 use lib.ListN.{length}
 use borrow.Author.Rules.{rules}
 use Rattle.writer.specs.Fields.{puts}
-use Rattle.writer.specs.TileWritten.{vertexFields, fieldsBelow}
+use Rattle.writer.specs.TileWritten.{vertex_fields, fields_below}
 use Rattle.writer.proofs.FieldLaws.{below_none, below_more, below_end}
 use Rattle.writer.proofs.records.all_vertices.Statement.{statement}
 use Rattle.writer.proofs.records.all_vertices.Tie as tie
 
 abbrev invariant-loop : tie.invariant-loop
-invariant-loop out₀ base vertices last i₀ out i = (i ≤ last) × ((length out ≡ length out₀) × (out ≡ puts (fieldsBelow (vertexFields base vertices) i) out₀))
+invariant-loop out₀ base vertices last i₀ out i = (i ≤ last) × ((length out ≡ length out₀) × (out ≡ puts (fields_below (vertex_fields base vertices) i) out₀))
 
 abbrev decreases-loop : tie.decreases-loop
 decreases-loop out₀ base vertices last i₀ out i = last - i
@@ -19,7 +19,7 @@ decreases-loop out₀ base vertices last i₀ out i = last - i
 loop-holds : tie.Need-loop-init invariant-loop decreases-loop
 loop-holds c =
     let args = c.before.before.args in
-    (omega arith, (refl, sym (below_none (vertexFields args.base args.vertices.now) args.out.now)))
+    (omega arith, (refl, sym (below_none (vertex_fields args.base args.vertices.now) args.out.now)))
 
 mul-place : tie.Need-overflow-mul-place invariant-loop decreases-loop
 mul-place c = search rules
@@ -44,7 +44,7 @@ loop-again c =
       omega arith,
       (
         place.auto.0 ∙ loop.invariant.1.0,
-        rw (place.ensures, loop.invariant.1.1) (sym (below_more (vertexFields args.base args.vertices.now) loop.i args.out.now)),
+        rw (place.ensures, loop.invariant.1.1) (sym (below_more (vertex_fields args.base args.vertices.now) loop.i args.out.now)),
       ),
     )
 
@@ -54,10 +54,10 @@ same_length c = search rules
 returns : tie.Need-returns invariant-loop decreases-loop
 returns c =
     let args = c.before.before.before.before.args in
-    below_end (vertexFields args.base args.vertices.now) c.before.loop.i _ (omega arith) (omega arith) args.out.now c.before.loop.invariant.1.1
+    below_end (vertex_fields args.base args.vertices.now) c.before.loop.i _ (omega arith) (omega arith) args.out.now c.before.loop.invariant.1.1
 
-pub all-vertices-spec : {M : Type 1} → statement M
-all-vertices-spec =
+pub all_vertices_spec : {M : Type 1} → statement M
+all_vertices_spec =
     tie.close
     (tie.spec
     invariant-loop

@@ -121,8 +121,8 @@ returns c =
     let put16 = c.before.before.before.before.before.before.before.before.before.before.before.before.before.before.before.before.before.before.before.before.before.before.before.before.before.before.before.before.before.before.before.before.put16 in
     rw (put164.ensures, put82.ensures, put8.ensures, put163.ensures, put32.ensures, put162.ensures, put16.ensures)
 
-pub edge-spec : {M : Type 1} → statement M
-edge-spec =
+pub edge_spec : {M : Type 1} → statement M
+edge_spec =
     tie.close
     (tie.spec
     mul-first

@@ -1,6 +1,6 @@
 -- `writer::records::entries_of` meets its contract: the entry of the edge's start, then that of its end.
-use Rattle.writer.proofs.EntryLaws.{puts-entries}
-use Rattle.writer.specs.Steps.{entryIf}
+use Rattle.writer.proofs.EntryLaws.{puts_entries}
+use Rattle.writer.specs.Steps.{entry_if}
 use lib.ListN.{get_or, length-append}
 use native.Mathlib.Omega.{arith}
 use mathlib.Core.Path.{sym}
@@ -42,28 +42,28 @@ add-ends c = search rules
 entry-if-requires : tie.Need-entry-if-requires
 entry-if-requires c κs =
     let args = c.before.before.before.before.before.args in
-    omega (arith, length-append (entryIf (get_or args.edges.now (args.i * 7) 0) args.node (args.i * 2)) (entryIf (get_or args.edges.now (args.i * 7 + 1) 0) args.node (args.i * 2 + 1)))
+    omega (arith, length-append (entry_if (get_or args.edges.now (args.i * 7) 0) args.node (args.i * 2)) (entry_if (get_or args.edges.now (args.i * 7 + 1) 0) args.node (args.i * 2 + 1)))
 
 entry-if-requires-2 : tie.Need-entry-if-requires-2
 entry-if-requires-2 c κs =
-    let entry-if = c.before.before.before.entry-if in
+    let entry_if_call = c.before.before.before.entry-if in
     let args = c.before.before.before.before.before.before.before.before.before.args in
-    omega (arith, length-append (entryIf (get_or args.edges.now (args.i * 7) 0) args.node (args.i * 2)) (entryIf (get_or args.edges.now (args.i * 7 + 1) 0) args.node (args.i * 2 + 1)), entry-if.ensures.0, entry-if.auto.0)
+    omega (arith, length-append (entry_if (get_or args.edges.now (args.i * 7) 0) args.node (args.i * 2)) (entry_if (get_or args.edges.now (args.i * 7 + 1) 0) args.node (args.i * 2 + 1)), entry_if_call.ensures.0, entry_if_call.auto.0)
 
 same_length : tie.Need-same-length
 same_length c = search rules
 
 returns : tie.Need-returns
 returns c =
-    let entry-if2 = c.before.before.entry-if2 in
-    let entry-if = c.before.before.before.before.before.before.entry-if in
+    let entry_if2 = c.before.before.entry-if2 in
+    let entry_if_call = c.before.before.before.before.before.before.entry-if in
     let args = c.before.before.before.before.before.before.before.before.before.before.before.before.args in (
-      omega (arith, length-append (entryIf (get_or args.edges.now (args.i * 7) 0) args.node (args.i * 2)) (entryIf (get_or args.edges.now (args.i * 7 + 1) 0) args.node (args.i * 2 + 1)), entry-if.ensures.0, entry-if2.ensures.0),
-      rw (entry-if2.ensures.1, entry-if.ensures.1, entry-if.ensures.0) (sym (puts-entries args.base args.count (entryIf (get_or args.edges.now (args.i * 7) 0) args.node (args.i * 2)) (entryIf (get_or args.edges.now (args.i * 7 + 1) 0) args.node (args.i * 2 + 1)) args.out.now)),
+      omega (arith, length-append (entry_if (get_or args.edges.now (args.i * 7) 0) args.node (args.i * 2)) (entry_if (get_or args.edges.now (args.i * 7 + 1) 0) args.node (args.i * 2 + 1)), entry_if_call.ensures.0, entry_if2.ensures.0),
+      rw (entry_if2.ensures.1, entry_if_call.ensures.1, entry_if_call.ensures.0) (sym (puts_entries args.base args.count (entry_if (get_or args.edges.now (args.i * 7) 0) args.node (args.i * 2)) (entry_if (get_or args.edges.now (args.i * 7 + 1) 0) args.node (args.i * 2 + 1)) args.out.now)),
     )
 
-pub entries-of-spec : {M : Type 1} → statement M
-entries-of-spec =
+pub entries_of_spec : {M : Type 1} → statement M
+entries_of_spec =
     tie.close
     (tie.spec
     mul-from

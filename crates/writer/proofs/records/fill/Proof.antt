@@ -60,14 +60,14 @@ returns : tie.Need-returns
 returns c =
     let put32 = c.before.before.put32 in
     let crc32 = c.before.before.before.before.crc32 in
-    let all-vertices = c.before.before.before.before.before.before.before.before.all-vertices in
+    let all_vertices = c.before.before.before.before.before.before.before.before.all-vertices in
     let all_edges = c.before.before.before.before.before.before.before.before.before.before.before.before.all_edges in
-    let all-nodes = c.before.before.before.before.before.before.before.before.before.before.before.before.before.before.before.before.all-nodes in
+    let all_nodes = c.before.before.before.before.before.before.before.before.before.before.before.before.before.before.before.before.all-nodes in
     let head = c.before.before.before.before.before.before.before.before.before.before.before.before.before.before.before.before.before.before.before.before.head in
     let clear = c.before.before.before.before.before.before.before.before.before.before.before.before.before.before.before.before.before.before.before.before.before.before.before.before.clear in
     let pre = c.before.before.before.before.before.before.before.before.before.before.before.before.before.before.before.before.before.before.before.before.before.before.before.before.before.before.before.before.before.before.requires in
     let args = c.before.before.before.before.before.before.before.before.before.before.before.before.before.before.before.before.before.before.before.before.before.before.before.before.before.before.before.before.before.before.args in
-    rw (put32.ensures, crc32.ensures, all-vertices.ensures, all_edges.ensures, all-nodes.ensures, head.ensures, clear.ensures, pre.1.0) (summed (given args.key 0 args.lon-um args.nodes.now args.edges.now args.vertices.now))
+    rw (put32.ensures, crc32.ensures, all_vertices.ensures, all_edges.ensures, all_nodes.ensures, head.ensures, clear.ensures, pre.1.0) (summed (given args.key 0 args.lon-um args.nodes.now args.edges.now args.vertices.now))
 
 pub fill_spec : {M : Type 1} → statement M
 fill_spec =

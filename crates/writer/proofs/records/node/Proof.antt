@@ -29,6 +29,6 @@ returns c =
     let place = c.before.before.before.before.before.before.place in
     rw (put16.ensures, place.ensures)
 
-pub node-spec : {M : Type 1} → statement M
-node-spec =
+pub node_spec : {M : Type 1} → statement M
+node_spec =
     tie.close (tie.spec mul_at add_at place-requires add-put16 put16-requires same_length returns)

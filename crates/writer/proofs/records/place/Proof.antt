@@ -75,8 +75,8 @@ returns c =
     let wide = c.before.before.before.before.before.before.before.before.before.before.before.before.before.before.before.wide in
     rw (put163.ensures, put162.ensures, put16.ensures, wide3.ensures, wide2.ensures, wide.ensures)
 
-pub place-spec : {M : Type 1} → statement M
-place-spec =
+pub place_spec : {M : Type 1} → statement M
+place_spec =
     tie.close
     (tie.spec
     mul_wide
