@@ -1,5 +1,7 @@
 // The two angle functions that stand in for libm's: the bearing of a vector, and the scale of a degree of longitude by the cosine.
 // docs/ANGLES.md has their steps.
+#![tactic(auto)]
+
 mod circle;
 mod cosine;
 
@@ -8,7 +10,7 @@ ghost use Rattle.angle.specs.Bearing as Bearing;
 ghost use Rattle.angle.specs.Cosine as Cosine;
 
 // Degrees clockwise from north, 0 to 360; or the number of document 01's refusal.
-#[derive(Drop)]
+#[derive(Clone, Copy)]
 pub enum Degrees {
     At(f32),
     Refused(u32),

@@ -12,6 +12,8 @@
 //
 // `runs`, `victim`, `evict` and `begin` have the page runs; `keys`, `look`, `uses` and `ages` the lookups (`uses` those of a match, `ages` those of a call that makes many);
 // `state` number 12; `next` and `step` a load's step; `load` the calls that bring tiles in.
+#![tactic(auto)]
+
 pub mod ages;
 mod begin;
 mod evict;
@@ -42,21 +44,21 @@ pub const MAX_SPAN: usize = MAX_TILE_BYTES / PAGE_BYTES;
 
 pub const MAX_PAGES: usize = 96;
 
-#[derive(Drop)]
+#[derive(Clone, Copy)]
 pub enum MaybeKey {
     Nothing,
     Key(TileKey),
 }
 
 // Whether a page is a first one or, as a continuation page, which the tile's first page is.
-#[derive(Drop)]
+#[derive(Clone, Copy)]
 pub enum Part {
     Head,
     Of(u8),
 }
 
 // A page: the first of a tile's pages holds its key and length, the rest point back at it.
-#[derive(Drop)]
+#[derive(Clone, Copy)]
 pub struct Slot {
     pub key: MaybeKey,
     pub len: u16,
@@ -65,7 +67,7 @@ pub struct Slot {
 }
 
 // The slots, when each was last used, how many of them the arena has, and the clock that uses are told by.
-#[derive(Drop)]
+#[derive(Clone, Copy)]
 pub struct Pages {
     pub slots: [Slot; MAX_PAGES],
     pub used: [u32; MAX_PAGES],
@@ -77,20 +79,20 @@ pub struct Pages {
 pub const MISSING: usize = 64;
 
 // A place of the ring: a key, or none yet.
-#[derive(Drop)]
+#[derive(Clone, Copy)]
 pub struct RingKey {
     pub key: MaybeKey,
 }
 
 // The tiles that were found missing last, and the place that the next one takes.
-#[derive(Drop)]
+#[derive(Clone, Copy)]
 pub struct Ring {
     pub keys: [RingKey; MISSING],
     pub next: usize,
 }
 
 // A load under way: the tile, its run's first page, where it stands in the pack, and how much of it has come.
-#[derive(Drop)]
+#[derive(Clone, Copy)]
 pub struct Loading {
     pub key: TileKey,
     pub slot: usize,
@@ -99,14 +101,14 @@ pub struct Loading {
     pub done: u32,
 }
 
-#[derive(Drop)]
+#[derive(Clone, Copy)]
 pub enum MaybeLoading {
     Nothing,
     Tile(Loading),
 }
 
 // The one read that an engine waits for. Calls on the cache never open one; a load ends one, and `clear` does.
-#[derive(Drop)]
+#[derive(Clone, Copy)]
 pub enum Pending {
     Nothing,
     Header,
@@ -114,7 +116,7 @@ pub enum Pending {
     Chunk,
 }
 
-#[derive(Drop)]
+#[derive(Clone, Copy)]
 pub struct Cache {
     pub pages: Pages,
     pub missing: Ring,
@@ -125,7 +127,7 @@ pub struct Cache {
 }
 
 // What the cache holds for a tile: the run's first page and its length in bytes; no roads there, or an unusable tile; or not loaded yet.
-#[derive(Drop)]
+#[derive(Clone, Copy)]
 pub enum Lookup {
     Ready(usize, usize),
     Missing,
@@ -133,25 +135,25 @@ pub enum Lookup {
     Refused(u32),
 }
 
-#[derive(Drop)]
+#[derive(Clone, Copy)]
 pub struct Got {
     pub answer: Lookup,
     pub cache: Cache,
 }
 
-#[derive(Drop)]
+#[derive(Clone, Copy)]
 pub enum Count {
     Is(usize),
     Refused(u32),
 }
 
-#[derive(Drop)]
+#[derive(Clone, Copy)]
 pub enum Clearing {
     Done,
     Refused(u32),
 }
 
-#[derive(Drop)]
+#[derive(Clone, Copy)]
 pub struct Cleared {
     pub answer: Clearing,
     pub cache: Cache,
@@ -242,7 +244,7 @@ impl Cache {
 }
 
 // The read that the next step towards a tile makes: offset in the pack and length. Settled where it makes none.
-#[derive(Drop)]
+#[derive(Clone, Copy)]
 pub enum Request {
     Settled,
     Read(u64, usize),
@@ -250,7 +252,7 @@ pub enum Request {
 }
 
 // How a step of a load ended: the tile is ready or known missing; more steps are to come; the read or the entry failed (1, 2 or 4); refused.
-#[derive(Drop)]
+#[derive(Clone, Copy)]
 pub enum Progress {
     Done,
     More,
@@ -258,14 +260,14 @@ pub enum Progress {
     Refused(u32),
 }
 
-#[derive(Drop)]
+#[derive(Clone, Copy)]
 pub struct Loaded {
     pub answer: Progress,
     pub cache: Cache,
 }
 
 // The clock and the age of each page, as the lookups of one match leave them.
-#[derive(Drop)]
+#[derive(Clone, Copy)]
 pub struct Aging {
     pub clock: u32,
     pub used: [u32; crate::MAX_PAGES],

@@ -8,7 +8,7 @@ use pack::TileKey;
 use tile::Parsed;
 
 // What a lookup lands on, before the run is checked.
-#[derive(Drop)]
+#[derive(Clone, Copy)]
 pub enum Landing {
     Missing,
     At(usize),

@@ -7,7 +7,7 @@ use crate::{Cache, Loading, MaybeLoading};
 use pack::TileKey;
 
 // What the next step towards a tile is.
-#[derive(Drop)]
+#[derive(Clone, Copy)]
 pub enum Next {
     Ready(usize),
     Missing,

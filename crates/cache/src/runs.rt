@@ -12,7 +12,7 @@ ghost use Rattle.cache.specs.Runs as Runs;
 use crate::{MAX_PAGES, MaybeKey, PAGE_BYTES, Pages, Part, Slot};
 
 // The last run that a pass over the pages met: its first page and the page after it. Both are 0 before the first.
-#[derive(Drop)]
+#[derive(Clone, Copy)]
 struct LastRun {
     head: usize,
     end: usize,

@@ -5,7 +5,7 @@ ghost use Rattle.cache.specs.Victim as Victim;
 use crate::{Pages, Slot};
 
 // The first page of a run to replace, or none.
-#[derive(Drop)]
+#[derive(Clone, Copy)]
 pub enum Found {
     Nothing,
     At(usize),

@@ -1,6 +1,8 @@
 // CRC-32 as ITU-T V.42 has it: `crc32`, `crc_update` and `crc32_skipping` of the Rust's tile.rs. Few octets go by a table of half octets, four octets a turn. Many go by
 // words of 64 bits with no table, the skipped octets too where they begin a word, and only the last 40 to 47 octets by the table. The table is small because a const
 // is written out on the stack where it is used.
+#![tactic(auto)]
+
 ghost use Rattle.std.specs.Prelude.{◌≡◌, [], ◌∷◌, ◌++◌, ◌+◌, ◌-◌, ◌%◌, ◌<◌, ◌≤◌, min, length, take, drop};
 ghost use Rattle.crc.specs.Fcs as Fcs;
 ghost use Rattle.crc.specs.Fcs.{bits, message, remainder, zeros};

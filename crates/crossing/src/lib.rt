@@ -1,4 +1,6 @@
 // Does a leg cross a transect: document 02, request 4. A tile's segments are tried one after the other, in whole millionths of a degree.
+#![tactic(auto)]
+
 mod sides;
 
 ghost use Rattle.std.specs.Prelude.{◌≡◌};
@@ -11,7 +13,7 @@ use pack::{Header, TileKey};
 use tile::Edge;
 
 // An edge and a segment of it that meets the transect; a segment joins the edge's points of its number and the next.
-#[derive(Drop)]
+#[derive(Clone, Copy)]
 pub enum Crossed {
     At(u16, u32),
     Nothing,
@@ -19,7 +21,7 @@ pub enum Crossed {
 }
 
 // A point counted from -360,000,000, so that its numbers are not negative: y is latitude, x longitude.
-#[derive(Drop)]
+#[derive(Clone, Copy)]
 struct Place {
     y: u64,
     x: u64,

@@ -101,7 +101,7 @@ fn push(h: Places, here: Point) -> Places
 }
 
 // A heading with its time.
-#[derive(Drop)]
+#[derive(Clone, Copy)]
 pub(crate) struct Course {
     pub heading: Heading,
     pub at_ms: u64,

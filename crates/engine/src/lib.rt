@@ -7,6 +7,8 @@
 // `Shared` is what the pack and the card give; `Follower` is what follows one rider: the fixes and the heading that they give, the match, what
 // is due, and the road ahead that is published. `fixes`, `publish` and `follow` have the follower, which reads neither pack nor tile; `state`
 // and `summary` have number 12; `plan` what a step is to do, and `fetch`, `work` and `deliver` the steps.
+#![tactic(auto)]
+
 pub mod deliver;
 pub mod fetch;
 mod fixes;
@@ -33,34 +35,34 @@ pub use predict::{BEHIND_SAMPLES, End, MAX_SAMPLES};
 pub use tile::TileId;
 
 // A GPS position in micro-degrees, at a monotonic time.
-#[derive(Drop)]
+#[derive(Clone, Copy)]
 pub struct Fix {
     pub lat: i32,
     pub lon: i32,
     pub at_ms: u64,
 }
 
-#[derive(Drop)]
+#[derive(Clone, Copy)]
 pub enum MaybeFix {
     Nothing,
     Is(Fix),
 }
 
-#[derive(Drop)]
+#[derive(Clone, Copy)]
 pub enum MaybeTime {
     Nothing,
     At(u64),
 }
 
 // The places of the last fixes, at most sixteen, the oldest first, and how many they are.
-#[derive(Drop)]
+#[derive(Clone, Copy)]
 pub struct Places {
     pub v: [Point; 16],
     pub len: usize,
 }
 
 // The newest fix, the places before it and at it, the heading that they give, and the time of the fix that gave it.
-#[derive(Drop)]
+#[derive(Clone, Copy)]
 pub struct Sight {
     pub fix: MaybeFix,
     pub history: Places,
@@ -70,7 +72,7 @@ pub struct Sight {
 
 // What is to be done: a match, a road, and the tile that is needed first; when the last road was worked out; and how many tiles the attempt
 // under way has asked for.
-#[derive(Drop)]
+#[derive(Clone, Copy)]
 pub struct Due {
     pub matching: bool,
     pub road: bool,
@@ -80,7 +82,7 @@ pub struct Due {
 }
 
 // The road ahead, as of one fix.
-#[derive(Drop)]
+#[derive(Clone, Copy)]
 pub struct Ahead {
     // One more with every new result.
     pub generation: u32,
@@ -102,7 +104,7 @@ pub struct Ahead {
     pub confidence: u8,
 }
 
-#[derive(Drop)]
+#[derive(Clone, Copy)]
 pub struct Follower {
     pub sight: Sight,
     pub matcher: Matcher,
@@ -142,21 +144,21 @@ impl Ahead {
 }
 
 // Whether the pack's header has been read. The header counts in phase Ready alone.
-#[derive(Drop)]
+#[derive(Clone, Copy)]
 pub enum Phase {
     Unread,
     Ready,
     Failed,
 }
 
-#[derive(Drop)]
+#[derive(Clone, Copy)]
 pub struct Shared {
     pub phase: Phase,
     pub header: Header,
     pub cache: Cache,
 }
 
-#[derive(Drop)]
+#[derive(Clone, Copy)]
 pub struct Engine {
     pub shared: Shared,
     pub follower: Follower,
@@ -164,7 +166,7 @@ pub struct Engine {
 
 // How a step ended: nothing to do until the next fix; more work queued; no readable pack; the newest fix is outside the pack's grid; a read
 // that the host is asked for, by offset and length; refused.
-#[derive(Drop)]
+#[derive(Clone, Copy)]
 pub enum Status {
     Idle,
     Working,
@@ -174,53 +176,53 @@ pub enum Status {
     Refused(u32),
 }
 
-#[derive(Drop)]
+#[derive(Clone, Copy)]
 pub struct Stepped {
     pub answer: Status,
     pub engine: Engine,
 }
 
 // How a call without an answer of its own ended.
-#[derive(Drop)]
+#[derive(Clone, Copy)]
 pub enum Taken {
     Done,
     Refused(u32),
 }
 
-#[derive(Drop)]
+#[derive(Clone, Copy)]
 pub struct Changed {
     pub answer: Taken,
     pub engine: Engine,
 }
 
 // Whether there is what was asked for, which stands beside the answer.
-#[derive(Drop)]
+#[derive(Clone, Copy)]
 pub enum Known {
     Nothing,
     Is,
     Refused(u32),
 }
 
-#[derive(Drop)]
+#[derive(Clone, Copy)]
 pub struct HeaderRead {
     pub answer: Known,
     pub header: Header,
 }
 
-#[derive(Drop)]
+#[derive(Clone, Copy)]
 pub struct AheadRead {
     pub answer: Known,
     pub ahead: Ahead,
 }
 
-#[derive(Drop)]
+#[derive(Clone, Copy)]
 pub enum HeadingRead {
     Nothing,
     Degrees(f32),
     Refused(u32),
 }
 
-#[derive(Drop)]
+#[derive(Clone, Copy)]
 pub enum Count {
     Is(u32),
     Refused(u32),

@@ -9,7 +9,7 @@ use matcher::{Current, Matched};
 use pack::{Header, Keyed, TileKey};
 
 // Nothing; tell that there is no pack; fetch the header; go on towards a tile; match a fix; work out the road of a match; drop a road that is due without one; leave the map.
-#[derive(Drop)]
+#[derive(Clone, Copy)]
 pub enum Plan {
     Rest,
     NoPack,

@@ -11,7 +11,7 @@ use matcher::{Current, Matcher};
 use pack::{Header, TileKey};
 
 // Phase and header; how many pages, the load, the open fetch; fixes, match, what is due; the published road's match and its two counts; failures.
-#[derive(Drop)]
+#[derive(Clone, Copy)]
 pub struct Summary {
     pub phase: Phase,
     pub header: Header,

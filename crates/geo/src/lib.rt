@@ -1,5 +1,7 @@
 // Flat-earth geometry around a point, good to a few centimetres over the few kilometres one computation spans: the Rust's geo.rs.
 // The module `flat` has the arithmetic, total for every figure; here stand the functions with their refusals.
+#![tactic(auto)]
+
 pub mod flat;
 
 ghost use Rattle.std.specs.Prelude.{◌≡◌};
@@ -14,53 +16,53 @@ use tile::{Edge, Node};
 pub const LAT_UM: f32 = 111195.0;
 
 // A point in micro-degrees.
-#[derive(Drop)]
+#[derive(Clone, Copy)]
 pub struct Point {
     pub lat: i32,
     pub lon: i32,
 }
 
 // Metres east and north of an origin.
-#[derive(Drop)]
+#[derive(Clone, Copy)]
 pub struct Metres {
     pub east: f32,
     pub north: f32,
 }
 
 // Where a point projects onto a segment: the fraction along it, 0 to 1, and the distance.
-#[derive(Drop)]
+#[derive(Clone, Copy)]
 pub struct Projected {
     pub fraction: f32,
     pub distance: f32,
 }
 
-#[derive(Drop)]
+#[derive(Clone, Copy)]
 pub enum PointRead {
     At(Point),
     Refused(u32),
 }
 
-#[derive(Drop)]
+#[derive(Clone, Copy)]
 pub enum MetresRead {
     At(Metres),
     Refused(u32),
 }
 
-#[derive(Drop)]
+#[derive(Clone, Copy)]
 pub enum ProjectedRead {
     At(Projected),
     Refused(u32),
 }
 
 // A length, a turn or a bearing.
-#[derive(Drop)]
+#[derive(Clone, Copy)]
 pub enum Figure {
     Is(f32),
     Refused(u32),
 }
 
 // A point of an edge with its elevation in decimetres.
-#[derive(Drop)]
+#[derive(Clone, Copy)]
 pub enum EdgePoint {
     At(Point, i32),
     Refused(u32),

@@ -8,7 +8,7 @@ use cache::victim::Found;
 use num::order::Ordering;
 
 // Which candidates are looked at: all, or those on which the road goes on past a node, up to a cost.
-#[derive(Drop)]
+#[derive(Clone, Copy)]
 pub enum Which {
     All,
     Past(f32),
@@ -22,7 +22,7 @@ pub(crate) struct Least {
 }
 
 // The candidate chosen, and the challenger from now on.
-#[derive(Drop)]
+#[derive(Clone, Copy)]
 pub struct Choice {
     pub chosen: Candidate,
     pub challenger: Challenger,

@@ -12,7 +12,7 @@ use geo::Point;
 use pack::{Header, TileKey};
 
 // How the lookups of a match end, as the definitions of specs/Gather tell it: all done; a tile that is not loaded; a ready run that no longer passes.
-#[derive(Drop)]
+#[derive(Clone, Copy)]
 pub enum Ending {
     All,
     Need(TileKey),

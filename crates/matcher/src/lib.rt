@@ -8,6 +8,8 @@
 //
 // `scan`, `score` and `keep` search a tile; `near`, `gather` and `choose` go over the tiles around a fix; `settle` makes the match, `state`
 // has number 12.
+#![tactic(auto)]
+
 pub mod choose;
 pub mod gather;
 mod keep;
@@ -30,21 +32,21 @@ use pack::{Header, TileKey};
 use tile::TileId;
 
 // A heading is either none or a degree figure.
-#[derive(Drop)]
+#[derive(Clone, Copy)]
 pub enum Heading {
     Nothing,
     Degrees(f32),
 }
 
 // Travelling from the edge's `from` node towards `to`, or back; unknown until a heading tells.
-#[derive(Drop)]
+#[derive(Clone, Copy)]
 pub enum Forward {
     Unknown,
     Is(bool),
 }
 
 // The rider's place on the road graph.
-#[derive(Drop)]
+#[derive(Clone, Copy)]
 pub struct Matched {
     pub tile: TileId,
     pub edge: u16,
@@ -64,14 +66,14 @@ pub struct Matched {
     pub ridden_m: f32,
 }
 
-#[derive(Drop)]
+#[derive(Clone, Copy)]
 pub enum Current {
     Nothing,
     Is(Matched),
 }
 
 // The closest segment of one edge: its points in metres from the fix.
-#[derive(Drop)]
+#[derive(Clone, Copy)]
 pub(crate) struct Nearest {
     pub segment: u16,
     pub fraction: f32,
@@ -80,7 +82,7 @@ pub(crate) struct Nearest {
     pub b: Metres,
 }
 
-#[derive(Drop)]
+#[derive(Clone, Copy)]
 pub struct Candidate {
     pub found: Matched,
     pub cost: f32,
@@ -93,14 +95,14 @@ pub struct Candidate {
 }
 
 // The candidates kept, at most eight, and how many they are.
-#[derive(Drop)]
+#[derive(Clone, Copy)]
 pub struct Kept {
     pub v: [Candidate; 8],
     pub len: usize,
 }
 
 // What a search is given beside a tile: the header, the fix, its heading, and the current match.
-#[derive(Drop)]
+#[derive(Clone, Copy)]
 pub struct Query {
     pub header: Header,
     pub fix: Point,
@@ -146,13 +148,13 @@ pub(crate) fn search(k: Kept, q: Query, bytes: &[u8]) -> Kept
 }
 
 // An edge that beat the current match, on how many fixes in a row.
-#[derive(Drop)]
+#[derive(Clone, Copy)]
 pub enum Challenger {
     Nothing,
     Is(TileId, u16, u8),
 }
 
-#[derive(Drop)]
+#[derive(Clone, Copy)]
 pub struct Matcher {
     pub current: Current,
     pub challenger: Challenger,
@@ -162,44 +164,44 @@ pub struct Matcher {
 }
 
 // One of the tiles that a search around a fix needs, or none.
-#[derive(Drop)]
+#[derive(Clone, Copy)]
 pub struct NearKey {
     pub key: MaybeKey,
 }
 
 // They, at most four, and how many they are.
-#[derive(Drop)]
+#[derive(Clone, Copy)]
 pub struct NearKeys {
     pub keys: [NearKey; 4],
     pub len: usize,
 }
 
 // What the lookup of one of them lands on, before its late check; Missing where there is no tile.
-#[derive(Drop)]
+#[derive(Clone, Copy)]
 pub struct Landed {
     pub lookup: Lookup,
 }
 
 // Of each of the four.
-#[derive(Drop)]
+#[derive(Clone, Copy)]
 pub struct Landings {
     pub v: [Landed; 4],
 }
 
-#[derive(Drop)]
+#[derive(Clone, Copy)]
 pub enum Answer {
     Accepted,
     Refused(u32),
 }
 
 // The keys stand beside the answer, none where it was refused.
-#[derive(Drop)]
+#[derive(Clone, Copy)]
 pub struct NearRead {
     pub answer: Answer,
     pub near: NearKeys,
 }
 
-#[derive(Drop)]
+#[derive(Clone, Copy)]
 pub enum CurrentRead {
     Nothing,
     Is(Matched),
@@ -207,7 +209,7 @@ pub enum CurrentRead {
 }
 
 // How a match ended: with a match, or none; with a tile that is needed first; refused.
-#[derive(Drop)]
+#[derive(Clone, Copy)]
 pub enum Outcome {
     Found(Matched),
     Nothing,
@@ -217,7 +219,7 @@ pub enum Outcome {
 
 // A match, and how many of the tiles around the fix count as gone through, none on the late 12: those of them that were found are the most recently used
 // now.
-#[derive(Drop)]
+#[derive(Clone, Copy)]
 pub struct Searched {
     pub answer: Outcome,
     pub matcher: Matcher,
@@ -225,14 +227,14 @@ pub struct Searched {
 }
 
 // A match with what it does to clock and ages beside the cache.
-#[derive(Drop)]
+#[derive(Clone, Copy)]
 pub struct Made {
     pub answer: Outcome,
     pub matcher: Matcher,
     pub uses: Aging,
 }
 
-#[derive(Drop)]
+#[derive(Clone, Copy)]
 pub struct Updated {
     pub answer: Outcome,
     pub matcher: Matcher,

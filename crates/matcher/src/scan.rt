@@ -9,7 +9,7 @@ use geo::{Metres, Point};
 use pack::{Header, TileKey};
 use tile::{Edge, Node};
 
-#[derive(Drop)]
+#[derive(Clone, Copy)]
 pub(crate) enum MaybeNearest {
     Nothing,
     At(Nearest),

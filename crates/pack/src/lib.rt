@@ -5,6 +5,8 @@
 // | 0           | 512             | Header: magic, version, grid, offsets, CRC-32 in its last 4 bytes                      |
 // | `directory` | rows × cols × 8 | For each tile, row by row from the south-west: byte offset u32, length u32 (0: no tile) |
 // | `data`      |                 | Tiles, back to back                                                                     |
+#![tactic(auto)]
+
 pub mod bytes;
 pub mod grid;
 
@@ -17,13 +19,13 @@ pub const HEADER_BYTES: usize = 512;
 pub const ENTRY_BYTES: usize = 8;
 
 // A tile by grid row (from the south) and column (from the west).
-#[derive(Drop)]
+#[derive(Clone, Copy)]
 pub struct TileKey {
     pub row: u16,
     pub col: u16,
 }
 
-#[derive(Drop)]
+#[derive(Clone, Copy)]
 pub struct Header {
     // Tile side in micro-degrees.
     pub tile: u32,
@@ -43,21 +45,21 @@ pub struct Header {
 }
 
 // How a sector was taken: accepted, or refused with a number.
-#[derive(Drop)]
+#[derive(Clone, Copy)]
 pub enum Answer {
     Accepted,
     Refused(u32),
 }
 
 // The header stands beside the answer, all zero where it was refused: an enum that holds it could never hold an array.
-#[derive(Drop)]
+#[derive(Clone, Copy)]
 pub struct Parsed {
     pub answer: Answer,
     pub header: Header,
 }
 
 // A tile's key, none where the place is outside the grid, or the refusal's number.
-#[derive(Drop)]
+#[derive(Clone, Copy)]
 pub enum Keyed {
     In(TileKey),
     Outside,
@@ -65,26 +67,26 @@ pub enum Keyed {
 }
 
 // The south-west corner of a tile, micro-degrees.
-#[derive(Drop)]
+#[derive(Clone, Copy)]
 pub struct Corner {
     pub south: i32,
     pub west: i32,
 }
 
-#[derive(Drop)]
+#[derive(Clone, Copy)]
 pub enum Origin {
     At(Corner),
     Refused(u32),
 }
 
-#[derive(Drop)]
+#[derive(Clone, Copy)]
 pub enum Offset {
     At(u64),
     Refused(u32),
 }
 
 // A directory entry's tile, offset and length; none where it has no roads.
-#[derive(Drop)]
+#[derive(Clone, Copy)]
 pub enum Located {
     Tile(u32, u32),
     NoTile,
@@ -92,7 +94,7 @@ pub enum Located {
 }
 
 // Where bytes of a lent pack start.
-#[derive(Drop)]
+#[derive(Clone, Copy)]
 pub enum Range {
     At(usize),
     Refused(u32),

@@ -25,7 +25,7 @@ pub(crate) fn no_choices() -> Choices
 }
 
 // The best so far, if there is one, and the cost of the second, infinite where there is none.
-#[derive(Drop)]
+#[derive(Clone, Copy)]
 pub struct Picked {
     pub any: bool,
     pub best: Choice,

@@ -5,16 +5,16 @@ ghost use Rattle.predict.specs.Cost as Cost;
 use tile::Edge;
 
 // The road that is followed: its class, name and flags.
-#[derive(Drop)]
-pub(crate) struct Road {
+#[derive(Clone, Copy)]
+pub struct Road {
     pub class: u8,
     pub group: u16,
     pub flags: u8,
 }
 
 // The heading that turns are judged by, and whether that is the one with which a roundabout was entered.
-#[derive(Drop)]
-pub(crate) struct Bound {
+#[derive(Clone, Copy)]
+pub struct Bound {
     pub heading: f32,
     pub round: bool,
 }

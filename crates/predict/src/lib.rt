@@ -6,6 +6,8 @@
 // `samples` has the heights, with the mark and the heights lent side by side; `spots` says where an edge's points stand, and how far apart, in
 // numbers; `start`, `vertex`, `incoming` and `ridden` move along one edge and look no tile up; `twins`, `outgoing`, `cost` and `choose` have the ways on from a junction, `visits`, `meets`, `consider`, `cross` and
 // `decide` the one that is taken; `turn`, `enter` and `follow` go from edge to edge up to the horizon; `road` is the whole.
+#![tactic(auto)]
+
 pub mod choose;
 mod consider;
 mod cost;
@@ -36,7 +38,7 @@ use matcher::{Heading, Matched};
 use pack::{Header, TileKey};
 
 // How many samples are written, and the last road point: its distance, and its height in decimetres.
-#[derive(Drop)]
+#[derive(Clone, Copy)]
 pub struct Mark {
     pub len: usize,
     pub distance: f32,
@@ -44,28 +46,28 @@ pub struct Mark {
 }
 
 // An edge of a tile, and the direction in which it is followed.
-#[derive(Drop)]
-pub(crate) struct Way {
+#[derive(Clone, Copy)]
+pub struct Way {
     pub tile: TileKey,
     pub edge: u16,
     pub forward: bool,
 }
 
-#[derive(Drop)]
+#[derive(Clone, Copy)]
 pub struct Choice {
     pub way: Way,
     pub cost: f32,
 }
 
 // The choices of a junction, at most twelve, and how many they are.
-#[derive(Drop)]
+#[derive(Clone, Copy)]
 pub struct Choices {
     pub v: [Choice; 12],
     pub len: usize,
 }
 
 // What a road ahead is worked out for: the map, how far, and the rider's height in decimetres.
-#[derive(Drop)]
+#[derive(Clone, Copy)]
 pub struct Trip {
     pub header: Header,
     pub horizon_m: f32,
@@ -73,8 +75,8 @@ pub struct Trip {
 }
 
 // The points passed last, at most sixteen, the oldest first, and how many they are: latitudes, longitudes, distances.
-#[derive(Drop)]
-pub(crate) struct History {
+#[derive(Clone, Copy)]
+pub struct History {
     pub lats: [i32; 16],
     pub lons: [i32; 16],
     pub distances: [f32; 16],
@@ -82,7 +84,7 @@ pub(crate) struct History {
 }
 
 // A track but for its history, whose arrays are lent beside it.
-#[derive(Drop)]
+#[derive(Clone, Copy)]
 pub(crate) struct Course {
     pub here: Point,
     pub distance: f32,
@@ -92,7 +94,7 @@ pub(crate) struct Course {
 }
 
 // How far the road has been followed. It is over at the horizon, or with the last sample.
-#[derive(Drop)]
+#[derive(Clone, Copy)]
 pub struct Track {
     pub here: Point,
     pub distance: f32,
@@ -102,7 +104,7 @@ pub struct Track {
 }
 
 // Why the road ahead stops where it does.
-#[derive(Drop)]
+#[derive(Clone, Copy)]
 pub enum End {
     // The full horizon was followed.
     Horizon,
@@ -119,7 +121,7 @@ pub enum End {
 }
 
 // How a walk stands: it goes on; the road stops; a tile that is not loaded; a ready run that no longer passes.
-#[derive(Drop)]
+#[derive(Clone, Copy)]
 pub enum Ending {
     Going,
     Stops(End),
@@ -134,7 +136,7 @@ pub(crate) const VISITED: usize = 386;
 pub(crate) const MET: usize = 194;
 
 // How the walk comes to a junction: the way it came by, the heading that turns are judged by, and the road that it follows.
-#[derive(Drop)]
+#[derive(Clone, Copy)]
 pub struct Arrival {
     pub header: Header,
     pub way: Way,
@@ -143,7 +145,7 @@ pub struct Arrival {
 }
 
 // The ways on, whether one may lie off the map, and how the lookups of the tiles that share the node ended.
-#[derive(Drop)]
+#[derive(Clone, Copy)]
 pub(crate) struct Crossing {
     pub choices: Choices,
     pub blocked: bool,
@@ -151,7 +153,7 @@ pub(crate) struct Crossing {
 }
 
 // The way that is taken, and how sure the road is after it.
-#[derive(Drop)]
+#[derive(Clone, Copy)]
 pub struct Decision {
     pub ending: Ending,
     pub way: Way,
@@ -161,7 +163,7 @@ pub struct Decision {
 // A walk before an edge: the way it takes, and the number of the first point along it that lies ahead; the heading with which a roundabout was
 // entered, and that of the approach to one; the road that it prefers; how sure it is; and whether it goes on. How far it has come is its track;
 // the edges and tiles behind it are lent as numbers.
-#[derive(Drop)]
+#[derive(Clone, Copy)]
 pub struct Walk {
     pub way: Way,
     pub from: u32,
@@ -192,7 +194,7 @@ pub const MAX_SAMPLES: usize = 501;
 // Samples for the 200 m behind the rider, both ends included.
 pub const BEHIND_SAMPLES: usize = 11;
 
-#[derive(Drop)]
+#[derive(Clone, Copy)]
 pub struct Prediction {
     // Samples written, from the rider (sample 0) on.
     pub len: usize,
@@ -208,7 +210,7 @@ pub struct Prediction {
 }
 
 // How it ended: with a road; with a tile that is needed first; with a start whose tile is no longer the start's; refused.
-#[derive(Drop)]
+#[derive(Clone, Copy)]
 pub enum Outcome {
     Road(Prediction),
     Need(TileKey),
@@ -216,7 +218,7 @@ pub enum Outcome {
     Refused(u32),
 }
 
-#[derive(Drop)]
+#[derive(Clone, Copy)]
 pub struct Predicted {
     pub answer: Outcome,
     pub cache: Cache,

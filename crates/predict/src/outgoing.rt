@@ -8,7 +8,7 @@ use pack::{Header, TileKey};
 use tile::Edge;
 
 // An edge of a tile, followed from one of its ends.
-#[derive(Drop)]
+#[derive(Clone, Copy)]
 pub struct Leg {
     pub header: Header,
     pub key: TileKey,

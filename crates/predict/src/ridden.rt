@@ -8,7 +8,7 @@ use geo::Point;
 use matcher::Matched;
 
 // How far back the road has been followed. It is over where the ride began.
-#[derive(Drop)]
+#[derive(Clone, Copy)]
 pub struct Back {
     pub here: Point,
     pub distance: f32,
@@ -17,7 +17,7 @@ pub struct Back {
 }
 
 // The samples written behind the rider, and the distance to the last of them.
-#[derive(Drop)]
+#[derive(Clone, Copy)]
 pub struct Behind {
     pub len: usize,
     pub m: f32,

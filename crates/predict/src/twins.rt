@@ -3,7 +3,7 @@ ghost use Rattle.std.specs.Prelude.{◌≡◌};
 ghost use Rattle.predict.specs.Twins as Twins;
 
 // A neighbour by its step in rows and columns, and where the point stands in it.
-#[derive(Drop)]
+#[derive(Clone, Copy)]
 pub struct Twin {
     pub row: i64,
     pub col: i64,
@@ -12,7 +12,7 @@ pub struct Twin {
 }
 
 // They, and how many they are: three where the point is a corner.
-#[derive(Drop)]
+#[derive(Clone, Copy)]
 pub struct TwinList {
     pub v: [Twin; 8],
     pub len: usize,

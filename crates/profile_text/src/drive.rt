@@ -6,7 +6,7 @@ ghost use Rattle.profile_text.specs.Appended.{Appended};
 use crate::{put, put_bytes, put_number};
 
 // How the last step after a fix ended.
-#[derive(Drop)]
+#[derive(Clone, Copy)]
 pub enum Status {
     Idle,
     Working,
@@ -16,7 +16,7 @@ pub enum Status {
 }
 
 // The direction along the matched edge.
-#[derive(Drop)]
+#[derive(Clone, Copy)]
 pub enum Way {
     Unknown,
     Forward,
@@ -24,7 +24,7 @@ pub enum Way {
 }
 
 // Why the road ahead ends.
-#[derive(Drop)]
+#[derive(Clone, Copy)]
 pub enum End {
     Horizon,
     Fork,
@@ -35,7 +35,7 @@ pub enum End {
 }
 
 // A match: its tile, its edge, and how far the fix lies from the road, in decimetres.
-#[derive(Drop)]
+#[derive(Clone, Copy)]
 pub struct Place {
     pub row: u16,
     pub col: u16,
@@ -44,13 +44,13 @@ pub struct Place {
     pub offset_dm: u16,
 }
 
-#[derive(Drop)]
+#[derive(Clone, Copy)]
 pub enum MaybePlace {
     Nothing,
     At(Place),
 }
 
-#[derive(Drop)]
+#[derive(Clone, Copy)]
 pub struct FixLine {
     // The fix's number, from 1.
     pub number: u16,

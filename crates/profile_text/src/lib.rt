@@ -1,5 +1,7 @@
 // The text that the program `profile` prints: a heading and a line for each sample, metres ahead and rise in whole metres.
 // `drive` has the line that the program `drive` prints for a fix, `page` the printed page.
+#![tactic(auto)]
+
 pub mod drive;
 pub mod page;
 

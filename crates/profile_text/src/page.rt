@@ -8,7 +8,7 @@ ghost use Rattle.profile_text.specs.Appended.{Appended};
 use crate::{put, put_bytes, put_number, size};
 
 // The length of the page that was written, or the number of the refusal.
-#[derive(Drop)]
+#[derive(Clone, Copy)]
 pub enum Printed {
     Length(usize),
     Refused(u32),

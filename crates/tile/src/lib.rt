@@ -11,6 +11,8 @@
 // Elevation `z` is fifths of a metre above -500 m. Nodes are sorted by (y, x), which `parse` tests. A node on the tile boundary continues in the neighbouring tile at the same point.
 // The functions work on the tile's bytes and numbers. A record that does not end within the bytes is refused with 7 by its reader; in a head, and in the
 // total functions of `raw`, a byte past the end counts as 0.
+#![tactic(auto)]
+
 pub mod check;
 pub mod class;
 pub mod flag;
@@ -30,14 +32,14 @@ pub const Z_STEP_DM: i32 = 2;
 
 pub const Z_OFFSET_DM: i32 = 5000;
 
-#[derive(Drop)]
+#[derive(Clone, Copy)]
 pub struct Node {
     pub x: u16,
     pub y: u16,
     pub z: u16,
 }
 
-#[derive(Drop)]
+#[derive(Clone, Copy)]
 pub struct Edge {
     pub from: u16,
     pub to: u16,
@@ -57,7 +59,7 @@ impl Edge {
 }
 
 // One tile's bytes: where on the grid, and which version of them. An edge or point number holds only for the tile it was read from.
-#[derive(Drop)]
+#[derive(Clone, Copy)]
 pub struct TileId {
     pub key: TileKey,
     pub crc: u32,
@@ -65,7 +67,7 @@ pub struct TileId {
 }
 
 // The fields of a tile's header.
-#[derive(Drop)]
+#[derive(Clone, Copy)]
 pub struct Head {
     pub key: TileKey,
     pub nodes: u16,
@@ -75,45 +77,45 @@ pub struct Head {
     pub lon_um: u32,
 }
 
-#[derive(Drop)]
+#[derive(Clone, Copy)]
 pub enum Parsed {
     Tile(Head),
     Refused(u32),
 }
 
-#[derive(Drop)]
+#[derive(Clone, Copy)]
 pub enum NodeRead {
     At(Node),
     Refused(u32),
 }
 
-#[derive(Drop)]
+#[derive(Clone, Copy)]
 pub enum EdgeRead {
     At(Edge),
     Refused(u32),
 }
 
 // An edge at a node, and whether it ends there.
-#[derive(Drop)]
+#[derive(Clone, Copy)]
 pub struct Incident {
     pub edge: u16,
     pub ends: bool,
 }
 
 // The adjacency entries of a node, from the first up to the last.
-#[derive(Drop)]
+#[derive(Clone, Copy)]
 pub enum Entries {
     Range(u32, u32),
     Refused(u32),
 }
 
-#[derive(Drop)]
+#[derive(Clone, Copy)]
 pub enum EntryRead {
     At(Incident),
     Refused(u32),
 }
 
-#[derive(Drop)]
+#[derive(Clone, Copy)]
 pub enum Found {
     At(u16),
     Nothing,

@@ -4,6 +4,8 @@
 // An enum can't hold a view, so what may be refused is asked first, on the bytes: `tile::parse`, or the cache's lookup. Then the view is made of those
 // bytes. Making it refuses nothing, and every reader is total: a view of any other bytes reads them as the core does, with 7 for an index past its
 // count. `node_at`, `edge_point` and the module `through` go from bytes to a view and on to its answer; their callers meet no view.
+#![tactic(auto)]
+
 pub mod on;
 pub mod through;
 
@@ -20,14 +22,14 @@ use tile::{Edge, EdgeRead, Entries, EntryRead, Found, Head, NodeRead, Parsed, Ti
 
 // Key, counts and micrometres per micro-degree stand in the head, as `tile::read::head` has it. The readers go by the bytes alone, so that no count can
 // disagree with them.
-#[derive(Drop)]
+#[derive(Clone, Copy)]
 pub struct Tile<'a> {
     pub bytes: &'a [u8],
     pub head: Head,
 }
 
 // What a search in bytes that may be no tile finds.
-#[derive(Drop)]
+#[derive(Clone, Copy)]
 pub enum NodeFound {
     At(u16),
     Nothing,

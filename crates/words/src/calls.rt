@@ -12,7 +12,7 @@ use pack::Header;
 use predict::Outcome;
 
 // An answer, and the matcher after it.
-#[derive(Drop)]
+#[derive(Clone, Copy)]
 pub struct Matching {
     pub answer: matcher::Outcome,
     pub matcher: Matcher,

@@ -35,6 +35,8 @@
 //
 // `decode` and `encode` have the pieces, both ways, and `kept` the test that words are some engine's; `pages` number 12's causes in the cache's words, `look` the lookups there, `begin` a load that begins;
 // `steps` a step on words, `work` its matches and roads, `deliver` the answer to a fetch and a step over a lent pack, `calls` the matcher's and predict's own calls.
+#![tactic(auto)]
+
 mod begin;
 pub mod calls;
 pub mod decode;
@@ -58,7 +60,7 @@ pub const WORDS: usize = 1150;
 pub const VERSION: u32 = 1;
 
 // Whether the words are those of an engine, and the engine.
-#[derive(Drop)]
+#[derive(Clone, Copy)]
 pub struct Reading {
     pub accepted: bool,
     pub engine: Engine,

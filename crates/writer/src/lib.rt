@@ -1,4 +1,6 @@
 // Packs written: a tile made of its records, and a pack made of a grid and tiles.
+#![tactic(auto)]
+
 mod fields;
 mod given;
 mod pack_rules;
@@ -12,14 +14,14 @@ ghost use Rattle.writer.specs.PackWritten as PackWritten;
 use pack::TileKey;
 
 // How many bytes were written, or the number that refused it.
-#[derive(Drop)]
+#[derive(Clone, Copy)]
 pub enum Answer {
     Length(u32),
     Refused(u32),
 }
 
 // A pack's grid: south-west corner, tile size, rows and columns.
-#[derive(Drop)]
+#[derive(Clone, Copy)]
 struct Grid {
     south: i32,
     west: i32,
