@@ -86,6 +86,7 @@ in_arc nnw q h = omega arith
 
 or_l : (a b : Bool) → T a → T (a || b)
 or_l true b t = tt
+or_l false b t = elim t [ ]
 
 rounded_within : (k : Eighth) (a : ℕ) → InArc k a → T (within k (round binary32 false a degree))
 unfolding of_int

@@ -70,8 +70,8 @@ tests_finite false b s v h = h
 
 fields_finite : (f : Format) (s : Bool) (x t : ℕ) → is_finite (of_fields f s x t) ≡ not (eqb x (ones f))
 unfolding of_fields
-fields_finite binary32 s zero t = odd_finite _ s t _ _
-fields_finite binary64 s zero t = odd_finite _ s t _ _
+fields_finite binary32 s zero t = odd_finite (prec binary32) s t 0 (low binary32)
+fields_finite binary64 s zero t = odd_finite (prec binary64) s t 0 (low binary64)
 fields_finite f s (suc x) t = tests_finite (eqb (suc x) (ones f)) (eqb t 0) s _ (odd_finite (prec f) s (hid f + t) x (low f))
 
 -- the exponent's field is not all ones exactly where the whole is below an infinity's

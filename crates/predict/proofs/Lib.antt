@@ -1,7 +1,6 @@
 -- Laws of the samples, for their proofs.
 -- SampleLiterals: the figures that the code writes as literals. Signed: a difference of two i32 fits 64 bits. SampleTurns: the turns of `sloped` and
--- `level`, that `pushed` writes what they do, and that the cast holds a height to 16 bits by itself. Lent: what the walks of `push` and `push_on` share.
-mod Lent
+-- `level`, that `pushed` writes what they do, and that the cast holds a height to 16 bits by itself.
 pub mod SampleLiterals
 pub mod Signed
 pub mod SampleTurns

@@ -1,0 +1,13 @@
+-- `cache::Cache::capacity` meets its contract: each return by the test of the state and the arena.
+use Rattle.std.proofs.Common.{sym, ◌∙◌}
+use borrow.Author.Tests.{not-true, not-false}
+use Rattle.cache.specs.Calls.{capacity}
+use Rattle.cache.proofs.Cache.capacity.Goals as goal
+
+pub returns-then-not-lent_ok : goal.returns-then-not-lent_ok
+unfolding capacity
+returns-then-not-lent_ok c = rw (sym c.lent_ok.ensures ∙ not-true _ c.if-not-lent_ok.true-raw)
+
+pub returns : goal.returns
+unfolding capacity
+returns c = rw (sym c.lent_ok.ensures ∙ not-false _ c.if-not-lent_ok.false-raw)

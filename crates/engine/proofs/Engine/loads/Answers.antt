@@ -1,0 +1,13 @@
+-- `engine::Engine::loads` meets its contract: each return by the test of the state.
+use Rattle.std.proofs.Common.{sym, ◌∙◌}
+use borrow.Author.Tests.{not-true, not-false}
+use Rattle.engine.specs.Calls.{loads}
+use Rattle.engine.proofs.Engine.loads.Goals as goal
+
+pub returns-then-not-engine_ok : goal.returns-then-not-engine_ok
+unfolding loads
+returns-then-not-engine_ok c = rw (sym c.engine_ok.ensures ∙ not-true _ c.if-not-engine_ok.true-raw)
+
+pub returns : goal.returns
+unfolding loads
+returns c = rw (sym c.engine_ok.ensures ∙ not-false _ c.if-not-engine_ok.false-raw)

@@ -1,0 +1,30 @@
+-- `matcher::choose::past_node` meets its contract: each return by the test of the node and the candidate found, with the literal read as a
+-- whole number.
+use mathlib.Core.Path.{sym, ◌∙◌}
+use borrow.Author.Tests.{not-true, not-false}
+use Rattle.matcher.specs.Choose.{past_node}
+use Rattle.matcher.proofs.Literals.{literal_2}
+use Rattle.matcher.proofs.choose.past_node.Goals as goal
+
+pub returns-then-not-chosen : goal.returns-then-not-chosen
+unfolding past_node
+returns-then-not-chosen c = rw (not-true c.args.choice.chosen.at_node c.if-not-chosen.true)
+
+pub returns-in-Nothing : goal.returns-in-Nothing
+unfolding past_node
+returns-in-Nothing c =
+    rw (
+      ← literal_2,
+      sym c.least_of.ensures ∙ c.in-Nothing.is,
+      not-false c.args.choice.chosen.at_node c.if-not-chosen.false,
+    )
+
+pub returns-in-At : goal.returns-in-At
+unfolding past_node
+returns-in-At c =
+    rw (
+      ← literal_2,
+      sym c.least_of.ensures ∙ c.in-At.is,
+      not-false c.args.choice.chosen.at_node c.if-not-chosen.false,
+      c.candidate_in.ensures,
+    )

@@ -1,0 +1,26 @@
+-- `pack::Header::origin` meets its contract. Each return by the tests that led there.
+use mathlib.Core.Path.{sym, ◌∙◌}
+use borrow.Author.Tests.{not-true, not-false}
+use Rattle.pack.specs.Grid.{origin}
+use Rattle.pack.proofs.Header.origin.Goals as goal
+
+pub returns-then-not-rules : goal.returns-then-not-rules
+unfolding origin
+returns-then-not-rules c = rw (sym c.rules.ensures ∙ not-true _ c.if-not-rules.true-raw)
+
+pub returns-then-not-in_grid : goal.returns-then-not-in_grid
+unfolding origin
+returns-then-not-in_grid c =
+    rw (
+      sym c.rules.ensures ∙ not-false _ c.if-not-rules.false-raw,
+      sym c.in_grid.ensures ∙ not-true _ c.if-not-in_grid.true-raw,
+    )
+
+pub returns : goal.returns
+unfolding origin
+returns c =
+    rw (
+      c.corner_of.ensures,
+      sym c.rules.ensures ∙ not-false _ c.if-not-rules.false-raw,
+      sym c.in_grid.ensures ∙ not-false _ c.if-not-in_grid.false-raw,
+    )

@@ -1,0 +1,6 @@
+-- `predict::road::no_mark` meets its contract: the literal read as a whole number.
+use Rattle.geo.proofs.Literals.{literal_0}
+use Rattle.predict.proofs.road.no_mark.Goals as goal
+
+pub returns : goal.returns
+returns c = rw literal_0

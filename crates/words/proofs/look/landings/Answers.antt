@@ -1,0 +1,7 @@
+-- `look::landings` meets its contract, place by place.
+use Rattle.matcher.specs.Gather.{landings}
+use Rattle.words.proofs.look.landings.Goals as goal
+
+pub returns : goal.returns
+unfolding landings
+returns c = rw (c.land-fourth.ensures, c.land-third.ensures, c.land-second.ensures, c.land-first.ensures)
