@@ -3,12 +3,17 @@
 //
 // PACK is a pack's file. DRIVE is a text with a line for each fix: latitude and longitude in 1e-7 degrees, and the time in milliseconds. With K
 // every K-th read of the pack is reported missed, as a card in the cold misses reads.
+#![tactic(auto)]
+
 mod show;
 
 use engine::{Engine, Status};
 use ride::fixes::Line;
 use ride::host::{Card, Ride};
 use ride::{fixes, host};
+use std::fs::File;
+use std::rt::{Env, Files};
+use std::{fs, io};
 
 // 24 pages: twelve for the road ahead, beside the twelve that a road leaves free.
 const ARENA: usize = 196608;
@@ -20,19 +25,12 @@ const HORIZON: f32 = 10000.0;
 const DRIVE: usize = 65535;
 
 // Why a drive ends before its time.
-fn say(why: &[u8]) {
-    io::write_all(libc::STDOUT_FILENO, b"drive: ");
-    io::write_all(libc::STDOUT_FILENO, why);
-    io::write_all(libc::STDOUT_FILENO, b"\n");
+fn say(rt: &impl Print, why: &str) -> io::Result<()> {
+    println!(rt; "drive: {why}")
 }
 
-fn say_line(number: u16) {
-    io::write_all(libc::STDOUT_FILENO, b"drive: line ");
-    io::print_decimal(libc::STDOUT_FILENO, number as u64);
-    io::write_all(
-        libc::STDOUT_FILENO,
-        b" is not latitude, longitude and time\n",
-    );
+fn say_line(rt: &impl Print, number: u16) -> io::Result<()> {
+    println!(rt; "drive: line {number} is not latitude, longitude and time")
 }
 
 fn is_no_pack(status: Status) -> bool {
@@ -47,7 +45,7 @@ fn is_no_pack(status: Status) -> bool {
 }
 
 // The fixes of a text, one after the other, up to the first that finds no pack.
-fn drive(card: Card, text: &[u8], arena: &mut [u8]) {
+fn drive(rt: &impl Print, card: Card<'_>, text: &[u8], arena: &mut [u8]) -> io::Result<()> {
     let engine = Engine::new(&arena[..], HORIZON);
     let mut ride = Ride { engine, reads: 0 };
     let mut at = 0;
@@ -58,96 +56,82 @@ fn drive(card: Card, text: &[u8], arena: &mut [u8]) {
         match line {
             Line::Fix(fix, next) => {
                 let t = host::driven(card, ride, arena, fix);
-                show::fix(number, t, &arena[..]);
+                show::fix(rt, number, t, &arena[..])?;
                 let status = t.status;
                 if is_no_pack(status) {
-                    say(b"the pack is refused, or eight reads of it failed");
-                    return;
+                    return say(rt, "the pack is refused, or eight reads of it failed");
                 }
                 ride = t.ride;
                 at = next;
             }
-            Line::End => {
-                show::road(ride, &arena[..]);
-                return;
-            }
-            Line::Bad => {
-                say_line(number);
-                return;
-            }
+            Line::End => return show::road(rt, ride, &arena[..]),
+            Line::Bad => return say_line(rt, number),
         }
     }
-    say(b"more than 65534 fixes");
+    say(rt, "more than 65534 fixes")
 }
 
 // The drive's file, read whole.
-fn drive_file(card: Card, fd: i32) {
-    let mut text = io::large_buffer();
-    let n = io::read_full(fd, &mut text);
+fn drive_file(rt: &impl Print, card: Card<'_>, mut list: File) -> io::Result<()> {
+    let mut text = [0u8; DRIVE + 1];
+    let n = reading::read_full(&mut list, &mut text)?;
     if DRIVE < n {
-        say(b"the drive is longer than 65535 bytes");
-        return;
+        return say(rt, "the drive is longer than 65535 bytes");
     }
     if n == 0 {
-        say(b"the drive has no fixes");
-        return;
+        return say(rt, "the drive has no fixes");
     }
     let mut arena = [0u8; ARENA];
-    show::heading();
-    drive(card, &text[..n], &mut arena);
+    show::heading(rt)?;
+    drive(rt, card, &text[..n], &mut arena)
 }
 
 // Which reads are to be missed: the third argument, or none.
-fn missed() -> fixes::Number {
-    if os::arg_count() < 4 {
+fn missed(rt: &impl Env) -> fixes::Number {
+    if !reading::has_argument(rt, 3) {
         return fixes::Number {
             is: true,
             value: 0,
             next: 0,
         };
     }
-    let mut word = io::buffer();
-    let n = os::arg(3, &mut word);
+    let mut word = [0u8; 4096];
+    let n = reading::argument(rt, 3, &mut word);
     fixes::read_number(&word[..n], 0, 0)
 }
 
-// A file that an argument names, opened; -1 where it can't be, and that is told.
-fn opened(i: usize) -> i32 {
-    let mut path = io::buffer();
-    let n = os::arg(i, &mut path);
-    let fd = os::open_read(&path[..n]);
-    if fd < 0 {
-        io::write_all(libc::STDOUT_FILENO, b"drive: can't read ");
-        io::write_all(libc::STDOUT_FILENO, &path[..n]);
-        io::write_all(libc::STDOUT_FILENO, b"\n");
+// A file that an argument names, opened; none where it can't be, and that is told.
+fn opened(rt: &(impl Env + Files<File = File> + Print), i: usize) -> io::Result<Option<File>> {
+    let mut path = [0u8; 4096];
+    let n = reading::argument(rt, i, &mut path);
+    if let Ok(name) = str::from_utf8(&path[..n]) {
+        if let Ok(file) = fs::open(rt, name) {
+            return Ok(Some(file));
+        }
     }
-    fd
+    print!(rt; "drive: can't read ")?;
+    rt.write_all(&path[..n])?;
+    println!(rt)?;
+    Ok(None)
 }
 
-fn main() {
-    let count = os::arg_count();
-    if count < 3 || 4 < count {
-        say(b"usage: drive PACK DRIVE [K]");
-        return;
+fn main(rt: HostRuntime) -> io::Result<()> {
+    if !reading::has_argument(&rt, 2) || reading::has_argument(&rt, 4) {
+        return say(&rt, "usage: drive PACK DRIVE [K]");
     }
-    let every = missed();
+    let every = missed(&rt);
     if !every.is {
-        say(b"K is not a number");
-        return;
+        return say(&rt, "K is not a number");
     }
-    let pack = opened(1);
-    if pack < 0 {
-        return;
-    }
-    let list = opened(2);
-    if list < 0 {
-        return;
-    }
+    let Some(pack) = opened(&rt, 1)? else {
+        return Ok(());
+    };
+    let Some(list) = opened(&rt, 2)? else {
+        return Ok(());
+    };
     let card = Card {
-        fd: pack,
+        file: &pack,
         every: every.value,
     };
-    drive_file(card, list);
-    libc::close(list);
-    libc::close(pack);
+    drive_file(&rt, card, list)
 }

@@ -5,12 +5,10 @@ use engine::{Ahead, Current, Forward, Status};
 use profile_text::ROOM;
 use profile_text::drive::{FixLine, MaybePlace, Place, Way};
 use ride::host::{Ride, Turned};
+use std::io;
 
-pub fn heading() {
-    io::write_all(
-        libc::STDOUT_FILENO,
-        b"fix status row col edge way offset samples end confidence\n",
-    );
+pub fn heading(rt: &impl Print) -> io::Result<()> {
+    println!(rt; "fix status row col edge way offset samples end confidence")
 }
 
 fn status_of(status: Status) -> profile_text::drive::Status {
@@ -77,14 +75,14 @@ fn place_of(matched: Current) -> MaybePlace {
     }
 }
 
-fn put(line: FixLine) {
+fn put(rt: &impl Print, line: FixLine) -> io::Result<()> {
     let mut out = [0u8; ROOM];
     let len = profile_text::drive::fix_line(line, &mut out);
-    io::write_all(libc::STDOUT_FILENO, &out[..len]);
+    rt.write_all(&out[..len])
 }
 
 // The line of a fix: how the last call after it ended, and the road that is published.
-pub fn fix(number: u16, t: Turned, arena: &[u8]) {
+pub fn fix(rt: &impl Print, number: u16, t: Turned, arena: &[u8]) -> io::Result<()> {
     let ride = t.ride;
     let e = ride.engine;
     let read = e.ahead(arena);
@@ -92,14 +90,17 @@ pub fn fix(number: u16, t: Turned, arena: &[u8]) {
     let status = t.status;
     let matched = a.matched;
     let end = a.end;
-    put(FixLine {
-        number,
-        status: status_of(status),
-        place: place_of(matched),
-        samples: short(a.len as u64),
-        end: end_of(end),
-        confidence: a.confidence,
-    });
+    put(
+        rt,
+        FixLine {
+            number,
+            status: status_of(status),
+            place: place_of(matched),
+            samples: short(a.len as u64),
+            end: end_of(end),
+            confidence: a.confidence,
+        },
+    )
 }
 
 // The heights of a road as the program `profile` reads them: decimetres of 16 bits, the low byte first.
@@ -128,7 +129,7 @@ fn byte_count(heights: usize) -> usize
 }
 
 // Metres ahead and rise of the last road; the heading alone where there is none.
-pub fn road(ride: Ride, arena: &[u8]) {
+pub fn road(rt: &impl Print, ride: Ride, arena: &[u8]) -> io::Result<()> {
     let e = ride.engine;
     let read = e.ahead(arena);
     let a = read.ahead;
@@ -136,5 +137,5 @@ pub fn road(ride: Ride, arena: &[u8]) {
     let len = byte_count(a.len);
     let mut out = [0u8; ROOM];
     let n = profile_text::text(&input[0..len], &mut out);
-    io::write_all(libc::STDOUT_FILENO, &out[..n]);
+    rt.write_all(&out[..n])
 }

@@ -13,7 +13,7 @@ const TOP: u64 = 2600;
 const LAT_UM: u32 = 111195;
 
 // Micrometres of a micro-degree of longitude, one less than the micrometres of ground that a unit of the page has, and where the grid's lower edge lies.
-#[derive(Drop)]
+#[derive(Clone, Copy)]
 pub struct Frame {
     pub lon_um: u32,
     pub over: u32,

@@ -3,6 +3,7 @@ ghost use Rattle.std.specs.Prelude.{◌≤◌};
 
 use crate::svg;
 use engine::Ahead;
+use std::io;
 
 // The left edge, the width, the lowest line and the height of the drawing.
 const LEFT: u64 = 2000;
@@ -17,7 +18,7 @@ const HIGH: u64 = 3600;
 const MOST: usize = 501;
 
 // The least and the greatest height, in decimetres.
-#[derive(Drop)]
+#[derive(Clone, Copy)]
 struct Heights {
     low: i16,
     high: i16,
@@ -78,53 +79,59 @@ fn up(r: Heights, z: i16) -> u64 {
 }
 
 // The line.
-fn line(a: Ahead, r: Heights, count: usize) {
-    svg::put(b"<polyline class=\"line profile\" stroke-width=\"40\" points=\"");
+fn line(rt: &impl Print, a: Ahead, r: Heights, count: usize) -> io::Result<()> {
+    svg::put(
+        rt,
+        b"<polyline class=\"line profile\" stroke-width=\"40\" points=\"",
+    )?;
     let mut i = 0;
     while i < 501 {
         if count <= i {
             break;
         }
-        svg::point(across(i, count), up(r, a.samples[i]));
+        svg::point(rt, across(i, count), up(r, a.samples[i]))?;
         i += 1;
     }
-    svg::put(b"\"/>\n");
+    svg::put(rt, b"\"/>\n")
 }
 
 // One height in figures.
-fn tick(x: u64, metres: u64, z: i16) {
-    svg::field(b"<text class=\"tick\" x=\"", x);
-    svg::field(b"\" y=\"25650\">", metres);
-    svg::field(b"</text><text class=\"tick\" x=\"", x);
-    svg::put(b"\" y=\"26050\">");
-    svg::signed(profile_text::whole_metres(z));
-    svg::put(b"</text>\n");
+fn tick(rt: &impl Print, x: u64, metres: u64, z: i16) -> io::Result<()> {
+    svg::field(rt, b"<text class=\"tick\" x=\"", x)?;
+    svg::field(rt, b"\" y=\"25650\">", metres)?;
+    svg::field(rt, b"</text><text class=\"tick\" x=\"", x)?;
+    svg::put(rt, b"\" y=\"26050\">")?;
+    svg::signed(rt, profile_text::whole_metres(z))?;
+    svg::put(rt, b"</text>\n")
 }
 
 // Some nine heights in figures.
-fn ticks(a: Ahead, count: usize) {
+fn ticks(rt: &impl Print, a: Ahead, count: usize) -> io::Result<()> {
     let step = count / 9 + 1;
     let mut i = 0;
     while i < 501 {
         if count <= i {
-            return;
+            return Ok(());
         }
         if i % step == 0 {
-            tick(across(i, count), (i as u64) * 20, a.samples[i]);
+            tick(rt, across(i, count), (i as u64) * 20, a.samples[i])?;
         }
         i += 1;
     }
+    Ok(())
 }
 
-pub fn show(a: Ahead) {
+pub fn show(rt: &impl Print, a: Ahead) -> io::Result<()> {
     let count = a.len;
     let r = range(a, count);
     svg::put(
+        rt,
         b"<text x=\"2000\" y=\"21200\">Road ahead of the last fix: metres ahead, and rise in metres</text>\n<path class=\"line\" stroke-width=\"12\" d=\"M2000 25200h17000M2000 21600v3600\"/>\n",
-    );
-    line(a, r, count);
-    ticks(a, count);
+    )?;
+    line(rt, a, r, count)?;
+    ticks(rt, a, count)?;
     svg::put(
+        rt,
         b"<text class=\"tick\" x=\"1300\" y=\"25650\">ahead</text><text class=\"tick\" x=\"1300\" y=\"26050\">rise</text>\n",
-    );
+    )
 }

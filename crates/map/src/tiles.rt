@@ -4,6 +4,8 @@ ghost use Rattle.std.specs.Prelude.{◌≤◌};
 use crate::page::Frame;
 use crate::{page, svg};
 use pack::{Header, Located, Offset, TileKey};
+use std::fs::File;
+use std::io;
 use tile::{Edge, EdgeRead, Node, NodeRead, Parsed};
 
 // The longest tile.
@@ -18,12 +20,12 @@ pub enum Got {
 }
 
 // What the directory says of a key; an entry that can't be read is as one that is refused.
-fn located(fd: i32, h: Header, key: TileKey) -> Located {
+fn located(file: &File, h: Header, key: TileKey) -> Located {
     match h.entry(key) {
         Offset::Refused(number) => Located::Refused(number),
         Offset::At(offset) => {
             let mut entry = [0u8; 8];
-            if ride::host::read_at(fd, offset, &mut entry) != 0 {
+            if ride::host::read_at(file, offset, &mut entry) != 0 {
                 return Located::Refused(2);
             }
             h.locate(&entry)
@@ -41,12 +43,12 @@ pub fn lesser(a: usize, b: usize) -> usize
 }
 
 // The tile at an offset of the file, read into the room.
-fn read(fd: i32, h: Header, key: TileKey, offset: u32, len: u32, room: &mut [u8]) -> Got {
+fn read(file: &File, h: Header, key: TileKey, offset: u32, len: u32, room: &mut [u8]) -> Got {
     let n = lesser(len as usize, room.len());
     if n < len as usize {
         return Got::Damaged;
     }
-    if ride::host::read_at(fd, offset as u64, &mut room[0..n]) != 0 {
+    if ride::host::read_at(file, offset as u64, &mut room[0..n]) != 0 {
         return Got::Damaged;
     }
     match tile::parse(&room[0..n], key, h.tile) {
@@ -55,23 +57,31 @@ fn read(fd: i32, h: Header, key: TileKey, offset: u32, len: u32, room: &mut [u8]
     }
 }
 
-pub fn get(fd: i32, h: Header, key: TileKey, room: &mut [u8]) -> Got {
-    match located(fd, h, key) {
+pub fn get(file: &File, h: Header, key: TileKey, room: &mut [u8]) -> Got {
+    match located(file, h, key) {
         Located::Refused(_) => Got::Damaged,
         Located::NoTile => Got::NoTile,
-        Located::Tile(offset, len) => read(fd, h, key, offset, len, room),
+        Located::Tile(offset, len) => read(file, h, key, offset, len, room),
     }
 }
 
-fn put_node(h: Header, f: Frame, key: TileKey, n: Node) {
-    svg::point(page::node_x(h, f, key, n), page::node_y(h, f, key, n));
+fn put_node(rt: &impl Print, h: Header, f: Frame, key: TileKey, n: Node) -> io::Result<()> {
+    svg::point(rt, page::node_x(h, f, key, n), page::node_y(h, f, key, n))
 }
 
 // A point of an edge.
-fn put_point(bytes: &[u8], h: Header, f: Frame, key: TileKey, e: Edge, index: usize) {
+fn put_point(
+    rt: &impl Print,
+    bytes: &[u8],
+    h: Header,
+    f: Frame,
+    key: TileKey,
+    e: Edge,
+    index: usize,
+) -> io::Result<()> {
     match view::through::point(bytes, e, index) {
-        NodeRead::Refused(_) => (),
-        NodeRead::At(n) => put_node(h, f, key, n),
+        NodeRead::Refused(_) => Ok(()),
+        NodeRead::At(n) => put_node(rt, h, f, key, n),
     }
 }
 
@@ -84,6 +94,7 @@ fn nth(from: usize, k: usize, forward: bool) -> usize {
 
 // So many points of an edge, from one on, in its direction or against it.
 pub fn points(
+    rt: &impl Print,
     bytes: &[u8],
     h: Header,
     f: Frame,
@@ -92,79 +103,114 @@ pub fn points(
     from: usize,
     count: usize,
     forward: bool,
-) {
+) -> io::Result<()> {
     let mut k = 0;
     while k < count {
-        put_point(bytes, h, f, key, e, nth(from, k, forward));
+        put_point(rt, bytes, h, f, key, e, nth(from, k, forward))?;
         k += 1;
     }
+    Ok(())
 }
 
 // The line of a whole edge, of a class or a kind.
-fn put_leg(bytes: &[u8], h: Header, f: Frame, key: TileKey, e: Edge) {
-    svg::field(b"<polyline class=\"leg c", e.class as u64);
+fn put_leg(
+    rt: &impl Print,
+    bytes: &[u8],
+    h: Header,
+    f: Frame,
+    key: TileKey,
+    e: Edge,
+) -> io::Result<()> {
+    svg::field(rt, b"<polyline class=\"leg c", e.class as u64)?;
     if e.has(tile::flag::ONEWAY) {
-        svg::put(b" oneway");
+        svg::put(rt, b" oneway")?;
     }
-    svg::put(b"\" points=\"");
-    points(bytes, h, f, key, e, 0, view::through::points(e), true);
-    svg::put(b"\"/>\n");
+    svg::put(rt, b"\" points=\"")?;
+    points(rt, bytes, h, f, key, e, 0, view::through::points(e), true)?;
+    svg::put(rt, b"\"/>\n")
 }
 
 // The line of an edge that a fix was matched to.
-fn put_matched(bytes: &[u8], h: Header, f: Frame, key: TileKey, e: Edge) {
-    svg::put(b"<polyline class=\"matched\" points=\"");
-    points(bytes, h, f, key, e, 0, view::through::points(e), true);
-    svg::put(b"\"/>\n");
+fn put_matched(
+    rt: &impl Print,
+    bytes: &[u8],
+    h: Header,
+    f: Frame,
+    key: TileKey,
+    e: Edge,
+) -> io::Result<()> {
+    svg::put(rt, b"<polyline class=\"matched\" points=\"")?;
+    points(rt, bytes, h, f, key, e, 0, view::through::points(e), true)?;
+    svg::put(rt, b"\"/>\n")
 }
 
-pub fn matched(bytes: &[u8], h: Header, f: Frame, key: TileKey, edge: u16) {
+pub fn matched(
+    rt: &impl Print,
+    bytes: &[u8],
+    h: Header,
+    f: Frame,
+    key: TileKey,
+    edge: u16,
+) -> io::Result<()> {
     match view::through::edge(bytes, edge) {
-        EdgeRead::Refused(_) => (),
-        EdgeRead::At(e) => put_matched(bytes, h, f, key, e),
+        EdgeRead::Refused(_) => Ok(()),
+        EdgeRead::At(e) => put_matched(rt, bytes, h, f, key, e),
     }
 }
 
-fn leg(bytes: &[u8], h: Header, f: Frame, key: TileKey, i: u16) {
+fn leg(rt: &impl Print, bytes: &[u8], h: Header, f: Frame, key: TileKey, i: u16) -> io::Result<()> {
     match view::through::edge(bytes, i) {
-        EdgeRead::Refused(_) => (),
-        EdgeRead::At(e) => put_leg(bytes, h, f, key, e),
+        EdgeRead::Refused(_) => Ok(()),
+        EdgeRead::At(e) => put_leg(rt, bytes, h, f, key, e),
     }
 }
 
-fn legs(bytes: &[u8], h: Header, f: Frame, key: TileKey) {
+fn legs(rt: &impl Print, bytes: &[u8], h: Header, f: Frame, key: TileKey) -> io::Result<()> {
     let count = view::through::edge_count(bytes);
     let mut i: u16 = 0;
     while i < 65535 {
         if count <= i as usize {
-            return;
+            return Ok(());
         }
-        leg(bytes, h, f, key, i);
+        leg(rt, bytes, h, f, key, i)?;
         i += 1;
     }
+    Ok(())
 }
 
-fn junction(bytes: &[u8], h: Header, f: Frame, key: TileKey, i: u16) {
+fn junction(
+    rt: &impl Print,
+    bytes: &[u8],
+    h: Header,
+    f: Frame,
+    key: TileKey,
+    i: u16,
+) -> io::Result<()> {
     match view::through::node(bytes, i) {
-        NodeRead::Refused(_) => (),
+        NodeRead::Refused(_) => Ok(()),
         NodeRead::At(n) => {
-            svg::field(b"<circle class=\"node\" cx=\"", page::node_x(h, f, key, n));
-            svg::field(b"\" cy=\"", page::node_y(h, f, key, n));
-            svg::put(b"\" r=\"40\"/>\n");
+            svg::field(
+                rt,
+                b"<circle class=\"node\" cx=\"",
+                page::node_x(h, f, key, n),
+            )?;
+            svg::field(rt, b"\" cy=\"", page::node_y(h, f, key, n))?;
+            svg::put(rt, b"\" r=\"40\"/>\n")
         }
     }
 }
 
-fn junctions(bytes: &[u8], h: Header, f: Frame, key: TileKey) {
+fn junctions(rt: &impl Print, bytes: &[u8], h: Header, f: Frame, key: TileKey) -> io::Result<()> {
     let count = view::through::node_count(bytes);
     let mut i: u16 = 0;
     while i < 65535 {
         if count <= i as usize {
-            return;
+            return Ok(());
         }
-        junction(bytes, h, f, key, i);
+        junction(rt, bytes, h, f, key, i)?;
         i += 1;
     }
+    Ok(())
 }
 
 // A corner of a tile as a place in it.
@@ -180,68 +226,84 @@ fn short(n: u32) -> u16 {
 }
 
 // A tile's box: the four corners, from the south-west one on.
-fn put_box(h: Header, f: Frame, key: TileKey) {
+fn put_box(rt: &impl Print, h: Header, f: Frame, key: TileKey) -> io::Result<()> {
     let size = short(h.tile);
-    put_node(h, f, key, corner(0, 0));
-    put_node(h, f, key, corner(size, 0));
-    put_node(h, f, key, corner(size, size));
-    put_node(h, f, key, corner(0, size));
+    put_node(rt, h, f, key, corner(0, 0))?;
+    put_node(rt, h, f, key, corner(size, 0))?;
+    put_node(rt, h, f, key, corner(size, size))?;
+    put_node(rt, h, f, key, corner(0, size))
 }
 
 // A tile that is damaged: a crossed box with the word.
-fn put_damaged(h: Header, f: Frame, key: TileKey) {
+fn put_damaged(rt: &impl Print, h: Header, f: Frame, key: TileKey) -> io::Result<()> {
     let size = short(h.tile);
-    svg::put(b"<polygon class=\"damaged\" points=\"");
-    put_box(h, f, key);
-    put_node(h, f, key, corner(0, 0));
-    put_node(h, f, key, corner(size, size));
-    put_node(h, f, key, corner(size, 0));
-    put_node(h, f, key, corner(0, size));
+    svg::put(rt, b"<polygon class=\"damaged\" points=\"")?;
+    put_box(rt, h, f, key)?;
+    put_node(rt, h, f, key, corner(0, 0))?;
+    put_node(rt, h, f, key, corner(size, size))?;
+    put_node(rt, h, f, key, corner(size, 0))?;
+    put_node(rt, h, f, key, corner(0, size))?;
     let middle = corner(size / 2, size / 2);
     svg::field(
+        rt,
         b"\"/>\n<text class=\"tick\" x=\"",
         page::node_x(h, f, key, middle),
-    );
-    svg::field(b"\" y=\"", page::node_y(h, f, key, middle));
-    svg::put(b"\">damaged</text>\n");
+    )?;
+    svg::field(rt, b"\" y=\"", page::node_y(h, f, key, middle))?;
+    svg::put(rt, b"\">damaged</text>\n")
 }
 
 // The ground of a place of the grid: white under a tile, crossed where it is damaged, hatched where there is none.
-fn put_ground(h: Header, f: Frame, key: TileKey, got: Got) {
+fn put_ground(rt: &impl Print, h: Header, f: Frame, key: TileKey, got: Got) -> io::Result<()> {
     match got {
-        Got::Damaged => put_damaged(h, f, key),
+        Got::Damaged => put_damaged(rt, h, f, key),
         Got::Tile(_) => {
-            svg::put(b"<polygon class=\"box tile\" points=\"");
-            put_box(h, f, key);
-            svg::put(b"\"/>\n");
+            svg::put(rt, b"<polygon class=\"box tile\" points=\"")?;
+            put_box(rt, h, f, key)?;
+            svg::put(rt, b"\"/>\n")
         }
         Got::NoTile => {
-            svg::put(b"<polygon class=\"box missing\" points=\"");
-            put_box(h, f, key);
-            svg::put(b"\"/>\n");
+            svg::put(rt, b"<polygon class=\"box missing\" points=\"")?;
+            put_box(rt, h, f, key)?;
+            svg::put(rt, b"\"/>\n")
         }
     }
 }
 
 // A tile's legs and junctions.
-fn put_roads(h: Header, f: Frame, key: TileKey, got: Got, room: &[u8]) {
+fn put_roads(
+    rt: &impl Print,
+    h: Header,
+    f: Frame,
+    key: TileKey,
+    got: Got,
+    room: &[u8],
+) -> io::Result<()> {
     match got {
-        Got::Damaged | Got::NoTile => (),
+        Got::Damaged | Got::NoTile => Ok(()),
         Got::Tile(len) => {
             let n = lesser(len, room.len());
-            legs(&room[0..n], h, f, key);
-            junctions(&room[0..n], h, f, key);
+            legs(rt, &room[0..n], h, f, key)?;
+            junctions(rt, &room[0..n], h, f, key)
         }
     }
 }
 
 // A place of the grid, its ground or its roads.
-fn place(fd: i32, h: Header, f: Frame, key: TileKey, room: &mut [u8], roads: bool) {
-    let got = get(fd, h, key, room);
+fn place(
+    rt: &impl Print,
+    file: &File,
+    h: Header,
+    f: Frame,
+    key: TileKey,
+    room: &mut [u8],
+    roads: bool,
+) -> io::Result<()> {
+    let got = get(file, h, key, room);
     if roads {
-        put_roads(h, f, key, got, &room[..]);
+        put_roads(rt, h, f, key, got, &room[..])
     } else {
-        put_ground(h, f, key, got);
+        put_ground(rt, h, f, key, got)
     }
 }
 
@@ -257,14 +319,22 @@ fn key_of(cols: u16, n: u32) -> TileKey {
 }
 
 // Every place of the grid, row by row; `main` draws none of a grid with more.
-pub fn all(fd: i32, h: Header, f: Frame, room: &mut [u8], roads: bool) {
+pub fn all(
+    rt: &impl Print,
+    file: &File,
+    h: Header,
+    f: Frame,
+    room: &mut [u8],
+    roads: bool,
+) -> io::Result<()> {
     let count = page::places(h);
     let mut n: u32 = 0;
     while n < 1048576 {
         if count <= n as u64 {
-            return;
+            return Ok(());
         }
-        place(fd, h, f, key_of(h.cols, n), room, roads);
+        place(rt, file, h, f, key_of(h.cols, n), room, roads)?;
         n += 1;
     }
+    Ok(())
 }

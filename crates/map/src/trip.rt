@@ -6,6 +6,7 @@ use engine::{Current, Engine, Fix, Forward, Matched};
 use pack::{Header, Keyed, TileKey};
 use ride::fixes::Line;
 use ride::host::{Card, Ride};
+use std::io;
 use tile::{Edge, EdgeRead};
 
 // How far ahead the road is followed, in metres.
@@ -47,53 +48,61 @@ fn match_of(r: Ride, arena: &[u8]) -> Current {
 }
 
 // What a fix was matched to, in words.
-fn put_match(m: Current) {
+fn put_match(rt: &impl Print, m: Current) -> io::Result<()> {
     match m {
-        Current::Nothing => svg::put(b": no road"),
+        Current::Nothing => svg::put(rt, b": no road"),
         Current::Is(n) => {
             let id = n.tile;
             let key = id.key;
-            svg::field(b": row ", key.row as u64);
-            svg::field(b", column ", key.col as u64);
-            svg::field(b", edge ", n.edge as u64);
+            svg::field(rt, b": row ", key.row as u64)?;
+            svg::field(rt, b", column ", key.col as u64)?;
+            svg::field(rt, b", edge ", n.edge as u64)
         }
     }
 }
 
 // A fix: a dot, its number where there is room, and its match for who points at it.
-fn put_fix(number: u16, s: Spot, m: Current) {
+fn put_fix(rt: &impl Print, number: u16, s: Spot, m: Current) -> io::Result<()> {
     if !s.is {
-        return;
+        return Ok(());
     }
-    svg::field(b"<circle class=\"fix\" cx=\"", s.x);
-    svg::field(b"\" cy=\"", s.y);
-    svg::field(b"\" r=\"70\"><title>fix ", number as u64);
-    put_match(m);
-    svg::put(b"</title></circle>\n");
+    svg::field(rt, b"<circle class=\"fix\" cx=\"", s.x)?;
+    svg::field(rt, b"\" cy=\"", s.y)?;
+    svg::field(rt, b"\" r=\"70\"><title>fix ", number as u64)?;
+    put_match(rt, m)?;
+    svg::put(rt, b"</title></circle>\n")?;
     if 30 < number && number % 10 != 0 {
-        return;
+        return Ok(());
     }
     svg::field(
+        rt,
         b"<text class=\"small\" x=\"",
         std::num::wrapping_add_u64(s.x, 130),
-    );
-    svg::field(b"\" y=\"", s.y);
-    svg::field(b"\">", number as u64);
-    svg::put(b"</text>\n");
+    )?;
+    svg::field(rt, b"\" y=\"", s.y)?;
+    svg::field(rt, b"\">", number as u64)?;
+    svg::put(rt, b"</text>\n")
 }
 
 // The leg of a match, under the others.
-fn put_leg(card: Card, h: Header, f: Frame, m: Current, room: &mut [u8]) {
+fn put_leg(
+    rt: &impl Print,
+    card: Card<'_>,
+    h: Header,
+    f: Frame,
+    m: Current,
+    room: &mut [u8],
+) -> io::Result<()> {
     match m {
-        Current::Nothing => (),
+        Current::Nothing => Ok(()),
         Current::Is(n) => {
             let id = n.tile;
             let key = id.key;
-            match tiles::get(card.fd, h, key, room) {
-                Got::NoTile | Got::Damaged => (),
+            match tiles::get(card.file, h, key, room) {
+                Got::NoTile | Got::Damaged => Ok(()),
                 Got::Tile(len) => {
                     let end = tiles::lesser(len, room.len());
-                    tiles::matched(&room[0..end], h, f, key, n.edge);
+                    tiles::matched(rt, &room[0..end], h, f, key, n.edge)
                 }
             }
         }
@@ -101,65 +110,118 @@ fn put_leg(card: Card, h: Header, f: Frame, m: Current, room: &mut [u8]) {
 }
 
 // The points of a leg that lie ahead of a segment; what lies past its last point is left out.
-fn rest(bytes: &[u8], h: Header, f: Frame, key: TileKey, e: Edge, segment: u16, forward: bool) {
+fn rest(
+    rt: &impl Print,
+    bytes: &[u8],
+    h: Header,
+    f: Frame,
+    key: TileKey,
+    e: Edge,
+    segment: u16,
+    forward: bool,
+) -> io::Result<()> {
     let next = (segment as usize) + 1;
     if forward {
-        tiles::points(bytes, h, f, key, e, next, view::through::points(e), true);
-        return;
+        return tiles::points(
+            rt,
+            bytes,
+            h,
+            f,
+            key,
+            e,
+            next,
+            view::through::points(e),
+            true,
+        );
     }
-    tiles::points(bytes, h, f, key, e, segment as usize, next, false);
+    tiles::points(rt, bytes, h, f, key, e, segment as usize, next, false)
 }
 
-fn rest_of(bytes: &[u8], h: Header, f: Frame, key: TileKey, m: Matched, forward: bool) {
+fn rest_of(
+    rt: &impl Print,
+    bytes: &[u8],
+    h: Header,
+    f: Frame,
+    key: TileKey,
+    m: Matched,
+    forward: bool,
+) -> io::Result<()> {
     match view::through::edge(bytes, m.edge) {
-        EdgeRead::Refused(_) => (),
-        EdgeRead::At(e) => rest(bytes, h, f, key, e, m.segment, forward),
+        EdgeRead::Refused(_) => Ok(()),
+        EdgeRead::At(e) => rest(rt, bytes, h, f, key, e, m.segment, forward),
     }
 }
 
 // From the last fix to the end of its leg.
-fn put_ahead(card: Card, h: Header, f: Frame, s: Spot, m: Matched, forward: bool, room: &mut [u8]) {
+fn put_ahead(
+    rt: &impl Print,
+    card: Card<'_>,
+    h: Header,
+    f: Frame,
+    s: Spot,
+    m: Matched,
+    forward: bool,
+    room: &mut [u8],
+) -> io::Result<()> {
     let id = m.tile;
     let key = id.key;
-    match tiles::get(card.fd, h, key, room) {
-        Got::NoTile | Got::Damaged => (),
+    match tiles::get(card.file, h, key, room) {
+        Got::NoTile | Got::Damaged => Ok(()),
         Got::Tile(len) => {
             let end = tiles::lesser(len, room.len());
-            svg::put(b"<polyline class=\"ahead\" points=\"");
-            svg::point(s.x, s.y);
-            rest_of(&room[0..end], h, f, key, m, forward);
-            svg::put(b"\"/>\n");
+            svg::put(rt, b"<polyline class=\"ahead\" points=\"")?;
+            svg::point(rt, s.x, s.y)?;
+            rest_of(rt, &room[0..end], h, f, key, m, forward)?;
+            svg::put(rt, b"\"/>\n")
         }
     }
 }
 
-fn ahead(card: Card, h: Header, f: Frame, s: Spot, m: Current, room: &mut [u8]) {
+fn ahead(
+    rt: &impl Print,
+    card: Card<'_>,
+    h: Header,
+    f: Frame,
+    s: Spot,
+    m: Current,
+    room: &mut [u8],
+) -> io::Result<()> {
     if !s.is {
-        return;
+        return Ok(());
     }
     match m {
-        Current::Nothing => (),
+        Current::Nothing => Ok(()),
         Current::Is(n) => {
             let forward = n.forward;
             match forward {
-                Forward::Unknown => (),
-                Forward::Is(on) => put_ahead(card, h, f, s, n, on, room),
+                Forward::Unknown => Ok(()),
+                Forward::Is(on) => put_ahead(rt, card, h, f, s, n, on, room),
             }
         }
     }
 }
 
 // What stands under the map and ahead of the last fix.
-fn end(card: Card, h: Header, f: Frame, s: Spot, r: Ride, arena: &[u8], room: &mut [u8]) {
-    ahead(card, h, f, s, match_of(r, arena), room);
+fn end(
+    rt: &impl Print,
+    card: Card<'_>,
+    h: Header,
+    f: Frame,
+    s: Spot,
+    r: Ride,
+    arena: &[u8],
+    room: &mut [u8],
+) -> io::Result<()> {
+    ahead(rt, card, h, f, s, match_of(r, arena), room)?;
     let e = r.engine;
     let read = e.ahead(arena);
-    profile::show(read.ahead);
+    profile::show(rt, read.ahead)
 }
 
 // A fix's leg, or itself.
 fn mark(
-    card: Card,
+    rt: &impl Print,
+    card: Card<'_>,
     h: Header,
     f: Frame,
     number: u16,
@@ -167,17 +229,17 @@ fn mark(
     m: Current,
     room: &mut [u8],
     legs: bool,
-) {
+) -> io::Result<()> {
     if legs {
-        put_leg(card, h, f, m, room);
-        return;
+        return put_leg(rt, card, h, f, m, room);
     }
-    put_fix(number, spot_of(h, f, fix), m);
+    put_fix(rt, number, spot_of(h, f, fix), m)
 }
 
 // One fix driven and drawn.
 fn one(
-    card: Card,
+    rt: &impl Print,
+    card: Card<'_>,
     h: Header,
     f: Frame,
     r: Ride,
@@ -186,24 +248,25 @@ fn one(
     number: u16,
     fix: Fix,
     legs: bool,
-) -> Ride {
+) -> io::Result<Ride> {
     let t = ride::host::driven(card, r, arena, fix);
     let next = t.ride;
     let m = match_of(next, &arena[..]);
-    mark(card, h, f, number, fix, m, room, legs);
-    next
+    mark(rt, card, h, f, number, fix, m, room, legs)?;
+    Ok(next)
 }
 
 // A drive's fixes from the first to the last: their legs, or themselves with what follows the last one. It goes up to the first line that is no fix.
 fn show(
-    card: Card,
+    rt: &impl Print,
+    card: Card<'_>,
     h: Header,
     f: Frame,
     text: &[u8],
     arena: &mut [u8],
     room: &mut [u8],
     legs: bool,
-) {
+) -> io::Result<()> {
     let engine = Engine::new(&arena[..], HORIZON);
     let mut r = Ride { engine, reads: 0 };
     let mut s = no_spot();
@@ -214,34 +277,36 @@ fn show(
         let line = ride::fixes::read_line(text, at);
         match line {
             Line::Fix(fix, next) => {
-                r = one(card, h, f, r, arena, room, number, fix, legs);
+                r = one(rt, card, h, f, r, arena, room, number, fix, legs)?;
                 s = spot_of(h, f, fix);
                 at = next;
             }
             Line::End | Line::Bad => {
                 if !legs {
-                    end(card, h, f, s, r, &arena[..], room);
+                    end(rt, card, h, f, s, r, &arena[..], room)?;
                 }
-                return;
+                return Ok(());
             }
         }
     }
+    Ok(())
 }
 
 // The same, and nothing where there is no drive.
 pub fn drive(
-    card: Card,
+    rt: &impl Print,
+    card: Card<'_>,
     h: Header,
     f: Frame,
     text: &[u8],
     arena: &mut [u8],
     room: &mut [u8],
     legs: bool,
-) {
+) -> io::Result<()> {
     if text.len() == 0 {
-        return;
+        return Ok(());
     }
-    show(card, h, f, text, arena, room, legs);
+    show(rt, card, h, f, text, arena, room, legs)
 }
 
 // The number of the first line that is no fix; 0 where there is none.

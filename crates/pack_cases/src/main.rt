@@ -1,8 +1,11 @@
 // Worked examples of the pack writer: what it answers, and the output behind it. Each line has the answer (a length, or 13 or 14 with `!` before it) and
 // then 640 bytes of output, which began as `.` everywhere, in hexadecimal.
+#![tactic(auto)]
+
+use std::io;
 use writer::Answer;
 
-#[derive(Drop)]
+#[derive(Clone, Copy)]
 struct Grid {
     south: i32,
     west: i32,
@@ -52,10 +55,10 @@ fn number(mark: u8, n: u32) -> [u8; 4] {
 }
 
 // A pack into the first `room` bytes of the output.
-fn show(g: Grid, tiles: &[u8], lengths: &[u32], room: usize) {
+fn show(rt: &impl Print, g: Grid, tiles: &[u8], lengths: &[u32], room: usize) -> io::Result<()> {
     let mut out = [b'.'; 640];
     if 640 < room {
-        return;
+        return Ok(());
     }
     let answer = told(writer::pack(
         g.south,
@@ -68,10 +71,10 @@ fn show(g: Grid, tiles: &[u8], lengths: &[u32], room: usize) {
         &mut out[..room],
     ));
     let text = hex(&out);
-    io::write_all(libc::STDOUT_FILENO, &answer);
-    io::write_all(libc::STDOUT_FILENO, b" ");
-    io::write_all(libc::STDOUT_FILENO, &text);
-    io::write_all(libc::STDOUT_FILENO, b"\n");
+    rt.write_all(&answer)?;
+    rt.write_all(b" ")?;
+    rt.write_all(&text)?;
+    println!(rt)
 }
 
 fn sized(south: i32, west: i32, size: u32, rows: u16, cols: u16) -> Grid {
@@ -85,55 +88,69 @@ fn sized(south: i32, west: i32, size: u32, rows: u16, cols: u16) -> Grid {
 }
 
 // The same of the tiles' bytes from one place to another.
-fn show_part(g: Grid, all: [u8; 184], from: usize, to: usize, lengths: &[u32], room: usize) {
+fn show_part(
+    rt: &impl Print,
+    g: Grid,
+    all: [u8; 184],
+    from: usize,
+    to: usize,
+    lengths: &[u32],
+    room: usize,
+) -> io::Result<()> {
     if 184 < to {
-        return;
+        return Ok(());
     }
     if to < from {
-        return;
+        return Ok(());
     }
-    show(g, &all[from..to], lengths, room);
+    show(rt, g, &all[from..to], lengths, room)
 }
 
 // Of the tiles two are good, (0, 1) and then (1, 0). The first comes again, then the first with a wrong sum, then (1, 1) with nodes out of order.
-fn tiles(all: [u8; 184]) {
+fn tiles(rt: &impl Print, all: [u8; 184]) -> io::Result<()> {
     let none: [u32; 0] = [];
     let usual = sized(-5, 7, 1000, 2, 2);
     // No tile; one; two, in row order and not.
-    show_part(usual, all, 0, 0, &none, 640);
-    show_part(usual, all, 0, 32, &[32u32], 640);
-    show_part(usual, all, 0, 72, &[32u32, 40], 640);
-    show_part(usual, all, 32, 104, &[40u32, 32], 640);
+    show_part(rt, usual, all, 0, 0, &none, 640)?;
+    show_part(rt, usual, all, 0, 32, &[32u32], 640)?;
+    show_part(rt, usual, all, 0, 72, &[32u32, 40], 640)?;
+    show_part(rt, usual, all, 32, 104, &[40u32, 32], 640)?;
     // Just enough room, and a byte less.
-    show_part(usual, all, 0, 72, &[32u32, 40], 616);
-    show_part(usual, all, 0, 72, &[32u32, 40], 615);
+    show_part(rt, usual, all, 0, 72, &[32u32, 40], 616)?;
+    show_part(rt, usual, all, 0, 72, &[32u32, 40], 615)?;
     // A key twice; one outside the grid.
-    show_part(usual, all, 0, 104, &[32u32, 40, 32], 640);
-    show_part(sized(-5, 7, 1000, 1, 2), all, 0, 72, &[32u32, 40], 640);
+    show_part(rt, usual, all, 0, 104, &[32u32, 40, 32], 640)?;
+    show_part(rt, sized(-5, 7, 1000, 1, 2), all, 0, 72, &[32u32, 40], 640)?;
     // Bytes that `Tile::parse` refuses; nodes out of order; a size that a node passes.
-    show_part(usual, all, 104, 136, &[32u32], 640);
-    show_part(usual, all, 136, 184, &[48u32], 640);
-    show_part(sized(-5, 7, 3, 2, 2), all, 32, 72, &[40u32], 640);
+    show_part(rt, usual, all, 104, 136, &[32u32], 640)?;
+    show_part(rt, usual, all, 136, 184, &[48u32], 640)?;
+    show_part(rt, sized(-5, 7, 3, 2, 2), all, 32, 72, &[40u32], 640)?;
     // Lengths that leave a byte over, and that want one more.
-    show_part(usual, all, 0, 32, &[31u32], 640);
-    show_part(usual, all, 0, 32, &[33u32], 640);
+    show_part(rt, usual, all, 0, 32, &[31u32], 640)?;
+    show_part(rt, usual, all, 0, 32, &[33u32], 640)
 }
 
-fn grids(all: [u8; 184]) {
+fn grids(rt: &impl Print, all: [u8; 184]) -> io::Result<()> {
     let none: [u32; 0] = [];
     // No rows; a grid past 360 degrees, and up to it.
-    show(sized(-5, 7, 1000, 0, 2), b"", &none, 640);
-    show(sized(359998001, 7, 1000, 2, 2), b"", &none, 640);
-    show(sized(359998000, -360000000, 1000, 2, 2), b"", &none, 640);
+    show(rt, sized(-5, 7, 1000, 0, 2), b"", &none, 640)?;
+    show(rt, sized(359998001, 7, 1000, 2, 2), b"", &none, 640)?;
+    show(
+        rt,
+        sized(359998000, -360000000, 1000, 2, 2),
+        b"",
+        &none,
+        640,
+    )?;
     // A directory that alone passes 32 bits; the same with a bad tile beside it.
     let wide = sized(0, 0, 1, 65535, 65535);
-    show(wide, b"", &none, 640);
-    show_part(wide, all, 104, 136, &[32u32], 640);
+    show(rt, wide, b"", &none, 640)?;
+    show_part(rt, wide, all, 104, 136, &[32u32], 640)
 }
 
-fn main() {
+fn main(rt: HostRuntime) -> io::Result<()> {
     let all =
         *b"\x56\x54\x01\x00\x00\x00\x01\x00\x00\x00\x00\x00\x00\x00\x00\x00\x05\x00\x00\x00\x00\x00\x00\x00\xc0\x19\xa4\x43\x00\x00\x00\x00\x56\x54\x01\x00\x01\x00\x00\x00\x01\x00\x00\x00\x00\x00\x00\x00\x05\x00\x00\x00\x00\x00\x00\x00\xec\x05\xf4\x12\x00\x00\x00\x00\x03\x00\x04\x00\x05\x00\x00\x00\x56\x54\x01\x00\x00\x00\x01\x00\x00\x00\x00\x00\x00\x00\x00\x00\x05\x00\x00\x00\x00\x00\x00\x00\xc0\x19\xa4\x43\x00\x00\x00\x00\x56\x54\x01\x00\x00\x00\x01\x00\x00\x00\x00\x00\x00\x00\x00\x00\x06\x00\x00\x00\x00\x00\x00\x00\xc0\x19\xa4\x43\x00\x00\x00\x00\x56\x54\x01\x00\x01\x00\x01\x00\x02\x00\x00\x00\x00\x00\x00\x00\x05\x00\x00\x00\x00\x00\x00\x00\x32\xde\xa9\x12\x00\x00\x00\x00\x03\x00\x04\x00\x05\x00\x00\x00\x02\x00\x04\x00\x05\x00\x00\x00";
-    tiles(all);
-    grids(all);
+    tiles(&rt, all)?;
+    grids(&rt, all)
 }

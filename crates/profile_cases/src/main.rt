@@ -1,11 +1,15 @@
 // The cases of `profile` besides document 01's example, through the same function: no input, one sample, the ends of 16 bits, small values of either sign, halves and
 // what lies beside them, an odd byte, 501 samples and 502. Then whole metres of every 16-bit number.
+#![tactic(auto)]
+
 ghost use Rattle.std.specs.Prelude.{◌≤◌};
 
-fn show(input: &[u8]) {
+use std::io;
+
+fn show(rt: &impl Print, input: &[u8]) -> io::Result<()> {
     let mut out = [0u8; 6026];
     let len = profile_text::text(input, &mut out);
-    io::write_all(libc::STDOUT_FILENO, &out[..len]);
+    rt.write_all(&out[..len])
 }
 
 // 1 where whole metres are others than these.
@@ -35,20 +39,21 @@ fn differing() -> u32 {
     found
 }
 
-fn main() {
-    show(b"");
-    show(b"\x19\x00");
-    show(b"\x00\x80\xff\x7f");
-    show(b"\x09\x00\x0a\x00\xf7\xff\xf6\xff\xf5\xff\xff\xff");
+fn main(rt: HostRuntime) -> io::Result<()> {
+    show(&rt, b"")?;
+    show(&rt, b"\x19\x00")?;
+    show(&rt, b"\x00\x80\xff\x7f")?;
+    show(&rt, b"\x09\x00\x0a\x00\xf7\xff\xf6\xff\xf5\xff\xff\xff")?;
     show(
+        &rt,
         b"\x04\x00\x05\x00\x06\x00\xfc\xff\xfb\xff\xfa\xff\x0e\x00\x0f\x00\xf2\xff\xf1\xff\x19\x00\xe7\xff",
-    );
-    show(b"\x19");
-    show(b"\x19\x00\x19");
+    )?;
+    show(&rt, b"\x19")?;
+    show(&rt, b"\x19\x00\x19")?;
     let most = [1u8; 1002];
-    show(&most);
+    show(&rt, &most)?;
     let more = [1u8; 1004];
-    show(&more);
-    io::print_decimal(libc::STDOUT_FILENO, differing() as u64);
-    io::write_all(libc::STDOUT_FILENO, b" of 65536 differ\n");
+    show(&rt, &more)?;
+    let found = differing();
+    println!(rt; "{found} of 65536 differ")
 }

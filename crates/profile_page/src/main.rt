@@ -1,8 +1,12 @@
 // Prints the profile as pages for a printer: `profile_page [P]`, heights on standard input as `profile` reads them. With P it prints that page, without it every
 // page that has a sample, or page 0 where there is none, with a form feed between two.
+#![tactic(auto)]
+
 ghost use Rattle.std.specs.Prelude.{◌≡◌, length};
 
 use profile_text::page::Printed;
+use std::io;
+use std::rt::Env;
 
 // The heading and fifty lines, of 41 bytes each.
 const PAGE: usize = 2091;
@@ -17,8 +21,8 @@ struct Word {
     value: u32,
 }
 
-fn bad_input() {
-    io::write_all(libc::STDOUT_FILENO, b"bad input\n");
+fn bad_input(rt: &impl Print) -> io::Result<()> {
+    println!(rt; "bad input")
 }
 
 // A byte of the input; 0 past its end.
@@ -49,28 +53,27 @@ fn heights(input: &[u8]) -> [i16; 501]
     out
 }
 
-fn show(samples: &[i16], p: u32) {
+fn show(rt: &impl Print, samples: &[i16], p: u32) -> io::Result<()> {
     let mut out = [0u8; PAGE];
     let printed = profile_text::page::page(samples, p, &mut out);
     match printed {
-        Printed::Length(len) => {
-            io::write_all(libc::STDOUT_FILENO, &out[..len]);
-        }
-        Printed::Refused(_) => bad_input(),
+        Printed::Length(len) => rt.write_all(&out[..len]),
+        Printed::Refused(_) => bad_input(rt),
     }
 }
 
-fn show_all(samples: &[i16]) {
-    show(samples, 0);
+fn show_all(rt: &impl Print, samples: &[i16]) -> io::Result<()> {
+    show(rt, samples, 0)?;
     let mut p: u32 = 1;
     while p < 11 {
         if samples.len() <= (p as usize) * 50 {
-            return;
+            return Ok(());
         }
-        io::write_all(libc::STDOUT_FILENO, b"\x0c");
-        show(samples, p);
+        rt.write_all(b"\x0c")?;
+        show(rt, samples, p)?;
         p += 1;
     }
+    Ok(())
 }
 
 // A digit more.
@@ -101,34 +104,30 @@ fn number(word: &[u8]) -> Word {
 }
 
 // The page that the argument names. One longer than the buffer is no number.
-fn show_named(samples: &[i16]) {
-    let mut word = io::buffer();
-    let n = os::arg(1, &mut word);
+fn show_named(rt: &(impl Env + Print), samples: &[i16]) -> io::Result<()> {
+    let mut word = [0u8; 4096];
+    let n = reading::argument(rt, 1, &mut word);
     let p = number(&word[..n]);
     if !p.is {
-        bad_input();
-        return;
+        return bad_input(rt);
     }
-    show(samples, p.value);
+    show(rt, samples, p.value)
 }
 
-fn print(input: &[u8]) {
-    let args = os::arg_count();
-    if 1002 < input.len() || input.len() % 2 != 0 || 2 < args {
-        bad_input();
-        return;
+fn print(rt: &(impl Env + Print), input: &[u8]) -> io::Result<()> {
+    if 1002 < input.len() || input.len() % 2 != 0 || reading::has_argument(rt, 2) {
+        return bad_input(rt);
     }
     let all = heights(input);
     let samples = &all[0..input.len() / 2];
-    if args < 2 {
-        show_all(samples);
-        return;
+    if !reading::has_argument(rt, 1) {
+        return show_all(rt, samples);
     }
-    show_named(samples);
+    show_named(rt, samples)
 }
 
-fn main() {
-    let mut input = io::buffer();
-    let n = io::read_full(libc::STDIN_FILENO, &mut input);
-    print(&input[..n]);
+fn main(rt: HostRuntime) -> io::Result<()> {
+    let mut input = [0u8; 4096];
+    let n = reading::read_full(&mut rt.reader(), &mut input)?;
+    print(&rt, &input[..n])
 }

@@ -1,5 +1,7 @@
 // The host's side of an engine: it answers each fetch from the pack's file.
 use engine::{Engine, Fix, Status, Stepped, Taken};
+use std::fs::File;
+use std::os::unix::fs::FileExt;
 
 // The longest read that a step asks for.
 const LONGEST: usize = 2048;
@@ -11,21 +13,21 @@ const OFFSETS: u64 = 8589934592;
 const STEPS: u32 = 65536;
 
 // The pack's file, and which of its reads are reported missed: every K-th, none with 0.
-#[derive(Drop)]
-pub struct Card {
-    pub fd: i32,
+#[derive(Clone, Copy)]
+pub struct Card<'a> {
+    pub file: &'a File,
     pub every: u64,
 }
 
 // An engine, and how many reads it has asked for.
-#[derive(Drop)]
+#[derive(Clone, Copy)]
 pub struct Ride {
     pub engine: Engine,
     pub reads: u64,
 }
 
 // How a step ended, and what it left.
-#[derive(Drop)]
+#[derive(Clone, Copy)]
 pub struct Turned {
     pub status: Status,
     pub ride: Ride,
@@ -39,23 +41,30 @@ fn turn_of(s: Stepped, reads: u64) -> Turned {
 }
 
 // Fills the buffer from an offset of the file on: 0, or 1 where the read fails, or 2 where it passes the file's end.
-pub fn read_at(fd: i32, offset: u64, buf: &mut [u8]) -> u32 {
+pub fn read_at(file: &File, offset: u64, buf: &mut [u8]) -> u32 {
     if OFFSETS <= offset {
         return 2;
     }
-    let got = libc::pread(fd, buf, offset as i64);
-    if got < 0 {
-        return 1;
+    match file.read_at(buf, offset) {
+        Ok(n) => {
+            if n < buf.len() {
+                return 2;
+            }
+            0
+        }
+        Err(_) => 1,
     }
-    if io::count(got, buf) < buf.len() {
-        return 2;
-    }
-    0
 }
 
 // The bytes of a read, or why there are none.
-fn read_and_deliver(fd: i32, e: Engine, arena: &mut [u8], offset: u64, buf: &mut [u8]) -> Stepped {
-    let failure = read_at(fd, offset, buf);
+fn read_and_deliver(
+    file: &File,
+    e: Engine,
+    arena: &mut [u8],
+    offset: u64,
+    buf: &mut [u8],
+) -> Stepped {
+    let failure = read_at(file, offset, buf);
     if failure != 0 {
         return e.deliver(arena, failure, b"");
     }
@@ -63,12 +72,12 @@ fn read_and_deliver(fd: i32, e: Engine, arena: &mut [u8], offset: u64, buf: &mut
 }
 
 // A fetch answered from the file. None is longer than the buffer; one that were would count as missed.
-fn delivered(fd: i32, e: Engine, arena: &mut [u8], offset: u64, len: usize) -> Stepped {
+fn delivered(file: &File, e: Engine, arena: &mut [u8], offset: u64, len: usize) -> Stepped {
     if LONGEST < len {
         return e.deliver(arena, 1, b"");
     }
     let mut chunk = [0u8; LONGEST];
-    read_and_deliver(fd, e, arena, offset, &mut chunk[0..len])
+    read_and_deliver(file, e, arena, offset, &mut chunk[0..len])
 }
 
 fn is_missed(every: u64, reads: u64) -> bool {
@@ -79,19 +88,19 @@ fn is_missed(every: u64, reads: u64) -> bool {
 }
 
 // A fetch answered, or reported missed.
-fn answered(card: Card, r: Ride, arena: &mut [u8], offset: u64, len: usize) -> Turned {
+fn answered(card: Card<'_>, r: Ride, arena: &mut [u8], offset: u64, len: usize) -> Turned {
     let reads = std::num::wrapping_add_u64(r.reads, 1);
     let e = r.engine;
     if is_missed(card.every, reads) {
         let s = e.deliver(arena, 1, b"");
         return turn_of(s, reads);
     }
-    let s = delivered(card.fd, e, arena, offset, len);
+    let s = delivered(card.file, e, arena, offset, len);
     turn_of(s, reads)
 }
 
 // One step, and where it fetches, the delivery.
-fn turn(card: Card, r: Ride, arena: &mut [u8]) -> Turned {
+fn turn(card: Card<'_>, r: Ride, arena: &mut [u8]) -> Turned {
     let e = r.engine;
     let s = e.step(&arena[..]);
     let answer = s.answer;
@@ -117,7 +126,7 @@ fn is_working(status: Status) -> bool {
 }
 
 // Steps until one leaves nothing to do, or there were too many.
-pub fn settled(card: Card, r: Ride, arena: &mut [u8]) -> Turned {
+pub fn settled(card: Card<'_>, r: Ride, arena: &mut [u8]) -> Turned {
     let mut t = Turned {
         status: Status::Working,
         ride: r,
@@ -136,7 +145,7 @@ pub fn settled(card: Card, r: Ride, arena: &mut [u8]) -> Turned {
 }
 
 // One fix, and steps until there is no more to do.
-pub fn driven(card: Card, r: Ride, arena: &mut [u8], fix: Fix) -> Turned {
+pub fn driven(card: Card<'_>, r: Ride, arena: &mut [u8], fix: Fix) -> Turned {
     let e = r.engine;
     let c = e.fix(&arena[..], fix);
     let answer = c.answer;

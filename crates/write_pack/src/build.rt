@@ -4,6 +4,7 @@ ghost use Rattle.std.specs.Prelude.{◌≤◌};
 use crate::input::{Got, Taken, Unread};
 use crate::{input, words};
 use pack::TileKey;
+use std::io::Read;
 use writer::Answer;
 
 const U16: u64 = 0xffff;
@@ -11,7 +12,7 @@ const U16: u64 = 0xffff;
 const U32: u64 = 0xffff_ffff;
 
 // The grid, and its line: 0 before there is one.
-#[derive(Drop)]
+#[derive(Clone, Copy)]
 pub struct Grid {
     pub line: u32,
     south: i32,
@@ -22,7 +23,7 @@ pub struct Grid {
 }
 
 // The tile whose records are being read, its line (0 before there is one), and how many numbers of each kind it has.
-#[derive(Drop)]
+#[derive(Clone, Copy)]
 pub struct Open {
     line: u32,
     row: u16,
@@ -35,7 +36,7 @@ pub struct Open {
 
 // How far the text was read: whether more is to be read, the line, the grid, the open tile, the tiles that are done and their bytes; and why it goes no further: the
 // line that is to blame, and its number, 0 for one that can't be read.
-#[derive(Drop)]
+#[derive(Clone, Copy)]
 pub struct State {
     pub is_open: bool,
     pub is_failed: bool,
@@ -476,6 +477,7 @@ fn step(
 
 // The records of the text, up to its end or the first that is refused.
 pub fn read_all(
+    source: &mut impl Read,
     buf: &mut [u8],
     line: &mut [u8],
     nodes: &mut [u16],
@@ -491,7 +493,7 @@ pub fn read_all(
     while number < 0xffff_ffff {
         number += 1;
         s = at_line(s, number);
-        let t = input::read_line(buf, line, input);
+        let t = input::read_line(source, buf, line, input);
         s = step(
             s,
             t,

@@ -1,14 +1,15 @@
-// Standard input, line by line.
+// An input, line by line.
+use std::io::Read;
 
 // Which bytes of the buffer are still to be taken.
-#[derive(Drop)]
+#[derive(Clone, Copy)]
 pub struct Unread {
     pub at: usize,
     pub end: usize,
 }
 
 // How a line came: with its end or as the text's last bytes; the text's end with nothing before it; too long, or a read that failed.
-#[derive(Drop)]
+#[derive(Clone, Copy)]
 pub enum Got {
     Line,
     End,
@@ -16,7 +17,7 @@ pub enum Got {
 }
 
 // A line's length, and what is left of the input.
-#[derive(Drop)]
+#[derive(Clone, Copy)]
 pub struct Taken {
     pub got: Got,
     pub len: usize,
@@ -27,20 +28,16 @@ pub struct Taken {
 const FAILED: usize = 0xffff_ffff;
 
 // The input with a byte to take, or with none at the text's end.
-fn filled(buf: &mut [u8], input: Unread) -> Unread {
+fn filled(source: &mut impl Read, buf: &mut [u8], input: Unread) -> Unread {
     if input.at < input.end {
         return input;
     }
-    let got = libc::read(libc::STDIN_FILENO, buf);
-    if got < 0 {
-        return Unread {
+    match source.read(buf) {
+        Ok(n) => Unread { at: 0, end: n },
+        Err(_) => Unread {
             at: FAILED,
             end: FAILED,
-        };
-    }
-    Unread {
-        at: 0,
-        end: io::count(got, buf),
+        },
     }
 }
 
@@ -74,11 +71,11 @@ fn put(line: &mut [u8], at: usize, b: u8) {
 }
 
 // The next line, without its end.
-pub fn read_line(buf: &mut [u8], line: &mut [u8], from: Unread) -> Taken {
+pub fn read_line(source: &mut impl Read, buf: &mut [u8], line: &mut [u8], from: Unread) -> Taken {
     let mut input = from;
     let mut len: usize = 0;
     while len < line.len() {
-        input = filled(buf, input);
+        input = filled(source, buf, input);
         if input.end <= input.at {
             return ended(input, len);
         }

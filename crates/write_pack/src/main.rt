@@ -1,5 +1,7 @@
 // Writes a pack: `write_pack <TEXT >PACK`. The text has one record a line: the grid, then tiles with their nodes, edges and vertices (README, "Write a pack").
 // What can't be read or is refused is told on standard error with its line, and then nothing is written to standard output.
+#![tactic(auto)]
+
 mod build;
 mod input;
 mod words;
@@ -7,6 +9,8 @@ mod words;
 ghost use Rattle.std.specs.Prelude.{◌≡◌, length};
 
 use build::State;
+use std::io;
+use std::io::Read;
 
 // As many numbers as a tile of 49,152 bytes can have: 6,140 nodes, 2,456 edges or 8,186 vertices.
 const NODES: usize = 18420;
@@ -15,61 +19,57 @@ const EDGES: usize = 17192;
 
 const VERTICES: usize = 24558;
 
-// Room for the tiles' bytes, for how many they are, and for the pack: those bytes and a directory of 98,240 places. It all stands on the stack, of 8 MB.
+// Room for the tiles' bytes, for how many they are, and for the pack: those bytes and a directory of 98,240 places.
 const TILES: usize = 3145728;
 
 const COUNT: usize = 16384;
 
 const PACK: usize = 3932160;
 
-fn say(line: u32) {
-    io::write_all(libc::STDERR_FILENO, b"write_pack: line ");
-    io::print_decimal(libc::STDERR_FILENO, line as u64);
-}
-
 // Why there is no pack: a line that can't be read where the number is 0.
-fn say_why(line: u32, number: u32) {
-    say(line);
+fn say_why(rt: &impl Eprint, line: u32, number: u32) -> io::Result<()> {
     if number == 0 {
-        io::write_all(libc::STDERR_FILENO, b" can't be read\n");
-        return;
+        return eprintln!(rt; "write_pack: line {line} can't be read");
     }
-    io::write_all(libc::STDERR_FILENO, b": refused with ");
-    io::print_decimal(libc::STDERR_FILENO, number as u64);
-    io::write_all(libc::STDERR_FILENO, b"\n");
+    eprintln!(rt; "write_pack: line {line}: refused with {number}")
 }
 
-fn write(out: &[u8], len: usize) {
+fn write(rt: &(impl Print + Eprint), out: &[u8], len: usize) -> io::Result<()> {
     let n = build::lesser(len, out.len());
-    if !io::write_all(libc::STDOUT_FILENO, &out[0..n]) {
-        io::write_all(
-            libc::STDERR_FILENO,
-            b"write_pack: the pack can't be written\n",
-        );
+    match rt.write_all(&out[0..n]) {
+        Ok(()) => Ok(()),
+        Err(_) => eprintln!(rt; "write_pack: the pack can't be written"),
     }
 }
 
 // The pack of what was read, written or refused.
-fn finish(s: State, tiles: &[u8], lengths: &[u32], lines: &[u32], out: &mut [u8]) {
+fn finish(
+    rt: &(impl Print + Eprint),
+    s: State,
+    tiles: &[u8],
+    lengths: &[u32],
+    lines: &[u32],
+    out: &mut [u8],
+) -> io::Result<()> {
     if s.is_open {
-        say_why(0xffff_ffff, 14);
-        return;
+        return say_why(rt, 0xffff_ffff, 14);
     }
     if s.is_failed {
-        say_why(s.blamed, s.number);
-        return;
+        return say_why(rt, s.blamed, s.number);
     }
     let answer = build::packed(s.grid, s.count, tiles, lengths, out);
     match answer {
-        writer::Answer::Length(len) => write(&out[..], len as usize),
+        writer::Answer::Length(len) => write(rt, &out[..], len as usize),
         writer::Answer::Refused(number) => {
             let k = build::first_refused(s.grid, s.count, number, tiles, lengths, out);
-            say_why(build::line_of(s.grid, k, lines), number);
+            say_why(rt, build::line_of(s.grid, k, lines), number)
         }
     }
 }
 
 fn run(
+    rt: &(impl Print + Eprint),
+    source: &mut impl Read,
     buf: &mut [u8],
     line: &mut [u8],
     nodes: &mut [u16],
@@ -79,12 +79,14 @@ fn run(
     lengths: &mut [u32],
     lines: &mut [u32],
     out: &mut [u8],
-) {
-    let s = build::read_all(buf, line, nodes, edges, vertices, tiles, lengths, lines);
-    finish(s, &tiles[..], &lengths[..], &lines[..], out);
+) -> io::Result<()> {
+    let s = build::read_all(
+        source, buf, line, nodes, edges, vertices, tiles, lengths, lines,
+    );
+    finish(rt, s, &tiles[..], &lengths[..], &lines[..], out)
 }
 
-// Zeros, as `io::buffer`: the contract gives the length, and no proof has to count so many.
+// Zeros: the contract gives the length, and no proof has to count so many.
 fn tile_room() -> [u8; TILES]
     ensures { 3145728 ≡ length result }
 {
@@ -103,9 +105,9 @@ fn pack_room() -> [u8; PACK]
     [0; PACK]
 }
 
-fn main() {
-    let mut buf = io::large_buffer();
-    let mut line = io::buffer();
+fn main(rt: HostRuntime) -> io::Result<()> {
+    let mut buf = [0u8; 65536];
+    let mut line = [0u8; 4096];
     let mut nodes = [0u16; NODES];
     let mut edges = [0u32; EDGES];
     let mut vertices = [0u16; VERTICES];
@@ -114,6 +116,8 @@ fn main() {
     let mut lines = count_room();
     let mut out = pack_room();
     run(
+        &rt,
+        &mut rt.reader(),
         &mut buf,
         &mut line,
         &mut nodes,
@@ -123,5 +127,5 @@ fn main() {
         &mut lengths,
         &mut lines,
         &mut out,
-    );
+    )
 }

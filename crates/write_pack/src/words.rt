@@ -7,7 +7,7 @@ const MOST: u64 = 0x1_0000_0000_0000;
 const LEAST: u64 = 0x8000_0000;
 
 // A number and where the line goes on behind it; there is none where `is` is false.
-#[derive(Drop)]
+#[derive(Clone, Copy)]
 pub struct Number {
     pub is: bool,
     pub value: u32,
