@@ -11,7 +11,7 @@ use geo::{EdgePoint, Figure, MetresRead, ProjectedRead};
 
 // A point of an edge with its elevation in decimetres.
 #[repr(C)]
-#[derive(Drop)]
+#[derive(Clone, Copy)]
 pub struct TerrainEdgePoint {
     pub number: u32,
     pub point: TerrainPoint,
@@ -19,7 +19,7 @@ pub struct TerrainEdgePoint {
 }
 
 #[repr(C)]
-#[derive(Drop)]
+#[derive(Clone, Copy)]
 pub struct TerrainMetresRead {
     pub number: u32,
     pub metres: TerrainMetres,
@@ -27,14 +27,14 @@ pub struct TerrainMetresRead {
 
 // A length or a turn.
 #[repr(C)]
-#[derive(Drop)]
+#[derive(Clone, Copy)]
 pub struct TerrainFigure {
     pub number: u32,
     pub value: f32,
 }
 
 #[repr(C)]
-#[derive(Drop)]
+#[derive(Clone, Copy)]
 pub struct TerrainProjectedRead {
     pub number: u32,
     pub fraction: f32,
@@ -53,8 +53,7 @@ fn figure_out(answer: Figure) -> TerrainFigure
     }
 }
 
-#[unsafe(no_mangle)]
-pub extern "C" fn terrain_edge_point(
+pub fn terrain_edge_point(
     header: TerrainHeader,
     bytes: &[u8],
     edge: TerrainEdge,
@@ -82,8 +81,7 @@ pub extern "C" fn terrain_edge_point(
     }
 }
 
-#[unsafe(no_mangle)]
-pub extern "C" fn terrain_metres_from(
+pub fn terrain_metres_from(
     point: TerrainPoint,
     origin: TerrainPoint,
     lon_um: u32,
@@ -110,26 +108,19 @@ pub extern "C" fn terrain_metres_from(
     }
 }
 
-#[unsafe(no_mangle)]
-pub extern "C" fn terrain_length(east: f32, north: f32) -> TerrainFigure
+pub fn terrain_length(east: f32, north: f32) -> TerrainFigure
     ensures { result ≡ Figures.figure_out (Flat.length east north) }
 {
     figure_out(geo::length(east, north))
 }
 
-#[unsafe(no_mangle)]
-pub extern "C" fn terrain_turn(from: f32, to: f32) -> TerrainFigure
+pub fn terrain_turn(from: f32, to: f32) -> TerrainFigure
     ensures { result ≡ Figures.figure_out (Flat.turn from to) }
 {
     figure_out(geo::turn(from, to))
 }
 
-#[unsafe(no_mangle)]
-pub extern "C" fn terrain_project(
-    p: TerrainMetres,
-    a: TerrainMetres,
-    b: TerrainMetres,
-) -> TerrainProjectedRead
+pub fn terrain_project(p: TerrainMetres, a: TerrainMetres, b: TerrainMetres) -> TerrainProjectedRead
     ensures { result ≡ Figures.projected_read_out (Flat.project (Records.metres_of p) (Records.metres_of a) (Records.metres_of b)) }
 {
     let first = crate::records::metres_of(a);

@@ -14,21 +14,21 @@ use tile::{EdgeRead, Entries, EntryRead, Found, NodeRead, Parsed};
 
 // Where bytes of a pack start.
 #[repr(C)]
-#[derive(Drop)]
+#[derive(Clone, Copy)]
 pub struct TerrainRange {
     pub number: u32,
     pub at: usize,
 }
 
 #[repr(C)]
-#[derive(Drop)]
+#[derive(Clone, Copy)]
 pub struct TerrainHeaderParsed {
     pub number: u32,
     pub header: TerrainHeader,
 }
 
 #[repr(C)]
-#[derive(Drop)]
+#[derive(Clone, Copy)]
 pub struct TerrainKeyed {
     pub number: u32,
     pub key: TerrainKey,
@@ -36,7 +36,7 @@ pub struct TerrainKeyed {
 
 // The south-west corner of a tile.
 #[repr(C)]
-#[derive(Drop)]
+#[derive(Clone, Copy)]
 pub struct TerrainOrigin {
     pub number: u32,
     pub south: i32,
@@ -44,14 +44,14 @@ pub struct TerrainOrigin {
 }
 
 #[repr(C)]
-#[derive(Drop)]
+#[derive(Clone, Copy)]
 pub struct TerrainOffset {
     pub number: u32,
     pub at: u64,
 }
 
 #[repr(C)]
-#[derive(Drop)]
+#[derive(Clone, Copy)]
 pub struct TerrainLocated {
     pub number: u32,
     pub offset: u32,
@@ -60,7 +60,7 @@ pub struct TerrainLocated {
 
 // The head of a tile.
 #[repr(C)]
-#[derive(Drop)]
+#[derive(Clone, Copy)]
 pub struct TerrainTileParsed {
     pub number: u32,
     pub key: TerrainKey,
@@ -71,14 +71,14 @@ pub struct TerrainTileParsed {
 }
 
 #[repr(C)]
-#[derive(Drop)]
+#[derive(Clone, Copy)]
 pub struct TerrainNodeRead {
     pub number: u32,
     pub node: TerrainNode,
 }
 
 #[repr(C)]
-#[derive(Drop)]
+#[derive(Clone, Copy)]
 pub struct TerrainEdgeRead {
     pub number: u32,
     pub edge: TerrainEdge,
@@ -86,7 +86,7 @@ pub struct TerrainEdgeRead {
 
 // Places of entries, from the first up to the last.
 #[repr(C)]
-#[derive(Drop)]
+#[derive(Clone, Copy)]
 pub struct TerrainEntries {
     pub number: u32,
     pub start: u32,
@@ -94,7 +94,7 @@ pub struct TerrainEntries {
 }
 
 #[repr(C)]
-#[derive(Drop)]
+#[derive(Clone, Copy)]
 pub struct TerrainEntryRead {
     pub number: u32,
     pub edge: u16,
@@ -102,7 +102,7 @@ pub struct TerrainEntryRead {
 }
 
 #[repr(C)]
-#[derive(Drop)]
+#[derive(Clone, Copy)]
 pub struct TerrainFound {
     pub number: u32,
     pub index: u16,
@@ -147,8 +147,7 @@ fn node_out(answer: NodeRead) -> TerrainNodeRead
     }
 }
 
-#[unsafe(no_mangle)]
-pub extern "C" fn terrain_pack_read(pack: &[u8], offset: u64, len: usize) -> TerrainRange
+pub fn terrain_pack_read(pack: &[u8], offset: u64, len: usize) -> TerrainRange
     ensures { result ≡ Format.range_out (Grid.read pack.now offset len) }
 {
     let answer = pack::read(pack, offset, len);
@@ -158,8 +157,7 @@ pub extern "C" fn terrain_pack_read(pack: &[u8], offset: u64, len: usize) -> Ter
     }
 }
 
-#[unsafe(no_mangle)]
-pub extern "C" fn terrain_header_parse(sector: &[u8; 512]) -> TerrainHeaderParsed
+pub fn terrain_header_parse(sector: &[u8; 512]) -> TerrainHeaderParsed
     ensures { result ≡ Format.header_parsed_out (Sector.parse sector.now) }
 {
     let parsed = Header::parse(sector);
@@ -171,24 +169,21 @@ pub extern "C" fn terrain_header_parse(sector: &[u8; 512]) -> TerrainHeaderParse
     }
 }
 
-#[unsafe(no_mangle)]
-pub extern "C" fn terrain_header_key(header: TerrainHeader, point: TerrainPoint) -> TerrainKeyed
+pub fn terrain_header_key(header: TerrainHeader, point: TerrainPoint) -> TerrainKeyed
     ensures { result ≡ Format.keyed_out (Grid.key (Records.header_of header) point.lat point.lon) }
 {
     let h = crate::records::header_of(header);
     keyed_out(h.key(point.lat, point.lon))
 }
 
-#[unsafe(no_mangle)]
-pub extern "C" fn terrain_header_checked(header: TerrainHeader, row: i64, col: i64) -> TerrainKeyed
+pub fn terrain_header_checked(header: TerrainHeader, row: i64, col: i64) -> TerrainKeyed
     ensures { result ≡ Format.keyed_out (Grid.checked (Records.header_of header) row col) }
 {
     let h = crate::records::header_of(header);
     keyed_out(h.checked(row, col))
 }
 
-#[unsafe(no_mangle)]
-pub extern "C" fn terrain_header_origin(header: TerrainHeader, key: TerrainKey) -> TerrainOrigin
+pub fn terrain_header_origin(header: TerrainHeader, key: TerrainKey) -> TerrainOrigin
     ensures { result ≡ Format.origin_out (Grid.origin (Records.header_of header) (Records.key_of key)) }
 {
     let h = crate::records::header_of(header);
@@ -207,8 +202,7 @@ pub extern "C" fn terrain_header_origin(header: TerrainHeader, key: TerrainKey) 
     }
 }
 
-#[unsafe(no_mangle)]
-pub extern "C" fn terrain_header_entry(header: TerrainHeader, key: TerrainKey) -> TerrainOffset
+pub fn terrain_header_entry(header: TerrainHeader, key: TerrainKey) -> TerrainOffset
     ensures { result ≡ Format.offset_out (Grid.entry (Records.header_of header) (Records.key_of key)) }
 {
     let h = crate::records::header_of(header);
@@ -219,8 +213,7 @@ pub extern "C" fn terrain_header_entry(header: TerrainHeader, key: TerrainKey) -
     }
 }
 
-#[unsafe(no_mangle)]
-pub extern "C" fn terrain_header_locate(header: TerrainHeader, entry: &[u8; 8]) -> TerrainLocated
+pub fn terrain_header_locate(header: TerrainHeader, entry: &[u8; 8]) -> TerrainLocated
     ensures { result ≡ Format.located_out (Grid.locate (Records.header_of header) entry.now) }
 {
     let h = crate::records::header_of(header);
@@ -244,8 +237,7 @@ pub extern "C" fn terrain_header_locate(header: TerrainHeader, entry: &[u8; 8]) 
     }
 }
 
-#[unsafe(no_mangle)]
-pub extern "C" fn terrain_tile_parse(bytes: &[u8], key: TerrainKey, size: u32) -> TerrainTileParsed
+pub fn terrain_tile_parse(bytes: &[u8], key: TerrainKey, size: u32) -> TerrainTileParsed
     ensures { result ≡ Format.tile_parsed_out (Parse.parse bytes.now (Records.key_of key) size) }
 {
     let answer = tile::parse(bytes, crate::records::key_of(key), size);
@@ -269,15 +261,13 @@ pub extern "C" fn terrain_tile_parse(bytes: &[u8], key: TerrainKey, size: u32) -
     }
 }
 
-#[unsafe(no_mangle)]
-pub extern "C" fn terrain_tile_node(bytes: &[u8], index: u16) -> TerrainNodeRead
+pub fn terrain_tile_node(bytes: &[u8], index: u16) -> TerrainNodeRead
     ensures { result ≡ Format.node_read_out (Readers.node bytes.now index) }
 {
     node_out(view::through::node(bytes, index))
 }
 
-#[unsafe(no_mangle)]
-pub extern "C" fn terrain_tile_edge(bytes: &[u8], index: u16) -> TerrainEdgeRead
+pub fn terrain_tile_edge(bytes: &[u8], index: u16) -> TerrainEdgeRead
     ensures { result ≡ Format.edge_read_out (Readers.edge bytes.now index) }
 {
     let answer = view::through::edge(bytes, index);
@@ -293,20 +283,14 @@ pub extern "C" fn terrain_tile_edge(bytes: &[u8], index: u16) -> TerrainEdgeRead
     }
 }
 
-#[unsafe(no_mangle)]
-pub extern "C" fn terrain_tile_point(
-    bytes: &[u8],
-    edge: TerrainEdge,
-    index: usize,
-) -> TerrainNodeRead
+pub fn terrain_tile_point(bytes: &[u8], edge: TerrainEdge, index: usize) -> TerrainNodeRead
     ensures { result ≡ Format.node_read_out (Readers.point bytes.now (Records.edge_of edge) index) }
 {
     let e = crate::records::edge_of(edge);
     node_out(view::through::point(bytes, e, index))
 }
 
-#[unsafe(no_mangle)]
-pub extern "C" fn terrain_tile_incident(bytes: &[u8], node: u16) -> TerrainEntries
+pub fn terrain_tile_incident(bytes: &[u8], node: u16) -> TerrainEntries
     ensures { result ≡ Format.entries_out (Readers.incident bytes.now node) }
 {
     let answer = view::through::incident(bytes, node);
@@ -324,8 +308,7 @@ pub extern "C" fn terrain_tile_incident(bytes: &[u8], node: u16) -> TerrainEntri
     }
 }
 
-#[unsafe(no_mangle)]
-pub extern "C" fn terrain_tile_entry(bytes: &[u8], entry: u32) -> TerrainEntryRead
+pub fn terrain_tile_entry(bytes: &[u8], entry: u32) -> TerrainEntryRead
     ensures { result ≡ Format.entry_read_out (Readers.incident_entry bytes.now entry) }
 {
     let answer = view::through::incident_entry(bytes, entry);
@@ -343,8 +326,7 @@ pub extern "C" fn terrain_tile_entry(bytes: &[u8], entry: u32) -> TerrainEntryRe
     }
 }
 
-#[unsafe(no_mangle)]
-pub extern "C" fn terrain_tile_node_at(bytes: &[u8], x: u16, y: u16) -> TerrainFound
+pub fn terrain_tile_node_at(bytes: &[u8], x: u16, y: u16) -> TerrainFound
     ensures { result ≡ Format.found_out (Readers.node_at bytes.now x y) }
 {
     let answer = view::through::node_at(bytes, x, y);

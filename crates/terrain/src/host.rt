@@ -15,7 +15,7 @@ use engine::{
 // ---- what crosses by value
 
 #[repr(C)]
-#[derive(Drop)]
+#[derive(Clone, Copy)]
 pub struct FixGiven {
     pub lat: i32,
     pub lon: i32,
@@ -24,7 +24,7 @@ pub struct FixGiven {
 
 // How a step ended: the refusal's number, or 0; 0 Idle, 1 Working, 2 NoPack, 3 OffMap, 4 Fetch, 5 refused; and the read that a fetch asks for.
 #[repr(C)]
-#[derive(Drop)]
+#[derive(Clone, Copy)]
 pub struct StepTold {
     pub number: u32,
     pub status: u32,
@@ -34,7 +34,7 @@ pub struct StepTold {
 
 // A match, all zeros where there is none. Forward is 0 unknown, 1 back, 2 ahead.
 #[repr(C)]
-#[derive(Drop)]
+#[derive(Clone, Copy)]
 pub struct MatchTold {
     pub matched: u32,
     pub row: u16,
@@ -55,7 +55,7 @@ pub struct MatchTold {
 
 // The road ahead. End is 0 horizon, 1 fork, 2 dead end, 3 map edge, 4 uncertain, 5 memory.
 #[repr(C)]
-#[derive(Drop)]
+#[derive(Clone, Copy)]
 pub struct AheadTold {
     pub number: u32,
     pub generation: u32,
@@ -75,7 +75,7 @@ pub struct AheadTold {
 
 // The header, all zeros where it is not known.
 #[repr(C)]
-#[derive(Drop)]
+#[derive(Clone, Copy)]
 pub struct HeaderTold {
     pub number: u32,
     pub known: u32,
@@ -94,7 +94,7 @@ pub struct HeaderTold {
 }
 
 #[repr(C)]
-#[derive(Drop)]
+#[derive(Clone, Copy)]
 pub struct HeadingTold {
     pub number: u32,
     pub known: u32,
@@ -102,7 +102,7 @@ pub struct HeadingTold {
 }
 
 #[repr(C)]
-#[derive(Drop)]
+#[derive(Clone, Copy)]
 pub struct CountTold {
     pub number: u32,
     pub count: u32,
@@ -367,8 +367,7 @@ fn no_header() -> Header
 // ---- the calls
 
 // A new engine over the arena, which follows the road for `horizon_m`, at most 10 km.
-#[unsafe(no_mangle)]
-pub extern "C" fn terrain_new(engine: &mut [u32; words::WORDS], arena: &[u8], horizon_m: f32)
+pub fn terrain_new(engine: &mut [u32; words::WORDS], arena: &[u8], horizon_m: f32)
     ensures { engine.new ≡ Host.new arena.now horizon_m }
 {
     let e = Engine::new(arena, horizon_m);
@@ -376,8 +375,7 @@ pub extern "C" fn terrain_new(engine: &mut [u32; words::WORDS], arena: &[u8], ho
 }
 
 // A fix of 1e-7 degrees, cut toward zero.
-#[unsafe(no_mangle)]
-pub extern "C" fn terrain_from_e7(lat_e7: i32, lon_e7: i32, at_ms: u64) -> FixGiven
+pub fn terrain_from_e7(lat_e7: i32, lon_e7: i32, at_ms: u64) -> FixGiven
     ensures { result ≡ Host.given (Fixes.from_e7 lat_e7 lon_e7 at_ms) }
 {
     let f = Fix::from_e7(lat_e7, lon_e7, at_ms);
@@ -389,8 +387,7 @@ pub extern "C" fn terrain_from_e7(lat_e7: i32, lon_e7: i32, at_ms: u64) -> FixGi
 }
 
 // A new fix: 0, 8 or 12.
-#[unsafe(no_mangle)]
-pub extern "C" fn terrain_fix(
+pub fn terrain_fix(
     engine: &mut [u32; words::WORDS],
     arena: &[u8],
     lat: i32,
@@ -411,8 +408,7 @@ pub extern "C" fn terrain_fix(
 }
 
 // The fixes stopped: 0 or 12.
-#[unsafe(no_mangle)]
-pub extern "C" fn terrain_lost(engine: &mut [u32; words::WORDS], arena: &[u8]) -> u32
+pub fn terrain_lost(engine: &mut [u32; words::WORDS], arena: &[u8]) -> u32
     ensures value { result ≡ (Host.lost engine.old arena.now).answer }
     ensures engine_after { engine.new ≡ (Host.lost engine.old arena.now).words }
 {
@@ -426,8 +422,7 @@ pub extern "C" fn terrain_lost(engine: &mut [u32; words::WORDS], arena: &[u8]) -
 }
 
 // The pack was written anew: 0 or 12.
-#[unsafe(no_mangle)]
-pub extern "C" fn terrain_reset(engine: &mut [u32; words::WORDS], arena: &[u8]) -> u32
+pub fn terrain_reset(engine: &mut [u32; words::WORDS], arena: &[u8]) -> u32
     ensures value { result ≡ (Host.reset engine.old arena.now).answer }
     ensures engine_after { engine.new ≡ (Host.reset engine.old arena.now).words }
 {
@@ -441,8 +436,7 @@ pub extern "C" fn terrain_reset(engine: &mut [u32; words::WORDS], arena: &[u8]) 
 }
 
 // One bounded unit of work.
-#[unsafe(no_mangle)]
-pub extern "C" fn terrain_step(engine: &mut [u32; words::WORDS], arena: &[u8]) -> StepTold
+pub fn terrain_step(engine: &mut [u32; words::WORDS], arena: &[u8]) -> StepTold
     ensures value { result ≡ (Host.step engine.old arena.now).answer }
     ensures engine_after { engine.new ≡ (Host.step engine.old arena.now).words }
 {
@@ -450,8 +444,7 @@ pub extern "C" fn terrain_step(engine: &mut [u32; words::WORDS], arena: &[u8]) -
 }
 
 // The open fetch answered: by its bytes with failure 0, or by failure 1 (missed) or 2 (past the pack's end).
-#[unsafe(no_mangle)]
-pub extern "C" fn terrain_deliver(
+pub fn terrain_deliver(
     engine: &mut [u32; words::WORDS],
     arena: &mut [u8],
     failure: u32,
@@ -465,8 +458,7 @@ pub extern "C" fn terrain_deliver(
 }
 
 // One step over a pack that is lent whole.
-#[unsafe(no_mangle)]
-pub extern "C" fn terrain_step_from(
+pub fn terrain_step_from(
     engine: &mut [u32; words::WORDS],
     arena: &mut [u8],
     pack: &[u8],
@@ -479,8 +471,7 @@ pub extern "C" fn terrain_step_from(
 }
 
 // The road ahead as it was published last; refused, an empty one.
-#[unsafe(no_mangle)]
-pub extern "C" fn terrain_ahead(engine: &[u32; words::WORDS], arena: &[u8]) -> AheadTold
+pub fn terrain_ahead(engine: &[u32; words::WORDS], arena: &[u8]) -> AheadTold
     ensures { result ≡ Host.ahead engine.now arena.now }
 {
     let r = words::read(engine);
@@ -497,8 +488,7 @@ pub extern "C" fn terrain_ahead(engine: &[u32; words::WORDS], arena: &[u8]) -> A
 }
 
 // The pack's header, once it was read.
-#[unsafe(no_mangle)]
-pub extern "C" fn terrain_header(engine: &[u32; words::WORDS], arena: &[u8]) -> HeaderTold
+pub fn terrain_header(engine: &[u32; words::WORDS], arena: &[u8]) -> HeaderTold
     ensures { result ≡ Host.header engine.now arena.now }
 {
     let r = words::read(engine);
@@ -516,8 +506,7 @@ pub extern "C" fn terrain_header(engine: &[u32; words::WORDS], arena: &[u8]) -> 
 }
 
 // The bearing of travel, if the rider moved lately.
-#[unsafe(no_mangle)]
-pub extern "C" fn terrain_heading(engine: &[u32; words::WORDS], arena: &[u8]) -> HeadingTold
+pub fn terrain_heading(engine: &[u32; words::WORDS], arena: &[u8]) -> HeadingTold
     ensures { result ≡ Host.heading engine.now arena.now }
 {
     let r = words::read(engine);
@@ -555,8 +544,7 @@ fn heading(answer: HeadingRead) -> HeadingTold
 }
 
 // Tiles read since start.
-#[unsafe(no_mangle)]
-pub extern "C" fn terrain_loads(engine: &[u32; words::WORDS], arena: &[u8]) -> CountTold
+pub fn terrain_loads(engine: &[u32; words::WORDS], arena: &[u8]) -> CountTold
     ensures { result ≡ Host.loads engine.now arena.now }
 {
     let r = words::read(engine);
@@ -568,8 +556,7 @@ pub extern "C" fn terrain_loads(engine: &[u32; words::WORDS], arena: &[u8]) -> C
 }
 
 // Steps that did work since start.
-#[unsafe(no_mangle)]
-pub extern "C" fn terrain_steps(engine: &[u32; words::WORDS], arena: &[u8]) -> CountTold
+pub fn terrain_steps(engine: &[u32; words::WORDS], arena: &[u8]) -> CountTold
     ensures { result ≡ Host.steps engine.now arena.now }
 {
     let r = words::read(engine);

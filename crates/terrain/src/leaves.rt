@@ -13,127 +13,110 @@ ghost use Rattle.terrain.specs.Answers.{sign, flag, degrees_out};
 
 // Degrees clockwise from north, 0 to 360; or the refusal's number, and 0.
 #[repr(C)]
-#[derive(Drop)]
+#[derive(Clone, Copy)]
 pub struct TerrainDegrees {
     pub number: u32,
     pub degrees: f32,
 }
 
-#[unsafe(no_mangle)]
-pub extern "C" fn terrain_crc32(bytes: &[u8]) -> u32
+pub fn terrain_crc32(bytes: &[u8]) -> u32
     ensures { result ≡ Fcs.crc32 bytes.now }
 {
     crc::crc32(bytes)
 }
 
-#[unsafe(no_mangle)]
-pub extern "C" fn terrain_crc32_skipping(bytes: &[u8], at: usize) -> u32
+pub fn terrain_crc32_skipping(bytes: &[u8], at: usize) -> u32
     ensures { result ≡ Fcs.crc32_skipping bytes.now at }
 {
     crc::crc32_skipping(bytes, at)
 }
 
-#[unsafe(no_mangle)]
-pub extern "C" fn terrain_f32_of_i32(z: i32) -> f32
+pub fn terrain_f32_of_i32(z: i32) -> f32
     ensures { result ≡ of_int binary32 z }
 {
     num::convert::f32_of_i32(z)
 }
 
-#[unsafe(no_mangle)]
-pub extern "C" fn terrain_f32_of_u32(n: u32) -> f32
+pub fn terrain_f32_of_u32(n: u32) -> f32
     ensures { result ≡ of_int binary32 (pos n) }
 {
     num::convert::f32_of_u32(n)
 }
 
-#[unsafe(no_mangle)]
-pub extern "C" fn terrain_f32_of_usize(n: usize) -> f32
+pub fn terrain_f32_of_usize(n: usize) -> f32
     ensures { result ≡ of_int binary32 (pos n) }
 {
     num::convert::f32_of_usize(n)
 }
 
-#[unsafe(no_mangle)]
-pub extern "C" fn terrain_f32_of_f64(x: f64) -> f32
+pub fn terrain_f32_of_f64(x: f64) -> f32
     ensures { result ≡ Convert.narrow x }
 {
     num::convert::f32_of_f64(x)
 }
 
-#[unsafe(no_mangle)]
-pub extern "C" fn terrain_i32_of_f32(x: f32) -> i32
+pub fn terrain_i32_of_f32(x: f32) -> i32
     ensures { result ≡ to_signed 31 x }
 {
     num::cast::i32_of_f32(x)
 }
 
-#[unsafe(no_mangle)]
-pub extern "C" fn terrain_u32_of_f32(x: f32) -> u32
+pub fn terrain_u32_of_f32(x: f32) -> u32
     ensures { result ≡ to_unsigned 32 x }
 {
     num::cast::u32_of_f32(x)
 }
 
-#[unsafe(no_mangle)]
-pub extern "C" fn terrain_u8_of_f32(x: f32) -> u32
+pub fn terrain_u8_of_f32(x: f32) -> u32
     ensures { result ≡ to_unsigned 8 x }
 {
     num::cast::u8_of_f32(x) as u32
 }
 
-#[unsafe(no_mangle)]
-pub extern "C" fn terrain_i16_of_f32(x: f32) -> i32
+pub fn terrain_i16_of_f32(x: f32) -> i32
     ensures { result ≡ to_signed 15 x }
 {
     num::cast::i16_of_f32(x) as i32
 }
 
-#[unsafe(no_mangle)]
-pub extern "C" fn terrain_i16_of_i32(z: i32) -> i32
+pub fn terrain_i16_of_i32(z: i32) -> i32
     ensures { result ≡ Cast.low16 z }
 {
     num::cast::i16_of_i32(z) as i32
 }
 
-#[unsafe(no_mangle)]
-pub extern "C" fn terrain_u32_of_i32(z: i32) -> u32
+pub fn terrain_u32_of_i32(z: i32) -> u32
     ensures { result ≡ Cast.bits32 z }
 {
     num::cast::u32_of_i32(z)
 }
 
-#[unsafe(no_mangle)]
-pub extern "C" fn terrain_min(a: f32, b: f32) -> f32
+pub fn terrain_min(a: f32, b: f32) -> f32
     ensures { result ≡ Order.min a b }
 {
     num::order::min(a, b)
 }
 
-#[unsafe(no_mangle)]
-pub extern "C" fn terrain_max(a: f32, b: f32) -> f32
+pub fn terrain_max(a: f32, b: f32) -> f32
     ensures { result ≡ Order.max a b }
 {
     num::order::max(a, b)
 }
 
-#[unsafe(no_mangle)]
-pub extern "C" fn terrain_clamp(x: f32, lo: f32, hi: f32) -> f32
+pub fn terrain_clamp(x: f32, lo: f32, hi: f32) -> f32
     ensures { result ≡ Order.clamp x lo hi }
 {
     num::order::clamp(x, lo, hi)
 }
 
-#[unsafe(no_mangle)]
-pub extern "C" fn terrain_fabs(x: f32) -> f32
+pub fn terrain_fabs(x: f32) -> f32
     ensures { result ≡ Order.fabsf x }
 {
     num::order::fabsf(x)
 }
 
 // -1, 0 or 1.
-#[unsafe(no_mangle)]
-pub extern "C" fn terrain_total_cmp(a: f32, b: f32) -> i32
+pub fn terrain_total_cmp(a: f32, b: f32) -> i32
     ensures { result ≡ sign (Order.total_cmp a b) }
 {
     let order = num::order::total_cmp(a, b);
@@ -145,8 +128,7 @@ pub extern "C" fn terrain_total_cmp(a: f32, b: f32) -> i32
 }
 
 // 1 or 0.
-#[unsafe(no_mangle)]
-pub extern "C" fn terrain_is_finite(x: f32) -> u32
+pub fn terrain_is_finite(x: f32) -> u32
     ensures { result ≡ flag (Order.is_finite x) }
 {
     if num::order::is_finite(x) {
@@ -155,15 +137,13 @@ pub extern "C" fn terrain_is_finite(x: f32) -> u32
     0
 }
 
-#[unsafe(no_mangle)]
-pub extern "C" fn terrain_sqrt(x: f32) -> f32
+pub fn terrain_sqrt(x: f32) -> f32
     ensures { result ≡ Root.square_root binary32 x }
 {
     num::root::sqrt(x)
 }
 
-#[unsafe(no_mangle)]
-pub extern "C" fn terrain_bearing(east: f32, north: f32) -> TerrainDegrees
+pub fn terrain_bearing(east: f32, north: f32) -> TerrainDegrees
     ensures { result ≡ degrees_out (Bearing.bearing east north) }
 {
     let answer = angle::bearing(east, north);
@@ -176,8 +156,7 @@ pub extern "C" fn terrain_bearing(east: f32, north: f32) -> TerrainDegrees
     }
 }
 
-#[unsafe(no_mangle)]
-pub extern "C" fn terrain_lon_scale_um(lat: i32) -> u32
+pub fn terrain_lon_scale_um(lat: i32) -> u32
     ensures { result ≡ Cosine.lon_scale_um lat }
 {
     angle::lon_scale_um(lat)

@@ -2,13 +2,15 @@
 // state or allocates; each bit pattern has an answer. include/terrain.h declares it for C.
 //
 // `host` has the engine's calls, on the words of crate `words`; `records` what crosses by value; `leaves`, `format`, `figures`, `transect`, `page` and `write` are thin calls of the library's own, `parts` and `roads` the cache's, the matcher's and predict's.
-mod figures;
-mod format;
+#![tactic(auto)]
+
+pub mod figures;
+pub mod format;
 pub mod host;
-mod leaves;
-mod page;
+pub mod leaves;
+pub mod page;
 pub mod parts;
 pub mod records;
 pub mod roads;
-mod transect;
-mod write;
+pub mod transect;
+pub mod write;

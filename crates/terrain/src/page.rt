@@ -7,14 +7,13 @@ use profile_text::page::Printed;
 
 // The page's length; or the refusal's number, and 0.
 #[repr(C)]
-#[derive(Drop)]
+#[derive(Clone, Copy)]
 pub struct TerrainPrinted {
     pub number: u32,
     pub length: usize,
 }
 
-#[unsafe(no_mangle)]
-pub extern "C" fn terrain_profile_page(samples: &[i16], page: u32, out: &mut [u8]) -> TerrainPrinted
+pub fn terrain_profile_page(samples: &[i16], page: u32, out: &mut [u8]) -> TerrainPrinted
     ensures value { result ≡ printed_out (Page.printed samples.now page (length out.old)) }
     ensures out_after { out.new ≡ Page.written samples.now page out.old }
 {

@@ -8,7 +8,7 @@ use crate::records::{TerrainHeader, TerrainKey};
 use cache::{Cache, Clearing, Count, Lookup, Progress, Request};
 
 #[repr(C)]
-#[derive(Drop)]
+#[derive(Clone, Copy)]
 pub struct TerrainCount {
     pub number: u32,
     pub count: usize,
@@ -16,7 +16,7 @@ pub struct TerrainCount {
 
 // 0 Ready with the run's first page and length, 1 Missing, 2 Absent, 3 refused.
 #[repr(C)]
-#[derive(Drop)]
+#[derive(Clone, Copy)]
 pub struct TerrainLookup {
     pub number: u32,
     pub lookup: u32,
@@ -26,7 +26,7 @@ pub struct TerrainLookup {
 
 // 0 Settled, 1 Read with offset and length, 2 refused.
 #[repr(C)]
-#[derive(Drop)]
+#[derive(Clone, Copy)]
 pub struct TerrainRequest {
     pub number: u32,
     pub request: u32,
@@ -36,7 +36,7 @@ pub struct TerrainRequest {
 
 // 0 Done, 1 More, 2 Failed with 1, 2 or 4, 3 refused.
 #[repr(C)]
-#[derive(Drop)]
+#[derive(Clone, Copy)]
 pub struct TerrainProgress {
     pub number: u32,
     pub progress: u32,
@@ -166,8 +166,7 @@ pub(crate) fn leave(c: Cache, ws: &mut [u32; words::WORDS])
 
 // ---- what is there
 
-#[unsafe(no_mangle)]
-pub extern "C" fn terrain_cache_capacity(engine: &[u32; words::WORDS], arena: &[u8]) -> TerrainCount
+pub fn terrain_cache_capacity(engine: &[u32; words::WORDS], arena: &[u8]) -> TerrainCount
     ensures { result ≡ Parts.count_out (Parts.capacity engine.now arena.now) }
 {
     let at = held(engine);
@@ -177,8 +176,7 @@ pub extern "C" fn terrain_cache_capacity(engine: &[u32; words::WORDS], arena: &[
     count_out(at.cache.capacity(arena))
 }
 
-#[unsafe(no_mangle)]
-pub extern "C" fn terrain_cache_loads(engine: &[u32; words::WORDS], arena: &[u8]) -> TerrainCount
+pub fn terrain_cache_loads(engine: &[u32; words::WORDS], arena: &[u8]) -> TerrainCount
     ensures { result ≡ Parts.count_out (Parts.loads engine.now arena.now) }
 {
     let at = held(engine);
@@ -189,8 +187,7 @@ pub extern "C" fn terrain_cache_loads(engine: &[u32; words::WORDS], arena: &[u8]
 }
 
 // Pages that a ready tile takes, one for anything else.
-#[unsafe(no_mangle)]
-pub extern "C" fn terrain_cache_pages(
+pub fn terrain_cache_pages(
     engine: &[u32; words::WORDS],
     arena: &[u8],
     header: TerrainHeader,
@@ -207,8 +204,7 @@ pub extern "C" fn terrain_cache_pages(
     count_out(at.cache.pages(arena, h, k))
 }
 
-#[unsafe(no_mangle)]
-pub extern "C" fn terrain_cache_get(
+pub fn terrain_cache_get(
     engine: &mut [u32; words::WORDS],
     arena: &[u8],
     header: TerrainHeader,
@@ -230,8 +226,7 @@ pub extern "C" fn terrain_cache_get(
 }
 
 // Drop everything, for a pack that changed.
-#[unsafe(no_mangle)]
-pub extern "C" fn terrain_cache_clear(engine: &mut [u32; words::WORDS], arena: &[u8]) -> u32
+pub fn terrain_cache_clear(engine: &mut [u32; words::WORDS], arena: &[u8]) -> u32
     ensures value { result ≡ Parts.clearing_out (Parts.clear engine.old arena.now).answer }
     ensures engine_after { engine.new ≡ Parts.after engine.old (Parts.clear engine.old arena.now).cache }
 {
@@ -248,8 +243,7 @@ pub extern "C" fn terrain_cache_clear(engine: &mut [u32; words::WORDS], arena: &
 // ---- bringing tiles in
 
 // The read that the next step towards a tile makes. Nothing changes.
-#[unsafe(no_mangle)]
-pub extern "C" fn terrain_cache_fetch(
+pub fn terrain_cache_fetch(
     engine: &[u32; words::WORDS],
     arena: &[u8],
     header: TerrainHeader,
@@ -267,8 +261,7 @@ pub extern "C" fn terrain_cache_fetch(
 }
 
 // One step towards a tile, with its read answered.
-#[unsafe(no_mangle)]
-pub extern "C" fn terrain_cache_load(
+pub fn terrain_cache_load(
     engine: &mut [u32; words::WORDS],
     arena: &mut [u8],
     header: TerrainHeader,
@@ -293,8 +286,7 @@ pub extern "C" fn terrain_cache_load(
 }
 
 // One step towards a tile over a pack that is lent whole.
-#[unsafe(no_mangle)]
-pub extern "C" fn terrain_cache_load_from(
+pub fn terrain_cache_load_from(
     engine: &mut [u32; words::WORDS],
     arena: &mut [u8],
     header: TerrainHeader,

@@ -8,7 +8,7 @@ use pack::{Header, TileKey};
 use tile::Edge;
 
 #[repr(C)]
-#[derive(Drop)]
+#[derive(Clone, Copy)]
 pub struct TerrainHeader {
     pub tile: u32,
     pub south: i32,
@@ -25,14 +25,14 @@ pub struct TerrainHeader {
 }
 
 #[repr(C)]
-#[derive(Drop)]
+#[derive(Clone, Copy)]
 pub struct TerrainKey {
     pub row: u16,
     pub col: u16,
 }
 
 #[repr(C)]
-#[derive(Drop)]
+#[derive(Clone, Copy)]
 pub struct TerrainNode {
     pub x: u16,
     pub y: u16,
@@ -40,7 +40,7 @@ pub struct TerrainNode {
 }
 
 #[repr(C)]
-#[derive(Drop)]
+#[derive(Clone, Copy)]
 pub struct TerrainEdge {
     pub from: u16,
     pub to: u16,
@@ -52,14 +52,14 @@ pub struct TerrainEdge {
 }
 
 #[repr(C)]
-#[derive(Drop)]
+#[derive(Clone, Copy)]
 pub struct TerrainPoint {
     pub lat: i32,
     pub lon: i32,
 }
 
 #[repr(C)]
-#[derive(Drop)]
+#[derive(Clone, Copy)]
 pub struct TerrainMetres {
     pub east: f32,
     pub north: f32,

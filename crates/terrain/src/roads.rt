@@ -19,7 +19,7 @@ pub const MATCHER_WORDS: usize = 22;
 
 // The tiles that a search around a fix needs, `len` of them.
 #[repr(C)]
-#[derive(Drop)]
+#[derive(Clone, Copy)]
 pub struct TerrainNear {
     pub number: u32,
     pub len: usize,
@@ -27,7 +27,7 @@ pub struct TerrainNear {
 }
 
 #[repr(C)]
-#[derive(Drop)]
+#[derive(Clone, Copy)]
 pub struct TerrainCurrent {
     pub number: u32,
     pub matched: MatchTold,
@@ -35,7 +35,7 @@ pub struct TerrainCurrent {
 
 // A heading: 0 none, 1 degrees.
 #[repr(C)]
-#[derive(Drop)]
+#[derive(Clone, Copy)]
 pub struct TerrainHeading {
     pub known: u32,
     pub degrees: f32,
@@ -43,7 +43,7 @@ pub struct TerrainHeading {
 
 // 0 Found with the match, 1 Nothing, 2 Need with the key, 3 refused.
 #[repr(C)]
-#[derive(Drop)]
+#[derive(Clone, Copy)]
 pub struct TerrainUpdated {
     pub number: u32,
     pub outcome: u32,
@@ -53,7 +53,7 @@ pub struct TerrainUpdated {
 
 // 0 Road with the rest, 1 Need with the key, 2 Rematch, 3 refused.
 #[repr(C)]
-#[derive(Drop)]
+#[derive(Clone, Copy)]
 pub struct TerrainPredicted {
     pub number: u32,
     pub outcome: u32,
@@ -345,8 +345,7 @@ fn heading_of(heading: TerrainHeading) -> Heading
 // ---- the calls
 
 // The tiles that a search around a fix needs: 12 for the header, 8 for the point.
-#[unsafe(no_mangle)]
-pub extern "C" fn terrain_nearby(header: TerrainHeader, fix: TerrainPoint) -> TerrainNear
+pub fn terrain_nearby(header: TerrainHeader, fix: TerrainPoint) -> TerrainNear
     ensures { result ≡ Roads.near_out (Calls.nearby (Records.header_of header) (Records.point_of fix)) }
 {
     let h = crate::records::header_of(header);
@@ -361,16 +360,14 @@ pub extern "C" fn terrain_nearby(header: TerrainHeader, fix: TerrainPoint) -> Te
 }
 
 // The words of a matcher that has matched nothing.
-#[unsafe(no_mangle)]
-pub extern "C" fn terrain_matcher_reset(matcher: &mut [u32; MATCHER_WORDS])
+pub fn terrain_matcher_reset(matcher: &mut [u32; MATCHER_WORDS])
     ensures { matcher.new ≡ Words.matcher_words Calls.reset }
 {
     put_matcher(Matcher::reset(), matcher);
 }
 
 // The match as it stands.
-#[unsafe(no_mangle)]
-pub extern "C" fn terrain_matcher_current(matcher: &[u32; MATCHER_WORDS]) -> TerrainCurrent
+pub fn terrain_matcher_current(matcher: &[u32; MATCHER_WORDS]) -> TerrainCurrent
     ensures { result ≡ Roads.current_out (Roads.current matcher.now) }
 {
     if !is_matcher(matcher) {
@@ -380,8 +377,7 @@ pub extern "C" fn terrain_matcher_current(matcher: &[u32; MATCHER_WORDS]) -> Ter
 }
 
 // Match one fix.
-#[unsafe(no_mangle)]
-pub extern "C" fn terrain_matcher_update(
+pub fn terrain_matcher_update(
     matcher: &mut [u32; MATCHER_WORDS],
     engine: &mut [u32; words::WORDS],
     arena: &[u8],
@@ -410,8 +406,7 @@ pub extern "C" fn terrain_matcher_update(
 }
 
 // The road from a match on, for up to `horizon_m`.
-#[unsafe(no_mangle)]
-pub extern "C" fn terrain_predict(
+pub fn terrain_predict(
     engine: &mut [u32; words::WORDS],
     arena: &[u8],
     header: TerrainHeader,

@@ -7,7 +7,7 @@ use crate::records::{TerrainHeader, TerrainKey, TerrainPoint};
 use crossing::Crossed;
 
 #[repr(C)]
-#[derive(Drop)]
+#[derive(Clone, Copy)]
 pub struct TerrainCrossed {
     pub number: u32,
     pub edge: u16,
@@ -36,8 +36,7 @@ fn crossed_out(answer: Crossed) -> TerrainCrossed
     }
 }
 
-#[unsafe(no_mangle)]
-pub extern "C" fn terrain_crossing(
+pub fn terrain_crossing(
     first: TerrainPoint,
     second: TerrainPoint,
     header: TerrainHeader,

@@ -11,7 +11,7 @@ use writer::Answer;
 
 // How many bytes were written; or the refusal's number, and 0.
 #[repr(C)]
-#[derive(Drop)]
+#[derive(Clone, Copy)]
 pub struct TerrainWritten {
     pub number: u32,
     pub length: u32,
@@ -32,8 +32,7 @@ fn written_out(answer: Answer) -> TerrainWritten
     }
 }
 
-#[unsafe(no_mangle)]
-pub extern "C" fn terrain_write_tile(
+pub fn terrain_write_tile(
     key: TerrainKey,
     size: u32,
     lon_um: u32,
@@ -49,8 +48,7 @@ pub extern "C" fn terrain_write_tile(
     written_out(writer::tile(k, size, lon_um, nodes, edges, vertices, out))
 }
 
-#[unsafe(no_mangle)]
-pub extern "C" fn terrain_write_pack(
+pub fn terrain_write_pack(
     south: i32,
     west: i32,
     size: u32,
