@@ -1,4 +1,4 @@
--- The corollary is not empty: two lists of calls, computed from the definitions, with one story (`story-one`, `story-two`), in which the premises hold
+-- The corollary is not empty: two lists of calls, computed from the definitions, with one story (`story_one`, `story_two`), in which the premises hold
 -- (`fair_one`, `fair_two`). Both have a reset, a match and a road, a fix off the map that clears the match, and a fix for which no match is found. In
 -- the second reads of header and chunk are missed, a fetch is withdrawn, a direct `update` is made, and the tile is cleared away and loaded again. The
 -- next step of each finishes a match, which is none (`ends_one`, `ends_two`, `none_found`), and by `all_stories` these are equal (`same_match`). A direct `predict` and the empty
@@ -29,46 +29,21 @@ use Rattle.direct.specs.Claims.{AllFair}
 use Rattle.direct.specs.Story as Story
 use Rattle.direct.specs.Story.{Event, story, after, matcher_of}
 use Rattle.direct.proofs.Stories.{all_stories}
-use Rattle.direct_witness.proofs.Witness.{lists, pack, header, horizon, begin, fix_at, parsed, no_failure}
-
--- on the road; south of the grid; far from the road
-abbrev on : Fix
-on = fix_at 5000 1000
-
-abbrev off : Fix
-off = record { lat = negsuc 9; lon = pos 5000; at_ms = 2000 }
-
-abbrev far : Fix
-far = record { lat = pos 9000; lon = pos 5000; at_ms = 3000 }
-
--- every read answered: the header, the entry and the tile; then the match and the road; off the map; and the far fix
-abbrev pub one : List Call
-one =
-    reset pack ∷ fix on ∷ step_from pack ∷ step ∷ step_from pack ∷ step_from pack ∷ step ∷ step
-    ∷ fix off ∷ step ∷ fix far ∷ []
-
--- the header's fetch withdrawn by the reset, then missed; the chunk missed, so that the entry is read again; a match by a direct call; and once the fix is
--- far the tile is cleared away and read again
-abbrev pub two : List Call
-two =
-    step ∷ reset pack ∷ fix on ∷ step ∷ deliver 1 [] ∷ step_from pack ∷ step ∷ step_from pack ∷ step ∷ deliver 1 [] ∷ step_from pack ∷ step_from pack
-    ∷ update Matching.reset header (record { lat = pos 5000; lon = pos 5000 }) Heading.Nothing ∷ step ∷ step
-    ∷ fix off ∷ step ∷ fix far ∷ on_cache Cached.clear ∷ step ∷ step_from pack ∷ step_from pack ∷ []
-
-abbrev pub told : List Event
-told = Story.reset pack ∷ Story.fixed on ∷ Story.matched ∷ Story.fixed off ∷ Story.cleared ∷ Story.fixed far ∷ []
+use Rattle.direct_witness.specs.Witness.{pack, horizon, begin}
+use Rattle.direct_witness.proofs.Witness.{lists, parsed, no_failure}
+use Rattle.direct_stories.specs.Stories.{Stories, one, two, told}
 
 unfoldable all : Unit {0}
 unfolding lists Caches.cleared Caches.lent_ok CacheCalls.clear Matching.update Matchers.call_ok Settle.missed Publish.without_match Followers.reset Engines.forgotten Work.off_map Calls.reset
 all = tt
 
-pub story-one : story one begin ≡ told
+pub story_one : story one begin ≡ told
 unfolding all Story.events Story.story
-story-one = refl
+story_one = refl
 
-pub story-two : story two begin ≡ told
+pub story_two : story two begin ≡ told
 unfolding all Story.events Story.story
-story-two = refl
+story_two = refl
 
 pub ends_one : is_match (shown (after one begin) step) ≡ true
 unfolding all Story.after
@@ -96,5 +71,19 @@ fair_two = (
 
 pub same_match : matcher_of (shown (after two begin) step) ≡ matcher_of (shown (after one begin) step)
 same_match =
-    (all_stories 1 (omega arith) horizon pack (replicate 8192 0) (replicate 8192 0) one two step fair_one fair_two (story-one ∙ sym story-two)
+    (all_stories 1 (omega arith) horizon pack (replicate 8192 0) (replicate 8192 0) one two step fair_one fair_two (story_one ∙ sym story_two)
     ).matches ends_one ends_two
+
+-- ---- all of it
+
+pub stories : Stories
+stories = record {
+  story_one = story_one;
+  story_two = story_two;
+  ends_one = ends_one;
+  ends_two = ends_two;
+  none_found = none_found;
+  fair_one = fair_one;
+  fair_two = fair_two;
+  same_match = same_match;
+}

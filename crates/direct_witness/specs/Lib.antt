@@ -1,0 +1,2 @@
+-- The list of calls, and what is shown of it.
+pub mod Witness
