@@ -1,4 +1,4 @@
-/* The functions of libterrain.a, which `rt staticlib terrain` writes to target/staticlib.
+/* The functions of libterrain.a, which `.ci/archive` writes to target/staticlib.
  * A slice is a pointer and a count of its elements; an empty one may have any pointer that is not null. What is lent to be written must not overlap anything else that is lent.
  * Every function is total: each bit pattern has an answer. None allocates, keeps a state or stops the program.
  * No call keeps a pointer. Words and numbers of 32 bits are aligned to 4 bytes, heights and numbers of 16 bits to 2, as C aligns a uint32_t and an int16_t, and to no more; bytes (arena, delivery, pack) may lie anywhere. The archive is for x86-64 Linux, and of the C library it calls memcpy and memset alone. On the drive

@@ -1,4 +1,4 @@
-//! Finds libterrain.a: in the folder that TERRAIN_LIB_DIR names, or where `rt staticlib terrain` writes it.
+//! Finds libterrain.a: in the folder that TERRAIN_LIB_DIR names, or where `.ci/archive` writes it.
 use std::{env, path::PathBuf};
 
 fn main() {

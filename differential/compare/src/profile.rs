@@ -69,14 +69,14 @@ pub fn print(file: Option<&str>) -> Vec<Tally> {
 /// What a program of the repository writes for an input. One that ends before it has read all of it
 /// is no failure.
 pub fn ran(program: &str, words: &[&str], input: &[u8]) -> Output {
-    let path = format!("{ROOT}/target/bin/{program}");
+    let path = format!("{ROOT}/crates/{program}/out/{program}");
     let mut child = Command::new(&path)
         .args(words)
         .stdin(Stdio::piped())
         .stdout(Stdio::piped())
         .stderr(Stdio::piped())
         .spawn()
-        .unwrap_or_else(|why| panic!("{path}: {why} (rt check {program} builds it)"));
+        .unwrap_or_else(|why| panic!("{path}: {why} (rt run in crates/{program} builds it)"));
     let _ = child.stdin.take().expect("piped").write_all(input);
     child.wait_with_output().expect("the program ends")
 }
