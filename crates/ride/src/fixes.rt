@@ -8,7 +8,7 @@ const MOST: u64 = 100000000000000000;
 const FIGURE: u64 = 2147483647;
 
 // A fix and where the next line begins; the end of the text; a line that is no fix.
-#[derive(Drop)]
+#[derive(Clone, Copy)]
 pub enum Line {
     Fix(Fix, usize),
     End,
@@ -16,7 +16,7 @@ pub enum Line {
 }
 
 // A number and where the text goes on behind it; there is none where `is` is false.
-#[derive(Drop)]
+#[derive(Clone, Copy)]
 pub struct Number {
     pub is: bool,
     pub value: u64,
@@ -24,7 +24,7 @@ pub struct Number {
 }
 
 // The same with a sign.
-#[derive(Drop)]
+#[derive(Clone, Copy)]
 pub struct Figure {
     pub is: bool,
     pub value: i32,
