@@ -121,7 +121,7 @@ fn back_part(from: f32, to: f32, distance: f32) -> f32
 }
 
 fn point_at(lats: &[i32; 16], lons: &[i32; 16], i: usize) -> Point
-    ensures { result ≡ Incoming.point_at (record { lats = lats.entry.now; lons = lons.now; distances = []; len = 0 }) i }
+    ensures { result ≡ Incoming.point_at (record { lats = lats.now; lons = lons.now; distances = []; len = 0 }) i }
 {
     sixteen(*lats);
     sixteen(*lons);
@@ -152,7 +152,7 @@ fn back_of(
     len: usize,
     distance: f32,
 ) -> Point
-    ensures { result ≡ Incoming.back_of (record { lats = lats.entry.now; lons = lons.now; distances = distances.now; len = len }) distance }
+    ensures { result ≡ Incoming.back_of (record { lats = lats.now; lons = lons.now; distances = distances.now; len = len }) distance }
 {
     match back_at(distances, len, distance) {
         Found::Nothing => point_at(lats, lons, 0),
@@ -181,7 +181,7 @@ pub(crate) fn incoming(
     lon_um: u32,
     approach: f32,
 ) -> f32
-    ensures { result ≡ Incoming.incoming (record { lats = lats.entry.now; lons = lons.now; distances = distances.now; len = len }) here distance lon_um approach }
+    ensures { result ≡ Incoming.incoming (record { lats = lats.now; lons = lons.now; distances = distances.now; len = len }) here distance lon_um approach }
 {
     let back = back_of(lats, lons, distances, len, distance);
     let east = crate::spots::east(here.lon, back.lon, lon_um);
