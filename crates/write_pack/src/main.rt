@@ -1,4 +1,4 @@
-// Writes a pack: `write_pack <TEXT >PACK`. The text has one record a line: the grid, then tiles with their nodes, edges and vertices (README, "Write a pack").
+// Writes a pack: `write_pack <TEXT >PACK`. The text has one record a line: the grid, then tiles with their nodes, edges and vertices (README, "To write a pack").
 // What can't be read or is refused is told on standard error with its line, and then nothing is written to standard output.
 #![tactic(auto)]
 
