@@ -1,6 +1,6 @@
 -- The steps of the arc tangent: the square of a ratio is a ratio, the series gives the value, and that is at most 45 degrees.
-use Rattle.std.proofs.Common.{◌≡◌, ℕ, ◌*◌, ◌/◌, ◌^◌, ◌<◌, ◌≤◌, min, sym, ap, ◌∙◌, le_of_lt, mul-le-mul, arith}
-use native.Mathlib.Nat.{min-le_right, min-eq_left, min-eq_right}
+use Rattle.std.proofs.Common.{◌≡◌, ℕ, ◌*◌, ◌/◌, ◌^◌, ◌≤◌, min, ap, mul-le-mul, arith}
+use native.Mathlib.Nat.{min-le_right}
 use Rattle.angle.specs.Bearing.{coefficients, series, arc}
 
 pub arc_most : (q : ℕ) → arc q ≤ 193273528320
@@ -14,11 +14,6 @@ square_most q h = mul-le-mul {n₁ = q} {m₁ = q} {n₂ = 2147483648} {m₂ = 2
 pub square_ratio : (q : ℕ) → q ≤ 2147483648 → q * q / 2147483648 ≤ 2147483648
 square_ratio q h = omega (arith, square_most q h)
 
-module _ (q p : ℕ) (sum : p ≡ series (q * q / 2 ^ 31) coefficients) where
-  pub arc_below : q * p / 33554432 < 193273528320 → q * p / 33554432 ≡ arc q
-  unfolding arc
-  arc_below h = sym (min-eq_left (le_of_lt h)) ∙ ap (λ (x : ℕ). min (q * x / 2 ^ 25) (45 * 2 ^ 32)) sum
-
-  pub arc_full : 193273528320 ≤ q * p / 33554432 → 193273528320 ≡ arc q
-  unfolding arc
-  arc_full h = sym (min-eq_right h) ∙ ap (λ (x : ℕ). min (q * x / 2 ^ 25) (45 * 2 ^ 32)) sum
+pub arc_is : (q p : ℕ) → p ≡ series (q * q / 2 ^ 31) coefficients → min (q * p / 33554432) 193273528320 ≡ arc q
+unfolding arc
+arc_is q p sum = ap (λ (x : ℕ). min (q * x / 2 ^ 25) (45 * 2 ^ 32)) sum

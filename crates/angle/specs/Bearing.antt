@@ -1,11 +1,11 @@
 -- The bearing of a vector, as docs/ANGLES.md states its steps: document 01, `geo::bearing`, degrees clockwise from north.
 -- It is worked out in whole numbers, from the vector's magnitudes to an angle in 2 ^ -32 degree, and rounded to a single float once.
+use Rattle.std.specs.Prelude.{Result, Ok, Err}
+use Rattle.refusal.specs.declared.Refusal.{Refusal}
 use Rattle.std.specs.Prelude.{ℕ, ◌-◌, ◌*◌, ◌/◌, ◌^◌, min, false, cond, ◌&&◌, List, [], ◌∷◌, pos, nat_le, Float}
 use Rattle.std.specs.Float.{nan, inf, fin, binary32}
 use Rattle.std.specs.Float.Ieee.{up, down, lt, eq, round, of_int}
 use Rattle.num.specs.Order.{is_finite, is_sign_negative}
-use Rattle.angle.specs.declared.Degrees.{Degrees}
-use Rattle.angle.specs.declared.Degrees.TheVariants.{At, Refused}
 
 abbrev pub zero : Float
 zero = fin false 0 (pos 0)
@@ -62,5 +62,5 @@ unfoldable pub degrees : Float → Float → Float
 degrees east north = cond (eq east zero) (cond (is_sign_negative north) (of_int binary32 (pos 180)) east) (round binary32 false (angle east north) degree)
 
 -- a figure that is not finite is refused with 8
-unfoldable pub bearing : Float → Float → Degrees
-bearing east north = cond (is_finite east && is_finite north) (At (degrees east north)) (Refused 8)
+unfoldable pub bearing : Float → Float → Result Float Refusal
+bearing east north = cond (is_finite east && is_finite north) (Ok (degrees east north)) (Err Refusal.OutOfRange)

@@ -3,5 +3,3 @@ pub mod Bearing
 pub mod Eighths
 pub mod Cosine
 pub mod Significand
--- The number of each answer.
-pub mod Numbers

@@ -5,10 +5,10 @@ ghost use Rattle.num.specs.Order.{is_finite};
 ghost use Rattle.angle.specs.Bearing as Bearing;
 ghost use Rattle.angle.specs.Significand.{IsSignificand};
 
-use crate::Degrees;
+use refusal::Refusal;
 
 // A magnitude, digits * 2 ^ shift of the smallest single float.
-#[derive(Drop)]
+#[derive(Clone, Copy, PartialEq, Eq, Debug)]
 pub struct Scaled {
     pub digits: u64,
     pub shift: u64,
@@ -22,14 +22,15 @@ fn significand(b: u32) -> Scaled
     let field = (b / 8388608) as u64;
     let low = (b % 8388608) as u64;
     if field == 0 {
-        return Scaled {
+        Scaled {
             digits: low,
             shift: 0,
-        };
-    }
-    Scaled {
-        digits: 8388608 + low,
-        shift: field - 1,
+        }
+    } else {
+        Scaled {
+            digits: 8388608 + low,
+            shift: field - 1,
+        }
     }
 }
 
@@ -42,10 +43,7 @@ fn ratio(lo: u32, hi: u32) -> u64
     let b = significand(hi);
     let whole = a.digits * 2147483648 / b.digits;
     let shift = b.shift - a.shift;
-    if 63 < shift {
-        return 0;
-    }
-    whole >> shift
+    if 63 < shift { 0 } else { whole >> shift }
 }
 
 // c - s * p, s in 2 ^ -31, the product cut.
@@ -71,11 +69,7 @@ fn arc(q: u64) -> u64
     let p2 = term(768869740, s, p3);
     let p1 = term(1281678797, s, p2);
     let p0 = term(3845054597, s, p1);
-    let a = q * p0 / 33554432;
-    if a < 193273528320 {
-        return a;
-    }
-    193273528320
+    (q * p0 / 33554432).min(193273528320)
 }
 
 // The angle from north to east of a vector whose parts are not negative and not both zero, by their patterns.
@@ -84,29 +78,24 @@ fn quarter(east: u32, north: u32) -> u64
     ensures { (result ≡ Bearing.quarter (Bearing.magnitude (from_bits binary32 east)) (Bearing.magnitude (from_bits binary32 north))) × (result ≤ 386547056640) }
 {
     if east <= north {
-        return arc(ratio(east, north));
+        arc(ratio(east, north))
+    } else {
+        386547056640 - arc(ratio(north, east))
     }
-    386547056640 - arc(ratio(north, east))
 }
 
 fn southern(north: f32, a: u64) -> u64
     requires { a ≤ 386547056640 }
     ensures { (result ≡ Bearing.southern north a) × (result ≤ 773094113280) }
 {
-    if north < 0.0 {
-        return 773094113280 - a;
-    }
-    a
+    if north < 0.0 { 773094113280 - a } else { a }
 }
 
 fn western(east: f32, a: u64) -> u64
     requires { a ≤ 773094113280 }
     ensures { result ≡ Bearing.western east a }
 {
-    if east < 0.0 {
-        return 1546188226560 - a;
-    }
-    a
+    if east < 0.0 { 1546188226560 - a } else { a }
 }
 
 // The bearing of a finite vector.
@@ -129,14 +118,13 @@ fn degrees(east: f32, north: f32) -> f32
 }
 
 // The bearing of a vector. A figure that is not finite is 8.
-pub fn bearing(east: f32, north: f32) -> Degrees
+#[tactic(auto, unfolding(crate::specs::Bearing::bearing))]
+pub fn bearing(east: f32, north: f32) -> Result<f32, Refusal>
     ensures { result ≡ Bearing.bearing east north }
 {
-    if !num::order::is_finite(east) {
-        return Degrees::Refused(8);
+    if num::order::is_finite(east) && num::order::is_finite(north) {
+        Ok(degrees(east, north))
+    } else {
+        Err(Refusal::OutOfRange)
     }
-    if !num::order::is_finite(north) {
-        return Degrees::Refused(8);
-    }
-    Degrees::At(degrees(east, north))
 }

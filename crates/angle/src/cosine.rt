@@ -3,6 +3,7 @@ ghost use Rattle.std.specs.Prelude.{◌≡◌};
 ghost use Rattle.angle.specs.Cosine as Cosine;
 
 // cos y near 0.
+#[tactic(auto, unfolding(crate::specs::Cosine::cos_near))]
 fn cos_near(y: f64) -> f64
     ensures { result ≡ Cosine.cos_near y }
 {
@@ -13,6 +14,7 @@ fn cos_near(y: f64) -> f64
 }
 
 // sin y near 0.
+#[tactic(auto, unfolding(crate::specs::Cosine::sin_near))]
 fn sin_near(y: f64) -> f64
     ensures { result ≡ Cosine.sin_near y }
 {
@@ -24,21 +26,17 @@ fn sin_near(y: f64) -> f64
 }
 
 // libm's cosf: by the nearest whole number of quarter turns, and what is left beyond it.
+#[tactic(auto, using(std::proofs::lemmas::Bool::Decides::nat_tests), unfolding(crate::specs::Cosine::cosine))]
 pub fn cosine(x: f32) -> f32
     ensures { result ≡ Cosine.cosine x }
 {
     let t = std::num::f32_to_f64_with_nan(num::order::fabsf(x));
     let n = num::cast::u64_of_f64(t * 0.6366197723675814 + 0.5);
     let y = std::num::nearest_u64_to_f64(n) * 1.5707963267948966 - t;
-    let quarter = n % 4;
-    if quarter == 0 {
-        return num::convert::f32_of_f64(cos_near(y));
+    match n % 4 {
+        0 => num::convert::f32_of_f64(cos_near(y)),
+        1 => num::convert::f32_of_f64(sin_near(y)),
+        2 => -num::convert::f32_of_f64(cos_near(y)),
+        _ => -num::convert::f32_of_f64(sin_near(y)),
     }
-    if quarter == 1 {
-        return num::convert::f32_of_f64(sin_near(y));
-    }
-    if quarter == 2 {
-        return -num::convert::f32_of_f64(cos_near(y));
-    }
-    -num::convert::f32_of_f64(sin_near(y))
 }

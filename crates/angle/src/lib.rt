@@ -9,21 +9,17 @@ ghost use Rattle.std.specs.Prelude.{◌≡◌};
 ghost use Rattle.angle.specs.Bearing as Bearing;
 ghost use Rattle.angle.specs.Cosine as Cosine;
 
-// Degrees clockwise from north, 0 to 360; or the number of document 01's refusal.
-#[derive(Clone, Copy)]
-pub enum Degrees {
-    At(f32),
-    Refused(u32),
-}
+use refusal::Refusal;
 
 // geo.rs: the compass bearing of (east, north). A figure that is not finite is 8.
-pub fn bearing(east: f32, north: f32) -> Degrees
+pub fn bearing(east: f32, north: f32) -> Result<f32, Refusal>
     ensures { result ≡ Bearing.bearing east north }
 {
     circle::bearing(east, north)
 }
 
 // engine.rs: micrometres per micro-degree of longitude at `lat` micro-degrees.
+#[tactic(auto, unfolding(crate::specs::Cosine::lon_scale_um))]
 pub fn lon_scale_um(lat: i32) -> u32
     ensures { result ≡ Cosine.lon_scale_um lat }
 {

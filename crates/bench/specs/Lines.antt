@@ -1,4 +1,5 @@
 -- Document 01, "Bench lines, all marked": each line as a fact about the definitions, together as one table. `proofs/Table` proves it.
+use Rattle.std.specs.Prelude.{Some, None, Ok}
 use Rattle.std.specs.Prelude.{ℕ, ◌+◌, ◌*◌, ◌≡◌, false, [], ◌∷◌, replicate, ℤ, pos, negsuc, Float}
 use Rattle.std.specs.Float.{fin, binary32}
 use Rattle.std.specs.Float.Ieee.{of_int, of_bits, to_bits}
@@ -7,13 +8,10 @@ use Rattle.num.specs.Root.{square_root}
 use Rattle.pack.specs.Grid.{key, entry}
 use Rattle.pack.specs.declared.Header.{Header}
 use Rattle.pack.specs.declared.TileKey.{TileKey}
-use Rattle.pack.specs.declared.Keyed.TheVariants.{In, Outside}
-use Rattle.pack.specs.declared.Offset.TheVariants as Offset
 use Rattle.tile.specs.Layout.{length}
 use Rattle.cache.specs.Runs.{span, empty_slot}
 use Rattle.cache.specs.Victim.{victim}
 use Rattle.cache.specs.declared.Pages.{Pages}
-use Rattle.cache.specs.declared.victim.Found.TheVariants as Found
 use Rattle.predict.specs.Twins.{no_twin, boundary_twins}
 use Rattle.engine.specs.Fixes.{from_e7}
 use Rattle.engine.specs.declared.Fix.{Fix}
@@ -66,12 +64,12 @@ pub record Lines : Type 0 where
   -- the root of 2.0, by its bits
   pub root_of_two : to_bits binary32 (square_root binary32 (of_bits binary32 0x40000000)) ≡ 0x3fb504f3
   -- the row of latitude -1, 0, 1,999 and 2,000: none, 0, 1, none
-  pub row_below : key two_rows (negsuc 0) (pos 0) ≡ Outside
-  pub row_first : key two_rows (pos 0) (pos 0) ≡ In (cell 0 0)
-  pub row_last : key two_rows (pos 1999) (pos 0) ≡ In (cell 1 0)
-  pub row_above : key two_rows (pos 2000) (pos 0) ≡ Outside
+  pub row_below : key two_rows (negsuc 0) (pos 0) ≡ Ok None
+  pub row_first : key two_rows (pos 0) (pos 0) ≡ Ok (Some (cell 0 0))
+  pub row_last : key two_rows (pos 1999) (pos 0) ≡ Ok (Some (cell 1 0))
+  pub row_above : key two_rows (pos 2000) (pos 0) ≡ Ok None
   -- the entry of row 1, column 2 with the directory at 512 and 3 columns
-  pub entry_offset : entry (grid_of 1000 2 3 512) (cell 1 2) ≡ Offset.At 552
+  pub entry_offset : entry (grid_of 1000 2 3 512) (cell 1 2) ≡ Ok 552
   -- the length for 2 nodes, 1 edge, 3 vertices
   pub tile_length : length 2 1 3 ≡ 86
   -- pages for 0, 8,192, 8,193 and 49,152 bytes
@@ -80,8 +78,8 @@ pub record Lines : Type 0 where
   pub pages_of_two : span 8193 ≡ 2
   pub pages_of_six : span 49152 ≡ 6
   -- 4 empty pages, 1 wanted and 5 wanted
-  pub one_wanted : victim four_empty 1 ≡ Found.At 0
-  pub five_wanted : victim four_empty 5 ≡ Found.Nothing
+  pub one_wanted : victim four_empty 1 ≡ Some 0
+  pub five_wanted : victim four_empty 5 ≡ None
   -- the tiles that share the point 0, 0 of a tile of size 1,000, by steps in rows and columns, and where it stands there
   pub corner_twins : boundary_twins 0 0 1000
       ≡ record { v = twin (pos 0) (negsuc 0) 1000 0 ∷ twin (negsuc 0) (pos 0) 0 1000 ∷ twin (negsuc 0) (negsuc 0) 1000 1000 ∷ replicate 5 no_twin; len = 3 }

@@ -1,10 +1,9 @@
 -- What the last chunk of a load leaves is its parts (`ended-parts`): by whether the tile passes. A fetch that is withdrawn is withdrawn once.
+use Rattle.std.specs.Prelude.{None}
 use Rattle.std.proofs.Common.{◌≡◌, ℕ, Bool, true, false, cond, List, sym, refl, ap}
 use Rattle.cache.specs.declared.Cache.{Cache}
 use Rattle.cache.specs.declared.Loading.{Loading}
-use Rattle.cache.specs.declared.MaybeLoading.TheVariants as MaybeLoading
 use Rattle.cache.specs.declared.Pending.{Pending}
-use Rattle.cache.specs.declared.Pending.TheVariants as Pending
 use Rattle.cache.specs.Endings.{ended_pages, ended_ring, ended_loads}
 use Rattle.cache.specs.Loads.{withdrawn, moved, forgot, dropped, readied, ended}
 use Rattle.cache.specs.Lookups.{passes, touched}
@@ -20,7 +19,7 @@ module _ (c : Cache) (arena : List ℕ) (l : Loading) (size : ℕ) where
   parts ok p = record {
     pages = ended_pages ok c.pages c.loading l.slot;
     missing = ended_ring ok c.missing l.key;
-    loading = MaybeLoading.Nothing;
+    loading = None;
     pending = p;
     loads = ended_loads ok c.loads;
   }

@@ -1,6 +1,7 @@
 -- A step over a lent pack is `fetch` followed by `load` (`from_steps`): what `load_from` does in one pass is what its definition says in two.
 -- The idea: by the next step; the bytes that the pack yields have the read's length, and a chunk of a load that is not refused has at least
 -- one byte, so that failure 2 answers it.
+use Rattle.std.specs.Prelude.{Option, Some, None}
 use Rattle.std.proofs.Common.{◌≡◌, ℕ, ◌+◌, ◌-◌, ◌<◌, Bool, true, false, cond, not, eqb, ltb, leb, List, [], ◌∷◌, length, drop, refl, arith, length-drop, length-take-le, ltb-true, lt-ltb, eq-eqb, leb-true}
 use Rattle.pack.specs.Grid.{in_grid, entry_of, read}
 use Rattle.pack.specs.declared.TileKey.{TileKey}
@@ -9,12 +10,8 @@ use Rattle.pack.proofs.Laws.{and_left, and_right, clause}
 use Rattle.cache.specs.Runs as Runs
 use Rattle.cache.specs.declared.Cache.{Cache}
 use Rattle.cache.specs.declared.Loading.{Loading}
-use Rattle.cache.specs.declared.MaybeLoading.{MaybeLoading}
-use Rattle.cache.specs.declared.MaybeLoading.TheVariants as MaybeLoading
 use Rattle.cache.specs.declared.look.Landing.{Landing}
-use Rattle.cache.specs.declared.look.Landing.TheVariants as Landing
 use Rattle.cache.specs.declared.next.Next.{Next}
-use Rattle.cache.specs.declared.next.Next.TheVariants as Next
 use Rattle.cache.specs.Keys.{same_key, holds}
 use Rattle.cache.specs.Lookups.{lands_on, next_read, next_at, next_step, passes, len_at}
 use Rattle.cache.specs.State.{tile_loads, loads_ok, state_ok, cache_ok, runs_ok, ring_ok, load_ok, pending_ok}
@@ -24,34 +21,34 @@ use Rattle.cache.specs.Calls.{fetch, load, request_load, load_from}
 -- ---- the load of the next chunk
 
 module _ (key : TileKey) (l : Loading) where
-  read_load : (m : MaybeLoading) → next_read m key ≡ Next.Chunk l → m ≡ MaybeLoading.Tile l
-  read_load MaybeLoading.Nothing e = let z : ◌≡◌ {A = ℕ} 0 1 = cc in absurd (omega arith)
-  read_load (MaybeLoading.Tile k) e = by (same_key k.key key) e
+  read_load : (m : Option Loading) → next_read m key ≡ Next.Chunk l → m ≡ Some l
+  read_load None e = let z : ◌≡◌ {A = ℕ} 0 1 = cc in absurd (omega arith)
+  read_load (Some k) e = by (same_key k.key key) e
     where
-      by : (t : Bool) → cond t (Next.Chunk k) Next.Entry ≡ Next.Chunk l → MaybeLoading.Tile k ≡ MaybeLoading.Tile l
+      by : (t : Bool) → cond t (Next.Chunk k) Next.Entry ≡ Next.Chunk l → Some k ≡ Some l
       by true e = cc
       by false e = let z : ◌≡◌ {A = ℕ} 0 1 = cc in absurd (omega arith)
 
-  at_load : (x : Landing) (c : Cache) → next_at x c key ≡ Next.Chunk l → c.loading ≡ MaybeLoading.Tile l
+  at_load : (x : Landing) (c : Cache) → next_at x c key ≡ Next.Chunk l → c.loading ≡ Some l
   at_load Landing.Missing c e = let z : ◌≡◌ {A = ℕ} 0 1 = cc in absurd (omega arith)
   at_load (Landing.At i) c e = let z : ◌≡◌ {A = ℕ} 0 1 = cc in absurd (omega arith)
   at_load Landing.Nothing c e = by (eqb c.pages.count 0) e
     where
-      by : (t : Bool) → cond t Next.NoPages (next_read c.loading key) ≡ Next.Chunk l → c.loading ≡ MaybeLoading.Tile l
+      by : (t : Bool) → cond t Next.NoPages (next_read c.loading key) ≡ Next.Chunk l → c.loading ≡ Some l
       by true e = let z : ◌≡◌ {A = ℕ} 0 1 = cc in absurd (omega arith)
       by false e = read_load c.loading e
 
   -- the next step towards a key is a chunk only of the load under way
-  pub next_chunk : (c : Cache) → next_step c key ≡ Next.Chunk l → c.loading ≡ MaybeLoading.Tile l
+  pub next_chunk : (c : Cache) → next_step c key ≡ Next.Chunk l → c.loading ≡ Some l
   unfolding next_step
   next_chunk c e = at_load (lands_on c key) c e
 
 -- a load that number 12 does not name has bytes to come
-pub bytes_left : (c : Cache) (l : Loading) → state_ok c ≡ true → c.loading ≡ MaybeLoading.Tile l → l.done < l.len
+pub bytes_left : (c : Cache) (l : Loading) → state_ok c ≡ true → c.loading ≡ Some l → l.done < l.len
 unfolding state_ok tile_loads
 bytes_left c l ok e =
     let s = Runs.slot_at c.pages.slots l.slot in
-    let loads : loads_ok c.pages (MaybeLoading.Tile l) ≡ true = rw e at (clause 2 (runs_ok c ∷ ring_ok c ∷ load_ok c ∷ pending_ok c ∷ []) ok) in
+    let loads : loads_ok c.pages (Some l) ≡ true = rw e at (clause 2 (runs_ok c ∷ ring_ok c ∷ load_ok c ∷ pending_ok c ∷ []) ok) in
     let keyed = and_right (Runs.is_run (Runs.kind_of s)) _ loads in
     let long = and_right (holds s.key l.key) _ keyed in
     let unready = and_right (eqb s.len l.len) _ long in

@@ -2,15 +2,15 @@
 -- `touched_next`), so that all lookups of one call agree, in whatever order they come (`looked-look`). What `get` answers is the look in
 -- pages (`got-ready`, `got-missing`), and the late check of what the lookup landed on (`checked-landed`). The idea: `touched` has the record
 -- outside, so that what a lookup reads is the old by computation.
+use Rattle.refusal.specs.declared.Refusal.{Refusal}
+use Rattle.std.specs.Prelude.{Ok, Err}
 use Rattle.std.proofs.Common.{◌≡◌, ℕ, ◌+◌, ◌*◌, ◌≤◌, Bool, true, false, cond, leb, List, [], ◌∷◌, ◌++◌, length, refl, ◌∙◌, arith, leb-true}
 use Rattle.pack.specs.declared.TileKey.{TileKey}
 use Rattle.pack.proofs.Laws.{and_left, and_right}
 use Rattle.tile.specs.Parse.{accepts}
 use Rattle.cache.specs.declared.Cache.{Cache}
 use Rattle.cache.specs.declared.Lookup.{Lookup}
-use Rattle.cache.specs.declared.Lookup.TheVariants as Lookup
 use Rattle.cache.specs.declared.look.Landing.{Landing}
-use Rattle.cache.specs.declared.look.Landing.TheVariants as Landing
 use Rattle.cache.specs.Lookups.{lands_on, run_bytes, passes, len_at, touched, got_ready, got_at, got, landed_by, landed, checked, next_at, next_step}
 use Rattle.cache.specs.Keys.{ready_at}
 use Rattle.cache.specs.Direct.{Look, ready, missing, stale, look_at, look, looked, Aged}
@@ -106,22 +106,22 @@ module _ (arena : List ℕ) (size : ℕ) where
 
   -- ---- in two steps: what a lookup lands on, then its late check
 
-  ready_checked : (ok : Bool) (c : Cache) (i : ℕ) → cond ok (Lookup.Ready i (len_at c i)) (Lookup.Refused 12) ≡ (got_ready ok c i).answer
+  ready_checked : (ok : Bool) (c : Cache) (i : ℕ) → cond ok (Ok (Lookup.Ready i (len_at c i))) (Err Refusal.BadState) ≡ (got_ready ok c i).answer
   ready_checked true c i = refl
   ready_checked false c i = refl
 
-  at_checked : (l : Landing) (c : Cache) (key : TileKey) → checked (landed_by l c) arena size key ≡ (got_at l c arena size key).answer
+  at_checked : (l : Landing) (c : Cache) (key : TileKey) → checked (Ok (landed_by l c)) arena size key ≡ (got_at l c arena size key).answer
   at_checked Landing.Missing c key = refl
   at_checked Landing.Nothing c key = refl
   at_checked (Landing.At i) c key = ready_checked (passes arena i (len_at c i) key size) c i
 
-  pub checked-landed : (c : Cache) (key : TileKey) → checked (landed c key) arena size key ≡ (got c arena size key).answer
+  pub checked-landed : (c : Cache) (key : TileKey) → checked (Ok (landed c key)) arena size key ≡ (got c arena size key).answer
   unfolding landed got
   checked-landed c key = at_checked (lands_on c key) c key
 
   -- ---- what `get` answers, in bytes
 
-  ready_by : (ok : Bool) (c : Cache) (i first len : ℕ) → (got_ready ok c i).answer ≡ Lookup.Ready first len
+  ready_by : (ok : Bool) (c : Cache) (i first len : ℕ) → (got_ready ok c i).answer ≡ Ok (Lookup.Ready first len)
       → cond ok (ready (run_bytes arena i (len_at c i))) stale ≡ ready (run_bytes arena first len)
   ready_by true c i first len e =
       let a : i ≡ first = cc in
@@ -129,26 +129,26 @@ module _ (arena : List ℕ) (size : ℕ) where
       rw (b, a)
   ready_by false c i first len e = let z : ◌≡◌ {A = ℕ} 0 1 = cc in absurd (omega arith)
 
-  at_ready : (l : Landing) (c : Cache) (key : TileKey) (first len : ℕ) → (got_at l c arena size key).answer ≡ Lookup.Ready first len
+  at_ready : (l : Landing) (c : Cache) (key : TileKey) (first len : ℕ) → (got_at l c arena size key).answer ≡ Ok (Lookup.Ready first len)
       → look_at l c.pages.slots arena size key ≡ ready (run_bytes arena first len)
   at_ready Landing.Missing c key first len e = let z : ◌≡◌ {A = ℕ} 0 1 = cc in absurd (omega arith)
   at_ready Landing.Nothing c key first len e = let z : ◌≡◌ {A = ℕ} 0 1 = cc in absurd (omega arith)
   at_ready (Landing.At i) c key first len e = ready_by (passes arena i (len_at c i) key size) c i first len e
 
-  pub got-ready : (c : Cache) (key : TileKey) (first len : ℕ) → (got c arena size key).answer ≡ Lookup.Ready first len → look c arena size key ≡ ready (run_bytes arena first len)
+  pub got-ready : (c : Cache) (key : TileKey) (first len : ℕ) → (got c arena size key).answer ≡ Ok (Lookup.Ready first len) → look c arena size key ≡ ready (run_bytes arena first len)
   unfolding got look
   got-ready c key first len e = at_ready (lands_on c key) c key first len e
 
-  at_missing : (l : Landing) (c : Cache) (key : TileKey) → (got_at l c arena size key).answer ≡ Lookup.Missing → look_at l c.pages.slots arena size key ≡ missing
+  at_missing : (l : Landing) (c : Cache) (key : TileKey) → (got_at l c arena size key).answer ≡ Ok Lookup.Missing → look_at l c.pages.slots arena size key ≡ missing
   at_missing Landing.Missing c key e = refl
   at_missing Landing.Nothing c key e = let z : ◌≡◌ {A = ℕ} 0 1 = cc in absurd (omega arith)
   at_missing (Landing.At i) c key e = never (passes arena i (len_at c i) key size) e
     where
-      never : (ok : Bool) → (got_ready ok c i).answer ≡ Lookup.Missing → cond ok (ready (run_bytes arena i (len_at c i))) stale ≡ missing
+      never : (ok : Bool) → (got_ready ok c i).answer ≡ Ok Lookup.Missing → cond ok (ready (run_bytes arena i (len_at c i))) stale ≡ missing
       never true e = let z : ◌≡◌ {A = ℕ} 0 1 = cc in absurd (omega arith)
       never false e = let z : ◌≡◌ {A = ℕ} 0 1 = cc in absurd (omega arith)
 
-  pub got-missing : (c : Cache) (key : TileKey) → (got c arena size key).answer ≡ Lookup.Missing → look c arena size key ≡ missing
+  pub got-missing : (c : Cache) (key : TileKey) → (got c arena size key).answer ≡ Ok Lookup.Missing → look c arena size key ≡ missing
   unfolding got look
   got-missing c key e = at_missing (lands_on c key) c key e
 

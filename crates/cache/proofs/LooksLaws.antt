@@ -1,5 +1,6 @@
 -- The numbers of the lookups of one call: the turns of the loops that take them out of the cache, that put the ages back and that look for a
 -- key among them; what stands at each place once they are taken, and once a run is marked; and that the run found last is on a page.
+use Rattle.std.specs.Prelude.{Option, Some, None}
 use Rattle.std.proofs.Common.{◌≡◌, ℕ, zero, suc, ◌+◌, ◌<◌, ◌≤◌, Bool, true, false, cond, ◌&&◌, eqb, ltb, List, length, get_or, set, replicate, sym, refl, ◌∙◌, ⊎_elim, add-one, arith, length-set, get_or-set_other, get_or-set_same, ext_get_or, ltb-true, eq-eqb, ne_eqb, eqb-true}
 use borrow.Author.Tests.{eqb-false}
 use lib.ListN.{length-replicate}
@@ -9,8 +10,6 @@ use Rattle.cache.specs.declared.Cache.{Cache}
 use Rattle.cache.specs.declared.Pages.{Pages}
 use Rattle.cache.specs.declared.Ring.{Ring}
 use Rattle.cache.specs.declared.Slot.{Slot}
-use Rattle.cache.specs.declared.MaybeKey.{MaybeKey}
-use Rattle.cache.specs.declared.MaybeKey.TheVariants as MaybeKey
 use Rattle.cache.specs.Runs.{slot_at}
 use Rattle.cache.specs.Keys.{holds, key_at, is_ready}
 use Rattle.cache.specs.Lookups.{after}
@@ -60,18 +59,18 @@ eqb_one a b = by (eqb a b) refl
     by true e = eq-eqb (a + 1) (b + 1) (omega (arith, eqb-true a b e))
     by false e = ne_eqb (a + 1) (b + 1) (λ (q : a + 1 ≡ b + 1). eqb-false a b e (omega (arith, q)))
 
-pub key_tells : (m : MaybeKey) (key : TileKey) → (eqb (row_of m) (key.row + 1) && eqb (col_of m) key.col) ≡ holds m key
-key_tells MaybeKey.Nothing key = rw (ne_eqb 0 (key.row + 1) (λ (q : 0 ≡ key.row + 1). omega (arith, q)))
-key_tells (MaybeKey.Key k) key = rw (eqb_one k.row key.row)
+pub key_tells : (m : Option TileKey) (key : TileKey) → (eqb (row_of m) (key.row + 1) && eqb (col_of m) key.col) ≡ holds m key
+key_tells None key = rw (ne_eqb 0 (key.row + 1) (λ (q : 0 ≡ key.row + 1). omega (arith, q)))
+key_tells (Some k) key = rw (eqb_one k.row key.row)
 
 pub ready_tells : (s : Slot) (key : TileKey) → (eqb (row_of (ready_key s)) (key.row + 1) && eqb (col_of (ready_key s)) key.col) ≡ is_ready key s
 unfolding is_ready
 ready_tells s key = by s.ready
   where
     by : (t : Bool)
-        → (eqb (row_of (cond t s.key MaybeKey.Nothing)) (key.row + 1) && eqb (col_of (cond t s.key MaybeKey.Nothing)) key.col) ≡ (t && holds s.key key)
+        → (eqb (row_of (cond t s.key None)) (key.row + 1) && eqb (col_of (cond t s.key None)) key.col) ≡ (t && holds s.key key)
     by true = key_tells s.key key
-    by false = key_tells MaybeKey.Nothing key
+    by false = key_tells None key
 
 -- ---- what stands at each place of the pages
 

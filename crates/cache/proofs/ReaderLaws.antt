@@ -3,22 +3,19 @@
 -- answered, by whatever numbers, lies in the arena (`found_length`).
 -- The idea: row + 1 and column tell a key, so that a lookup by the numbers lands where one by the cache does; and a slot is one key's, so that a
 -- mark spares only a check that would pass, and the run found last only a search that would end there.
+use Rattle.std.specs.Prelude.{Option, Some, None, Ok}
+use Rattle.std.specs.Prelude.{is_some}
 use Rattle.std.proofs.Common.{◌≡◌, ℕ, ◌+◌, ◌*◌, ◌<◌, ◌≤◌, min, Bool, true, false, cond, ◌&&◌, eqb, ltb, leb, List, [], ◌∷◌, ◌++◌, length, get_or, drop, set, replicate, sym, refl, ap, ◌∙◌, ⊎_elim, true≢false, arith, length-drop, length-set, length-take-le, get_or-set_other, get_or-set_same, lt-ltb, eqb-true, le-leb, leb-true}
 use borrow.Author.Tests.{lt-leb}
 use lib.ListN.{length-replicate, get_or-replicate, get_or-eq_default}
 use Rattle.pack.specs.declared.TileKey.{TileKey}
 use Rattle.pack.proofs.Laws.{and_left, and_right}
 use Rattle.cache.specs.declared.Slot.{Slot}
-use Rattle.cache.specs.declared.MaybeKey.{MaybeKey}
-use Rattle.cache.specs.declared.MaybeKey.TheVariants as MaybeKey
-use Rattle.cache.specs.declared.victim.Found.{Found}
-use Rattle.cache.specs.declared.victim.Found.TheVariants as Found
 use Rattle.cache.specs.declared.Cache.{Cache}
 use Rattle.cache.specs.declared.Lookup.TheVariants as Lookup
 use Rattle.cache.specs.declared.look.Landing.{Landing}
-use Rattle.cache.specs.declared.look.Landing.TheVariants as Landing
 use Rattle.cache.specs.Runs.{empty_slot, slot_at}
-use Rattle.cache.specs.Search.{lowest, is_found}
+use Rattle.cache.specs.Search.{lowest}
 use Rattle.cache.specs.Keys as Keys
 use Rattle.cache.specs.Keys.{same_key, holds, key_at, is_ready, ready_at}
 use Rattle.cache.specs.Lookups.{landed_on, lands_on, run_bytes, passes, len_at, touched, got}
@@ -39,9 +36,9 @@ same_key_lem a b e =
     let col : a.col ≡ b.col = eqb-true a.col b.col (and_right (eqb a.row b.row) _ e) in
     λ i. record { row = row i; col = col i }
 
-one_key : (m : MaybeKey) (a b : TileKey) → holds m a ≡ true → holds m b ≡ true → a ≡ b
-one_key (MaybeKey.Key k) a b p q = sym (same_key_lem k a p) ∙ same_key_lem k b q
-one_key MaybeKey.Nothing a b p q = absurd (true≢false (sym p))
+one_key : (m : Option TileKey) (a b : TileKey) → holds m a ≡ true → holds m b ≡ true → a ≡ b
+one_key (Some k) a b p q = sym (same_key_lem k a p) ∙ same_key_lem k b q
+one_key None a b p q = absurd (true≢false (sym p))
 
 slot_key : (s : Slot) (a b : TileKey) → is_ready a s ≡ true → is_ready b s ≡ true → a ≡ b
 unfolding is_ready
@@ -53,10 +50,10 @@ unfolding lands_on ready_at
 lands_ready c key i e =
     (lowest_at (λ (j : ℕ). is_ready key (slot_at c.pages.slots j)) c.pages.count i (by (Keys.in_ring c.missing key) (ready_at c.pages key) e)).1
   where
-    by : (t : Bool) (x : Found) → cond t Landing.Missing (landed_on x) ≡ Landing.At i → x ≡ Found.At i
+    by : (t : Bool) (x : Option ℕ) → cond t Landing.Missing (landed_on x) ≡ Landing.At i → x ≡ Some i
     by true x e = let z : ◌≡◌ {A = ℕ} 0 1 = cc in absurd (omega arith)
-    by false (Found.At j) e = let z : j ≡ i = cc in ap Found.At z
-    by false Found.Nothing e = let z : ◌≡◌ {A = ℕ} 0 1 = cc in absurd (omega arith)
+    by false (Some j) e = let z : j ≡ i = cc in ap Some z
+    by false None e = let z : ◌≡◌ {A = ℕ} 0 1 = cc in absurd (omega arith)
 
 -- past the last of the 96 pages stands the empty slot, which is not ready
 module _ (c : Cache) (sized : Sized c) (key : TileKey) where
@@ -67,7 +64,7 @@ module _ (c : Cache) (sized : Sized c) (key : TileKey) where
   ready_below : (i : ℕ) → is_ready key (slot_at c.pages.slots i) ≡ true → i < 96
   ready_below i e = ⊎_elim (λ (h : i < 96). h) (λ (h : 96 ≤ i). absurd (true≢false (sym e ∙ past i h))) (below_or i 96)
 
-  found_below : (i : ℕ) → ready_at c.pages key ≡ Found.At i → i < 96
+  found_below : (i : ℕ) → ready_at c.pages key ≡ Some i → i < 96
   unfolding ready_at
   found_below i e = ready_below i (lowest_at (λ (j : ℕ). is_ready key (slot_at c.pages.slots j)) c.pages.count i e).1
 
@@ -154,7 +151,7 @@ module _ (c : Cache) (sized : Sized c) (looks : List ℕ) (read : Taken c looks)
   same_ring : in_ring looks key ≡ Keys.in_ring c.missing key
   unfolding in_ring Keys.in_ring
   same_ring =
-      ap is_found
+      ap is_some
       (lowest_same (λ (i : ℕ). is_key_at looks (480 + i) (544 + i) key) (λ (i : ℕ). holds (key_at c.missing i) key) 64
       (λ (i : ℕ) (h : i < 64). rw (read.ring_rows i h, read.ring_cols i h) (key_tells (key_at c.missing i) key)))
 
@@ -192,23 +189,23 @@ module _ (c : Cache) (sized : Sized c) (looks : List ℕ) (read : Taken c looks)
 
 -- what a lookup answers by what it lands on
 abbrev hit_at : Landing → List ℕ → List ℕ → ℕ → TileKey → Hit
-hit_at Landing.Missing looks arena size key = record { answer = Lookup.Missing; looks = looks }
-hit_at Landing.Nothing looks arena size key = record { answer = Lookup.Absent; looks = looks }
+hit_at Landing.Missing looks arena size key = record { answer = Ok Lookup.Missing; looks = looks }
+hit_at Landing.Nothing looks arena size key = record { answer = Ok Lookup.Absent; looks = looks }
 hit_at (Landing.At i) looks arena size key = hit_run (known looks arena i (get_or looks (384 + i) 0) key size) looks i
 
 module _ (c : Cache) (sized : Sized c) (looks : List ℕ) (read : Taken c looks) (arena : List ℕ) (size : ℕ) (key : TileKey) where
-  search_lands : cond (in_ring looks key) (record { answer = Lookup.Missing; looks = looks }) (hit_page looks arena size key (page_of looks key))
+  search_lands : cond (in_ring looks key) (record { answer = Ok Lookup.Missing; looks = looks }) (hit_page looks arena size key (page_of looks key))
       ≡ hit_at (lands_on c key) looks arena size key
   unfolding lands_on
   search_lands =
       rw (same_ring c sized looks read key, same_page c sized looks read key) (by (Keys.in_ring c.missing key) (ready_at c.pages key) refl)
     where
-      by : (t : Bool) (x : Found) → ready_at c.pages key ≡ x
-          → cond t (record { answer = Lookup.Missing; looks = looks }) (hit_page looks arena size key (or_past x))
+      by : (t : Bool) (x : Option ℕ) → ready_at c.pages key ≡ x
+          → cond t (record { answer = Ok Lookup.Missing; looks = looks }) (hit_page looks arena size key (or_past x))
           ≡ hit_at (cond t Landing.Missing (landed_on x)) looks arena size key
       by true x e = refl
-      by false (Found.At i) e = rw (lt-leb 96 i (found_below c sized key i e))
-      by false Found.Nothing e = refl
+      by false (Some i) e = rw (lt-leb 96 i (found_below c sized key i e))
+      by false None e = refl
 
   module _ (sound : Sound c arena size looks) where
     -- the run found last is marked: if it is the key's, the key lands on it
@@ -226,7 +223,7 @@ module _ (c : Cache) (sized : Sized c) (looks : List ℕ) (read : Taken c looks)
       where
         by : (t : Bool) → was_found looks (get_or looks 610 0) key ≡ t
             → cond t (hit_at (Landing.At (get_or looks 610 0)) looks arena size key)
-            (cond (in_ring looks key) (record { answer = Lookup.Missing; looks = looks }) (hit_page looks arena size key (page_of looks key)))
+            (cond (in_ring looks key) (record { answer = Ok Lookup.Missing; looks = looks }) (hit_page looks arena size key (page_of looks key)))
             ≡ hit_at (lands_on c key) looks arena size key
         by true e = rw (last_lands (get_or looks 610 0) e)
         by false e = search_lands
@@ -378,7 +375,7 @@ module _ (looks arena : List ℕ) (size : ℕ) (key : TileKey) where
   run_length i n h = rw (le-leb (i * 8192 + n) (length arena) h) (length-take-le n (drop (i * 8192) arena) (rw length-drop (omega (arith, h))))
 
   module _ (first len : ℕ) where
-    run_found : (i : ℕ) (ok : Bool) → known looks arena i (get_or looks (384 + i) 0) key size ≡ ok → (hit_run ok looks i).answer ≡ Lookup.Ready first len
+    run_found : (i : ℕ) (ok : Bool) → known looks arena i (get_or looks (384 + i) 0) key size ≡ ok → (hit_run ok looks i).answer ≡ Ok (Lookup.Ready first len)
         → length (bytes_of arena first len) ≡ len
     run_found i true p e =
         let f : i ≡ first = cc in
@@ -387,26 +384,26 @@ module _ (looks arena : List ℕ) (size : ℕ) (key : TileKey) where
     run_found i false p e = let z : ◌≡◌ {A = ℕ} 0 1 = cc in absurd (omega arith)
 
     page_found : (i : ℕ) (past : Bool)
-        → (cond past (record { answer = Lookup.Absent; looks = looks }) (hit_run (known looks arena i (get_or looks (384 + i) 0) key size) looks i)).answer
-        ≡ Lookup.Ready first len
+        → (cond past (record { answer = Ok Lookup.Absent; looks = looks }) (hit_run (known looks arena i (get_or looks (384 + i) 0) key size) looks i)).answer
+        ≡ Ok (Lookup.Ready first len)
         → length (bytes_of arena first len) ≡ len
     page_found i true e = let z : ◌≡◌ {A = ℕ} 0 1 = cc in absurd (omega arith)
     page_found i false e = run_found i (known looks arena i (get_or looks (384 + i) 0) key size) refl e
 
-    ring_found : (held : Bool) → (cond held (record { answer = Lookup.Missing; looks = looks }) (hit_page looks arena size key (page_of looks key))).answer
-        ≡ Lookup.Ready first len
+    ring_found : (held : Bool) → (cond held (record { answer = Ok Lookup.Missing; looks = looks }) (hit_page looks arena size key (page_of looks key))).answer
+        ≡ Ok (Lookup.Ready first len)
         → length (bytes_of arena first len) ≡ len
     ring_found true e = let z : ◌≡◌ {A = ℕ} 0 1 = cc in absurd (omega arith)
     ring_found false e = page_found (page_of looks key) (leb 96 (page_of looks key)) e
 
     last_found : (i : ℕ) (last : Bool)
         → (cond last (hit_run (known looks arena i (get_or looks (384 + i) 0) key size) looks i)
-        (cond (in_ring looks key) (record { answer = Lookup.Missing; looks = looks }) (hit_page looks arena size key (page_of looks key)))).answer
-        ≡ Lookup.Ready first len
+        (cond (in_ring looks key) (record { answer = Ok Lookup.Missing; looks = looks }) (hit_page looks arena size key (page_of looks key)))).answer
+        ≡ Ok (Lookup.Ready first len)
         → length (bytes_of arena first len) ≡ len
     last_found i true e = run_found i (known looks arena i (get_or looks (384 + i) 0) key size) refl e
     last_found i false e = ring_found (in_ring looks key) e
 
-    pub found_length : (look_up looks arena size key).answer ≡ Lookup.Ready first len → length (bytes_of arena first len) ≡ len
+    pub found_length : (look_up looks arena size key).answer ≡ Ok (Lookup.Ready first len) → length (bytes_of arena first len) ≡ len
     unfolding look_up
     found_length e = last_found (get_or looks 610 0) (was_found looks (get_or looks 610 0) key) e

@@ -2,15 +2,14 @@
 -- `sound`, `sound_ok`), and what they tell: runs lie within the count (`inside`) and apart (`apart`), and a page has a key just where a
 -- run starts (`key_is_run`), which is what the Rust asks: so a page that a lookup finds by its key starts a run, whatever else is marked ready.
 -- Before that, what a span holds, and an arena.
+use Rattle.std.specs.Prelude.{Option, Some, None}
+use Rattle.pack.specs.declared.TileKey.{TileKey}
 use Rattle.std.proofs.Common.{◌≡◌, ℕ, ◌+◌, ◌-◌, ◌*◌, ◌/◌, ◌<◌, ◌≤◌, Bool, true, false, not, ◌&&◌, ltb, leb, List, length, sym, refl, ap, ⊎_elim, true≢false, arith, ltb-true, lt-ltb, eq-eqb, eqb-true, le-leb, leb-false, leb-true}
 use borrow.Author.Tests.{lt-leb}
 use lib.ListN.{get_or-eq_default}
 use Rattle.cache.specs.declared.Slot.{Slot}
 use Rattle.cache.specs.declared.Pages.{Pages}
 use Rattle.cache.specs.declared.Part.{Part}
-use Rattle.cache.specs.declared.Part.TheVariants as Part
-use Rattle.cache.specs.declared.MaybeKey.{MaybeKey}
-use Rattle.cache.specs.declared.MaybeKey.TheVariants as MaybeKey
 use Rattle.cache.specs.Runs.{span, empty_slot, slot_at, Kind, bare, run, piece, kind_by, kind_at, end_of, is_run, is_piece, no_key, pieces_ok, run_ok, piece_ok, kind_ok, page_ok, runs_ok, RunGood, PieceGood, KindGood, PageGood, Good, Sound}
 use Rattle.cache.proofs.Below.{below_or, and_left, and_right, all_at, all_from}
 
@@ -156,7 +155,7 @@ module _ (s : List Slot) (count : ℕ) (f : Good s count) where
   pub key_is_run : (p : ℕ) → no_key (slot_at s p).key ≡ not (is_run (kind_at s p))
   key_is_run p = by (slot_at s p).part (slot_at s p).key (λ (h : ℕ) (e : kind_at s p ≡ piece h). (piece_at p h e).keyless)
     where
-      by : (a : Part) (b : MaybeKey) → ((h : ℕ) → kind_by a b ≡ piece h → no_key b ≡ true) → no_key b ≡ not (is_run (kind_by a b))
+      by : (a : Part) (b : Option TileKey) → ((h : ℕ) → kind_by a b ≡ piece h → no_key b ≡ true) → no_key b ≡ not (is_run (kind_by a b))
       by (Part.Of h) b f = f h refl
-      by Part.Head (MaybeKey.Key k) f = refl
-      by Part.Head MaybeKey.Nothing f = refl
+      by Part.Head (Some k) f = refl
+      by Part.Head None f = refl

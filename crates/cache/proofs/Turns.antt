@@ -1,4 +1,5 @@
 -- The turns of the loops that clear, evict and write runs: one page and the rest, none left, and past the last page.
+use Rattle.std.specs.Prelude.{Option, Some, None}
 use Rattle.std.proofs.Common.{◌≡◌, ℕ, zero, suc, ◌+◌, ◌-◌, ◌<◌, ◌≤◌, List, length, set, refl, ap, ◌∙◌, arith, length-set}
 use lib.ListN.{get_or-eq_default}
 use lib.Seq.{set_out}
@@ -6,16 +7,14 @@ use Rattle.pack.specs.declared.TileKey.{TileKey}
 use Rattle.cache.specs.declared.Slot.{Slot}
 use Rattle.cache.specs.declared.Pages.{Pages}
 use Rattle.cache.specs.declared.Part.TheVariants as Part
-use Rattle.cache.specs.declared.MaybeKey.{MaybeKey}
-use Rattle.cache.specs.declared.MaybeKey.TheVariants as MaybeKey
 use Rattle.cache.specs.Runs.{span, empty_slot, kind_by, kind_of}
 use Rattle.cache.specs.Evict.{head_of, clear_run, clear_at, evicted_page, evicted, piece_run, piece_slot, head_slot, with_slots, placed}
 use Rattle.cache.proofs.FillLaws.{less_one, fill-length, fill_turn, fill_none, fill_past}
 
 -- a page that points at none is its own head
-pub head_self : (p : ℕ) (m : MaybeKey) → p ≡ head_of p (kind_by Part.Head m)
-head_self p MaybeKey.Nothing = refl
-head_self p (MaybeKey.Key k) = refl
+pub head_self : (p : ℕ) (m : Option TileKey) → p ≡ head_of p (kind_by Part.Head m)
+head_self p None = refl
+head_self p (Some k) = refl
 
 -- both arrays have 96 elements
 pub record Full (g : Pages) : Type 0 where

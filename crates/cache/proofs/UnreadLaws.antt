@@ -5,17 +5,17 @@ use lib.Seq.{paste}
 use Rattle.pack.specs.Grid.{in_grid}
 use Rattle.pack.specs.declared.TileKey.{TileKey}
 use Rattle.pack.specs.declared.Header.{Header}
+use Rattle.refusal.specs.declared.Refusal.{Refusal}
 use Rattle.cache.specs.declared.Cache.{Cache}
 use Rattle.cache.specs.declared.Loading.{Loading}
 use Rattle.cache.specs.declared.next.Next.{Next}
-use Rattle.cache.specs.declared.next.Next.TheVariants as Next
 use Rattle.cache.specs.Lookups.{next_step}
 use Rattle.cache.specs.Loads.{After, told, over, refused, done, ended, chunk_len, put, chunk_step, fits, read_len, stepped, unread_step}
 use Rattle.cache.specs.Calls.{load_tested}
 
 -- the step n with failure 0 and no bytes, where it is taken
 abbrev pub tried : Cache → Next → List ℕ → Header → TileKey → After
-tried c n arena h key = cond (fits (read_len n) 0 0) (stepped c n arena h key 0 []) (over (refused c 11) arena)
+tried c n arena h key = cond (fits (read_len n) 0 0) (stepped c n arena h key 0 []) (over (refused c Refusal.NotAsked) arena)
 
 -- no bytes are written
 put_none : (arena : List ℕ) (slot come : ℕ) → put arena slot come [] ≡ arena
@@ -44,7 +44,7 @@ module _ (c : Cache) (arena : List ℕ) (h : Header) (key : TileKey) where
       by false e = refl
 
   chunk_by : (l : Loading) (t : Bool) → leb l.len l.done ≡ t
-      → tried c (Next.Chunk l) arena h key ≡ over (cond t (done (ended c arena l h.tile)) (refused c 11)) arena
+      → tried c (Next.Chunk l) arena h key ≡ over (cond t (done (ended c arena l h.tile)) (refused c Refusal.NotAsked)) arena
   unfolding chunk_step
   chunk_by l true e =
       let b : l.len ≤ l.done = leb-true l.len l.done e in

@@ -1,12 +1,11 @@
 -- The victim lies below the count, no start has an older youngest page, and none below it one as old (`victim_is`); when there is one
 -- (`victim_there`, `victim_none`). Before that the turns of a least and of a first greatest, that they are such (`least_below`,
 -- `best_first`), and that a list of ages serves in place of the pages (`victim-in`).
+use Rattle.std.specs.Prelude.{Some, None}
 use Rattle.std.proofs.Common.{◌≡◌, ℕ, zero, suc, ◌+◌, ◌-◌, ◌<◌, ◌≤◌, Bool, true, false, cond, ltb, List, length, get_or, set, refl, ap, ◌∙◌, ⊎_elim, add-one, arith, get_or-set_other, get_or-set_same, ltb-false, ltb-true, le-ltb, lt-ltb}
 use lib.ListN.{get_or-eq_default}
 use Rattle.cache.specs.declared.Pages.{Pages}
 use Rattle.cache.specs.declared.victim.Best.{Best}
-use Rattle.cache.specs.declared.victim.Found.{Found}
-use Rattle.cache.specs.declared.victim.Found.TheVariants as Found
 use Rattle.cache.specs.Runs.{empty_slot, slot_at, kind_at}
 use Rattle.cache.specs.Evict.{head_of}
 use Rattle.cache.specs.Victim.{slot_age, head_age, age, lesser, least_of, youngest, better, best_of, victim, First, Chosen, age_at, Aged, youngest_in, oldest}
@@ -72,21 +71,21 @@ module _ (f : ℕ → ℕ) where
 
 -- ---- the victim
 
-pub victim_none : (g : Pages) (pages : ℕ) → g.count < pages → victim g pages ≡ Found.Nothing
+pub victim_none : (g : Pages) (pages : ℕ) → g.count < pages → victim g pages ≡ None
 victim_none g pages h = by (ltb 96 g.count)
   where
-    by : (t : Bool) → cond t Found.Nothing (cond (ltb g.count pages) Found.Nothing (Found.At (best_of (youngest g pages) (g.count - pages)).at)) ≡ Found.Nothing
+    by : (t : Bool) → cond t None (cond (ltb g.count pages) None (Some (best_of (youngest g pages) (g.count - pages)).at)) ≡ None
     by true = refl
     by false = rw (lt-ltb g.count pages h)
 
-pub victim_there : (g : Pages) (pages : ℕ) → g.count ≤ 96 → pages ≤ g.count → victim g pages ≡ Found.At (best_of (youngest g pages) (g.count - pages)).at
+pub victim_there : (g : Pages) (pages : ℕ) → g.count ≤ 96 → pages ≤ g.count → victim g pages ≡ Some (best_of (youngest g pages) (g.count - pages)).at
 victim_there g pages k h = rw (le-ltb 96 g.count k, le-ltb g.count pages h)
 
-pub victim_is : (g : Pages) (pages s : ℕ) → victim g pages ≡ Found.At s → Chosen g pages s
+pub victim_is : (g : Pages) (pages s : ℕ) → victim g pages ≡ Some s → Chosen g pages s
 victim_is g pages s = by (ltb 96 g.count) (ltb g.count pages) refl
   where
     by : (t u : Bool) → ltb g.count pages ≡ u
-        → cond t Found.Nothing (cond u Found.Nothing (Found.At (best_of (youngest g pages) (g.count - pages)).at)) ≡ Found.At s
+        → cond t None (cond u None (Some (best_of (youngest g pages) (g.count - pages)).at)) ≡ Some s
         → Chosen g pages s
     by true u p e = let z : ◌≡◌ {A = ℕ} 0 1 = cc in absurd (omega arith)
     by false true p e = let z : ◌≡◌ {A = ℕ} 0 1 = cc in absurd (omega arith)
@@ -139,8 +138,8 @@ pub oldest_is : (g : Pages) (l : List ℕ) → Aged g l g.count → (pages : ℕ
 oldest_is g l f pages = by (ltb 96 g.count) (ltb g.count pages) refl
   where
     by : (t u : Bool) → ltb g.count pages ≡ u
-        → cond t Found.Nothing (cond u Found.Nothing (Found.At (best_of (youngest_in l pages) (g.count - pages)).at))
-        ≡ cond t Found.Nothing (cond u Found.Nothing (Found.At (best_of (youngest g pages) (g.count - pages)).at))
+        → cond t None (cond u None (Some (best_of (youngest_in l pages) (g.count - pages)).at))
+        ≡ cond t None (cond u None (Some (best_of (youngest g pages) (g.count - pages)).at))
     by true u p = refl
     by false true p = refl
     by false false p =

@@ -8,6 +8,9 @@
 --   480 + i, 544 + i      row + 1 and column of the ring's key i; row 0 where there is none
 --   608, 609              the clock; how many pages there are, at most 96
 --   610                   the page of the run that was found last
+use Rattle.refusal.specs.declared.Refusal.{Refusal}
+use Rattle.std.specs.Prelude.{Option, Some, None, Result, Ok, Err}
+use Rattle.std.specs.Prelude.{is_some}
 use Rattle.std.specs.Prelude.{ℕ, zero, suc, ◌+◌, ◌*◌, min, Bool, cond, ◌&&◌, List, [], length, replicate, ◌==◌, nat_le, nat_lt, slice_index, slice_index_or, slice_set}
 use Rattle.pack.specs.declared.TileKey.{TileKey}
 use Rattle.cache.specs.declared.Aging.{Aging}
@@ -15,30 +18,25 @@ use Rattle.cache.specs.declared.Cache.{Cache}
 use Rattle.cache.specs.declared.Pages.{Pages}
 use Rattle.cache.specs.declared.Ring.{Ring}
 use Rattle.cache.specs.declared.Slot.{Slot}
-use Rattle.cache.specs.declared.MaybeKey.{MaybeKey}
-use Rattle.cache.specs.declared.MaybeKey.TheVariants as MaybeKey
-use Rattle.cache.specs.declared.victim.Found.{Found}
-use Rattle.cache.specs.declared.victim.Found.TheVariants as Found
 use Rattle.cache.specs.declared.Lookup.{Lookup}
-use Rattle.cache.specs.declared.Lookup.TheVariants as Lookup
 use Rattle.cache.specs.Runs.{slot_at}
-use Rattle.cache.specs.Search.{lowest, is_found}
+use Rattle.cache.specs.Search.{lowest}
 use Rattle.cache.specs.Keys.{key_at}
 use Rattle.cache.specs.Lookups.{run_bytes, passes, after}
 
 -- ---- before the first lookup
 
-abbrev pub row_of : MaybeKey → ℕ
-row_of MaybeKey.Nothing = 0
-row_of (MaybeKey.Key key) = key.row + 1
+abbrev pub row_of : Option TileKey → ℕ
+row_of None = 0
+row_of (Some key) = key.row + 1
 
-abbrev pub col_of : MaybeKey → ℕ
-col_of MaybeKey.Nothing = 0
-col_of (MaybeKey.Key key) = key.col
+abbrev pub col_of : Option TileKey → ℕ
+col_of None = 0
+col_of (Some key) = key.col
 
 -- the key of the tile that is ready on a page
-abbrev pub ready_key : Slot → MaybeKey
-ready_key s = cond s.ready s.key MaybeKey.Nothing
+abbrev pub ready_key : Slot → Option TileKey
+ready_key s = cond s.ready s.key None
 
 abbrev pub page_in : List ℕ → ℕ → ℕ → Slot → List ℕ
 page_in looks i age s =
@@ -49,7 +47,7 @@ unfoldable pub pages_in : List ℕ → Pages → ℕ → List ℕ
 pages_in looks g zero = looks
 pages_in looks g (suc n) = page_in (pages_in looks g n) n (slice_index g.used n) (slot_at g.slots n)
 
-abbrev pub place_in : List ℕ → ℕ → MaybeKey → List ℕ
+abbrev pub place_in : List ℕ → ℕ → Option TileKey → List ℕ
 place_in looks i k = slice_set (slice_set looks (480 + i) (row_of k)) (544 + i) (col_of k)
 
 -- the first n places of the ring
@@ -95,11 +93,11 @@ abbrev pub is_key_at : List ℕ → ℕ → ℕ → TileKey → Bool
 is_key_at looks row col key = slice_index looks row == key.row + 1 && slice_index looks col == key.col
 
 unfoldable pub in_ring : List ℕ → TileKey → Bool
-in_ring looks key = is_found (lowest (λ (i : ℕ). is_key_at looks (480 + i) (544 + i) key) 64)
+in_ring looks key = is_some (lowest (λ (i : ℕ). is_key_at looks (480 + i) (544 + i) key) 64)
 
-abbrev pub or_past : Found → ℕ
-or_past (Found.At i) = i
-or_past Found.Nothing = 96
+abbrev pub or_past : Option ℕ → ℕ
+or_past (Some i) = i
+or_past None = 96
 
 -- the lowest page on which the tile is ready; 96 where there is none
 unfoldable pub page_of : List ℕ → TileKey → ℕ
@@ -119,19 +117,19 @@ marked looks i = let age = after (slice_index looks 608) in slice_set (slice_set
 
 -- an answer, and the numbers after it
 pub record Hit : Type 0 where
-  pub answer : Lookup
+  pub answer : Result Lookup Refusal
   pub looks : List ℕ
 
 abbrev pub hit_run : Bool → List ℕ → ℕ → Hit
 hit_run ok looks i =
-    cond ok (record { answer = Lookup.Ready i (slice_index looks (384 + i)); looks = marked looks i }) (record { answer = Lookup.Refused 12; looks = looks })
+    cond ok (record { answer = Ok (Lookup.Ready i (slice_index looks (384 + i))); looks = marked looks i }) (record { answer = Err Refusal.BadState; looks = looks })
 
 -- on the run from page i on
 abbrev pub hit_here : List ℕ → List ℕ → ℕ → TileKey → ℕ → Hit
 hit_here looks arena size key i = hit_run (known looks arena i (slice_index looks (384 + i)) key size) looks i
 
 abbrev pub hit_page : List ℕ → List ℕ → ℕ → TileKey → ℕ → Hit
-hit_page looks arena size key i = cond (nat_le 96 i) (record { answer = Lookup.Absent; looks = looks }) (hit_here looks arena size key i)
+hit_page looks arena size key i = cond (nat_le 96 i) (record { answer = Ok Lookup.Absent; looks = looks }) (hit_here looks arena size key i)
 
 -- the run from page i on is the key's, and was found before: a run that is marked was found, so that its key is not in the ring and is ready on no
 -- lower page
@@ -143,7 +141,7 @@ unfoldable pub look_up : List ℕ → List ℕ → ℕ → TileKey → Hit
 look_up looks arena size key =
     let last = slice_index_or looks 610 0 in
     cond (was_found looks last key) (hit_here looks arena size key last)
-    (cond (in_ring looks key) (record { answer = Lookup.Missing; looks = looks }) (hit_page looks arena size key (page_of looks key)))
+    (cond (in_ring looks key) (record { answer = Ok Lookup.Missing; looks = looks }) (hit_page looks arena size key (page_of looks key)))
 
 -- the bytes of a run; none where it would pass the arena's end, which a run that a lookup answered never does
 unfoldable pub bytes_of : List ℕ → ℕ → ℕ → List ℕ

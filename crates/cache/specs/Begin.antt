@@ -1,10 +1,9 @@
 -- The beginning of a load: `cache.rs`, load, from the tile's length on: its span, the victim, the victim's runs evicted, the new run
 -- placed over it, not ready. With no victim nothing changes. That the tile is within MAX_TILE_BYTES is tested before.
+use Rattle.std.specs.Prelude.{Option, Some, None}
 use Rattle.std.specs.Prelude.{ℕ}
 use Rattle.pack.specs.declared.TileKey.{TileKey}
 use Rattle.cache.specs.declared.Pages.{Pages}
-use Rattle.cache.specs.declared.victim.Found.{Found}
-use Rattle.cache.specs.declared.victim.Found.TheVariants as Found
 use Rattle.cache.specs.declared.begin.Begun.{Begun}
 use Rattle.cache.specs.Runs.{span}
 use Rattle.cache.specs.Evict.{evicted, placed}
@@ -14,9 +13,9 @@ use Rattle.cache.specs.Victim.{victim}
 abbrev pub replaced : Pages → ℕ → TileKey → ℕ → Pages
 replaced g s key len = placed (evicted (span len) s g) s key len
 
-abbrev pub begun_at : Pages → TileKey → ℕ → Found → Begun
-begun_at g key len Found.Nothing = record { pages = g; at = Found.Nothing }
-begun_at g key len (Found.At s) = record { pages = replaced g s key len; at = Found.At s }
+abbrev pub begun_at : Pages → TileKey → ℕ → Option ℕ → Begun
+begun_at g key len None = record { pages = g; at = None }
+begun_at g key len (Some s) = record { pages = replaced g s key len; at = Some s }
 
 abbrev pub begun : Pages → TileKey → ℕ → Begun
 begun g key len = begun_at g key len (victim g (span len))

@@ -1,17 +1,16 @@
 -- Looking up directly in the pack: document 01, "Looking up directly in the pack", in its order, knowing no cache; and a lookup of the
 -- cache in the same terms, bytes and no page. A pack is its bytes; the header is the pack's, parsed.
+use Rattle.std.specs.Prelude.{Option, Some, None, Result, Ok, Err}
+use Rattle.refusal.specs.declared.Refusal.{Refusal}
 use Rattle.std.specs.Prelude.{◌≡◌, ℕ, ◌+◌, Bool, true, false, cond, ◌||◌, List, [], ◌∷◌, length, take, drop, ◌==◌, nat_le, nat_lt}
 use Rattle.pack.specs.Grid.{in_grid, entry_of, locate_of}
 use Rattle.pack.specs.declared.TileKey.{TileKey}
 use Rattle.pack.specs.declared.Header.{Header}
-use Rattle.pack.specs.declared.Located.{Located}
-use Rattle.pack.specs.declared.Located.TheVariants as Located
 use Rattle.cache.specs.declared.Slot.{Slot}
 use Rattle.cache.specs.Runs.{span, slot_at}
 use Rattle.tile.specs.Parse.{accepts}
 use Rattle.cache.specs.declared.Cache.{Cache}
 use Rattle.cache.specs.declared.look.Landing.{Landing}
-use Rattle.cache.specs.declared.look.Landing.TheVariants as Landing
 use Rattle.cache.specs.Lookups.{lands_on, run_bytes, passes, got}
 
 -- a lookup's result: the tile's bytes; no tile there; not loaded, or no answer; a ready run that no longer passes (the late 12)
@@ -31,10 +30,10 @@ direct_tile P h key offset len =
     absent
 
 -- by the entry: length 0 is missing; a bad entry has no answer; a tile too large for the cache or for n pages is missing
-abbrev pub direct_at : Located → List ℕ → Header → ℕ → TileKey → Look
-direct_at Located.NoTile P h n key = missing
-direct_at (Located.Refused number) P h n key = absent
-direct_at (Located.Tile offset len) P h n key = cond (nat_lt 49152 len || nat_lt n (span len)) missing (direct_tile P h key offset len)
+abbrev pub direct_at : Result (Option (ℕ × ℕ)) Refusal → List ℕ → Header → ℕ → TileKey → Look
+direct_at (Ok None) P h n key = missing
+direct_at (Err e) P h n key = absent
+direct_at (Ok (Some (offset, len))) P h n key = cond (nat_lt 49152 len || nat_lt n (span len)) missing (direct_tile P h key offset len)
 
 -- the entry, where the pack has it
 abbrev pub direct_entry : List ℕ → Header → ℕ → TileKey → Look

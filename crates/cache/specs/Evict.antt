@@ -2,12 +2,12 @@
 -- far as they lie below the count), and in load the writing of a new run. A page past the last changes nothing: `set` past the end of a
 -- list is the list. On well-formed runs the pages of a new run were emptied before, so that to point them at the head, as the Rust does,
 -- and to write them whole is the same.
-use Rattle.std.specs.Prelude.{◌≡◌, ℕ, zero, suc, ◌+◌, ◌-◌, false, cond, List, set, nat_lt, slice_index, slice_index_or, slice_set}
+use Rattle.std.specs.Prelude.{Some, None}
+use Rattle.std.specs.Prelude.{◌≡◌, ℕ, zero, suc, ◌+◌, ◌-◌, false, cond, List, nat_lt, slice_index, slice_index_or, slice_set}
 use Rattle.pack.specs.declared.TileKey.{TileKey}
 use Rattle.cache.specs.declared.Slot.{Slot}
 use Rattle.cache.specs.declared.Pages.{Pages}
 use Rattle.cache.specs.declared.Part.TheVariants as Part
-use Rattle.cache.specs.declared.MaybeKey.TheVariants as MaybeKey
 use Rattle.cache.specs.Runs.{span, empty_slot, slot_at, Kind, bare, run, piece, kind_of, kind_at, is_run}
 
 -- n elements of a list from `at` on set to v
@@ -57,11 +57,11 @@ pub record Same (g d : Pages) (q : ℕ) : Type 0 where
 
 -- a later page of the run at h
 abbrev pub piece_slot : ℕ → Slot
-piece_slot h = record { key = MaybeKey.Nothing; len = 0; ready = false; part = Part.Of h }
+piece_slot h = record { key = None; len = 0; ready = false; part = Part.Of h }
 
 -- the first page of a tile of len bytes that is not loaded yet
 abbrev pub head_slot : TileKey → ℕ → Slot
-head_slot key len = record { key = MaybeKey.Key key; len = len; ready = false; part = Part.Head }
+head_slot key len = record { key = Some key; len = len; ready = false; part = Part.Head }
 
 abbrev pub with_slots : List Slot → Pages → Pages
 with_slots v g = record { slots = v; used = g.used; count = g.count; clock = g.clock }

@@ -1,34 +1,25 @@
 -- One step of a load: `cache.rs`, `load`, with its read answered. `next` says which read it is: the tile's directory entry, or the next
 -- chunk of the load that is under way. On a failure the load and its run are dropped and the arena is untouched; a bad entry fails with 4.
 -- A chunk writes its own bytes of the arena and no others.
+use Rattle.std.specs.Prelude.{Option, Some, None, Result, Ok, Err}
+use Rattle.refusal.specs.declared.Refusal.{Refusal}
 use Rattle.std.specs.Prelude.{ℕ, ◌+◌, ◌-◌, ◌*◌, Bool, true, false, cond, List, [], ◌∷◌, length, take, drop, ◌==◌, nat_le, nat_lt, slice_set}
 use Rattle.std.proofs.Math.Seq.{paste}
 use Rattle.pack.specs.Bytes.{byte_at}
 use Rattle.pack.specs.Grid.{in_grid, entry_of, locate_of}
 use Rattle.pack.specs.declared.TileKey.{TileKey}
 use Rattle.pack.specs.declared.Header.{Header}
-use Rattle.pack.specs.declared.Located.{Located}
-use Rattle.pack.specs.declared.Located.TheVariants as Located
 use Rattle.cache.specs.declared.Slot.{Slot}
 use Rattle.cache.specs.declared.Pages.{Pages}
-use Rattle.cache.specs.declared.victim.Found.{Found}
-use Rattle.cache.specs.declared.victim.Found.TheVariants as Found
 use Rattle.cache.specs.Runs.{slot_at}
 use Rattle.cache.specs.Evict.{evicted, with_slots}
 use Rattle.cache.specs.Begin.{begun}
 use Rattle.cache.specs.declared.Cache.{Cache}
 use Rattle.cache.specs.declared.Loading.{Loading}
-use Rattle.cache.specs.declared.MaybeLoading.{MaybeLoading}
-use Rattle.cache.specs.declared.MaybeLoading.TheVariants as MaybeLoading
 use Rattle.cache.specs.declared.Pending.{Pending}
-use Rattle.cache.specs.declared.Pending.TheVariants as Pending
-use Rattle.cache.specs.declared.Request.{Request}
-use Rattle.cache.specs.declared.Request.TheVariants as Request
 use Rattle.cache.specs.declared.Progress.{Progress}
-use Rattle.cache.specs.declared.Progress.TheVariants as Progress
 use Rattle.cache.specs.declared.Loaded.{Loaded}
 use Rattle.cache.specs.declared.next.Next.{Next}
-use Rattle.cache.specs.declared.next.Next.TheVariants as Next
 use Rattle.cache.specs.Keys.{forgotten}
 use Rattle.cache.specs.Lookups.{passes, len_at, after, touched}
 
@@ -43,12 +34,12 @@ abbrev pub chunk_offset : Loading → ℕ
 chunk_offset l = l.offset + l.done
 
 -- the read that the step n makes; a ready run that no longer passes is the late 12
-abbrev pub fetched : Cache → Next → List ℕ → Header → TileKey → Request
-fetched c (Next.Ready i) arena h key = cond (passes arena i (len_at c i) key h.tile) Request.Settled (Request.Refused 12)
-fetched c Next.Missing arena h key = Request.Settled
-fetched c Next.NoPages arena h key = Request.Settled
-fetched c Next.Entry arena h key = Request.Read (entry_of h key) 8
-fetched c (Next.Chunk l) arena h key = Request.Read (chunk_offset l) (chunk_len l)
+abbrev pub fetched : Cache → Next → List ℕ → Header → TileKey → Result (Option (ℕ × ℕ)) Refusal
+fetched c (Next.Ready i) arena h key = cond (passes arena i (len_at c i) key h.tile) (Ok None) (Err Refusal.BadState)
+fetched c Next.Missing arena h key = Ok None
+fetched c Next.NoPages arena h key = Ok None
+fetched c Next.Entry arena h key = Ok (Some (entry_of h key, 8))
+fetched c (Next.Chunk l) arena h key = Ok (Some (chunk_offset l, chunk_len l))
 
 -- its length, 0 where none is made
 abbrev pub read_len : Next → ℕ
@@ -69,7 +60,7 @@ takes n h key failure len = cond (in_grid h key) (fits (read_len n) failure len)
 -- ---- what a step leaves: its answer, the state and the arena
 
 pub record After : Type 0 where
-  pub answer : Progress
+  pub answer : Result Progress Refusal
   pub cache : Cache
   pub arena : List ℕ
 
@@ -79,17 +70,21 @@ told a = record { answer = a.answer; cache = a.cache }
 abbrev pub over : Loaded → List ℕ → After
 over r arena = record { answer = r.answer; cache = r.cache; arena = arena }
 
-abbrev pub refused : Cache → ℕ → Loaded
-refused c number = record { answer = Progress.Refused number; cache = c }
+abbrev pub refused : Cache → Refusal → Loaded
+refused c e = record { answer = Err e; cache = c }
 
-abbrev pub failed : Cache → ℕ → Loaded
-failed c number = record { answer = Progress.Failed number; cache = c }
+-- the refusal of a read that failed: its number is the failure's, 1 or 2
+abbrev pub missed : ℕ → Refusal
+missed failure = cond (failure == 1) Refusal.Media Refusal.PastPack
+
+abbrev pub failed : Cache → Refusal → Loaded
+failed c e = record { answer = Ok (Progress.Failed e); cache = c }
 
 abbrev pub done : Cache → Loaded
-done c = record { answer = Progress.Done; cache = c }
+done c = record { answer = Ok Progress.Done; cache = c }
 
 abbrev pub more : Cache → Loaded
-more c = record { answer = Progress.More; cache = c }
+more c = record { answer = Ok Progress.More; cache = c }
 
 -- ---- changes of the state
 
@@ -101,7 +96,7 @@ withdrawn (Pending.Entry key) = Pending.Nothing
 withdrawn Pending.Chunk = Pending.Nothing
 
 -- other pages and another load
-unfoldable pub moved : Cache → Pages → MaybeLoading → Cache
+unfoldable pub moved : Cache → Pages → Option Loading → Cache
 moved c g loading = record { pages = g; missing = c.missing; loading = loading; pending = withdrawn c.pending; loads = c.loads }
 
 -- a key known missing from now on
@@ -114,13 +109,13 @@ forgot c key = record {
   loads = c.loads;
 }
 
-abbrev pub without_run : MaybeLoading → Pages → Pages
-without_run MaybeLoading.Nothing g = g
-without_run (MaybeLoading.Tile l) g = evicted 1 l.slot g
+abbrev pub without_run : Option Loading → Pages → Pages
+without_run None g = g
+without_run (Some l) g = evicted 1 l.slot g
 
 -- the load, if there is one, and its run dropped
 unfoldable pub dropped : Cache → Cache
-dropped c = moved c (without_run c.loading c.pages) MaybeLoading.Nothing
+dropped c = moved c (without_run c.loading c.pages) None
 
 -- ---- the entry came
 
@@ -132,9 +127,9 @@ entry_bytes bs =
 abbrev pub new_load : TileKey → ℕ → ℕ → ℕ → Loading
 new_load key slot offset len = record { key = key; slot = slot; offset = offset; len = len; done = 0 }
 
-abbrev pub began_at : Found → Cache → Pages → TileKey → ℕ → ℕ → Loaded
-began_at Found.Nothing c g key offset len = done (forgot c key)
-began_at (Found.At slot) c g key offset len = more (moved c g (MaybeLoading.Tile (new_load key slot offset len)))
+abbrev pub began_at : Option ℕ → Cache → Pages → TileKey → ℕ → ℕ → Loaded
+began_at None c g key offset len = done (forgot c key)
+began_at (Some slot) c g key offset len = more (moved c g (Some (new_load key slot offset len)))
 
 -- the load begins; the key is missing where the tile has more than 49,152 bytes or no run of pages is long enough
 unfoldable pub began : Cache → TileKey → ℕ → ℕ → Loaded
@@ -142,14 +137,14 @@ began c key offset len =
     let b = begun c.pages key len in cond (nat_lt 49152 len) (done (forgot c key)) (began_at b.at c b.pages key offset len)
 
 -- length 0: no tile, so missing; a bad entry: 4
-abbrev pub located : Located → Cache → TileKey → Loaded
-located Located.NoTile c key = done (forgot c key)
-located (Located.Refused n) c key = failed c n
-located (Located.Tile offset len) c key = began c key offset len
+abbrev pub located : Result (Option (ℕ × ℕ)) Refusal → Cache → TileKey → Loaded
+located (Ok None) c key = done (forgot c key)
+located (Err e) c key = failed c e
+located (Ok (Some (offset, len))) c key = began c key offset len
 
 -- another tile's load is dropped first, whatever the answer is
 unfoldable pub entry_step : Cache → Header → TileKey → ℕ → List ℕ → Loaded
-entry_step c h key failure bs = cond (failure == 0) (located (locate_of h bs) (dropped c) key) (failed (dropped c) failure)
+entry_step c h key failure bs = cond (failure == 0) (located (locate_of h bs) (dropped c) key) (failed (dropped c) (missed failure))
 
 -- ---- a chunk came
 
@@ -171,7 +166,7 @@ counted c = record { pages = c.pages; missing = c.missing; loading = c.loading; 
 
 -- the load's tile ready, the most recently used, and counted
 unfoldable pub readied : Cache → Loading → Cache
-readied c l = counted (touched (moved c (with_ready c.pages l.slot) MaybeLoading.Nothing) l.slot)
+readied c l = counted (touched (moved c (with_ready c.pages l.slot) None) l.slot)
 
 -- the last chunk came: ready if the tile passes, missing if not
 unfoldable pub ended : Cache → List ℕ → Loading → ℕ → Cache
@@ -180,7 +175,7 @@ ended c arena l size = cond (passes arena l.slot l.len l.key size) (readied c l)
 -- the load with `come` bytes of its tile
 unfoldable pub further : Cache → Loading → ℕ → Cache
 further c l come =
-    moved c c.pages (MaybeLoading.Tile (record { key = l.key; slot = l.slot; offset = l.offset; len = l.len; done = come }))
+    moved c c.pages (Some (record { key = l.key; slot = l.slot; offset = l.offset; len = l.len; done = come }))
 
 abbrev pub chunk_came : Cache → Loading → List ℕ → ℕ → ℕ → After
 chunk_came c l arena size come =
@@ -188,13 +183,13 @@ chunk_came c l arena size come =
 
 unfoldable pub chunk_step : Cache → Loading → List ℕ → ℕ → ℕ → List ℕ → After
 chunk_step c l arena size failure bs =
-    cond (failure == 0) (chunk_came c l (put arena l.slot l.done bs) size (l.done + chunk_len l)) (over (failed (dropped c) failure) arena)
+    cond (failure == 0) (chunk_came c l (put arena l.slot l.done bs) size (l.done + chunk_len l)) (over (failed (dropped c) (missed failure)) arena)
 
 -- ---- the step
 
 -- the tile is ready: its run checked again, and the most recently used
 abbrev pub ready_step : Cache → ℕ → List ℕ → TileKey → ℕ → Loaded
-ready_step c i arena key size = cond (passes arena i (len_at c i) key size) (done (touched c i)) (refused c 12)
+ready_step c i arena key size = cond (passes arena i (len_at c i) key size) (done (touched c i)) (refused c Refusal.BadState)
 
 abbrev pub stepped : Cache → Next → List ℕ → Header → TileKey → ℕ → List ℕ → After
 stepped c (Next.Ready i) arena h key failure bs = over (ready_step c i arena key h.tile) arena
@@ -207,13 +202,13 @@ stepped c (Next.Chunk l) arena h key failure bs = chunk_step c l arena h.tile fa
 
 -- a load that has all of its tile is checked; any other is to be read first
 abbrev pub chunk_unread : Cache → Loading → List ℕ → ℕ → Loaded
-chunk_unread c l arena size = cond (nat_le l.len l.done) (done (ended c arena l size)) (refused c 11)
+chunk_unread c l arena size = cond (nat_le l.len l.done) (done (ended c arena l size)) (refused c Refusal.NotAsked)
 
 abbrev pub unread_step : Cache → Next → List ℕ → TileKey → ℕ → Loaded
 unread_step c (Next.Ready i) arena key size = ready_step c i arena key size
 unread_step c Next.Missing arena key size = done c
 unread_step c Next.NoPages arena key size = done (forgot c key)
-unread_step c Next.Entry arena key size = refused c 11
+unread_step c Next.Entry arena key size = refused c Refusal.NotAsked
 unread_step c (Next.Chunk l) arena key size = chunk_unread c l arena size
 
 -- ---- the step over a lent pack

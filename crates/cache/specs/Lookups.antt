@@ -1,30 +1,26 @@
 -- Lookups: `cache.rs`, `get` and `pages`, and what the next step towards a tile is. A ready run is handed out only if it still passes
 -- `Tile::parse` (document 01, number 12: "a ready run looked up that no longer passes"). Order of refusals: 12, 9, then the late 12
 -- (document 01: it "waits for its lookup"). Ready moves clock and age; nothing else does.
+use Rattle.refusal.specs.declared.Refusal.{Refusal}
+use Rattle.std.specs.Prelude.{Option, Some, None, Result, Ok, Err}
+use Rattle.cache.specs.declared.Loading.{Loading}
 use Rattle.std.specs.Prelude.{ℕ, ◌+◌, ◌*◌, ◌%◌, ◌^◌, Bool, cond, ◌&&◌, List, length, take, drop, ◌==◌, nat_le, slice_set}
 use Rattle.pack.specs.declared.TileKey.{TileKey}
 use Rattle.cache.specs.declared.Pages.{Pages}
-use Rattle.cache.specs.declared.victim.Found.{Found}
-use Rattle.cache.specs.declared.victim.Found.TheVariants as Found
 use Rattle.cache.specs.Runs.{span, slot_at}
 use Rattle.tile.specs.Parse as Parse
 use Rattle.cache.specs.declared.Cache.{Cache}
-use Rattle.cache.specs.declared.MaybeLoading.{MaybeLoading}
-use Rattle.cache.specs.declared.MaybeLoading.TheVariants as MaybeLoading
 use Rattle.cache.specs.declared.Lookup.{Lookup}
-use Rattle.cache.specs.declared.Lookup.TheVariants as Lookup
 use Rattle.cache.specs.declared.Got.{Got}
 use Rattle.cache.specs.declared.look.Landing.{Landing}
-use Rattle.cache.specs.declared.look.Landing.TheVariants as Landing
 use Rattle.cache.specs.declared.next.Next.{Next}
-use Rattle.cache.specs.declared.next.Next.TheVariants as Next
 use Rattle.cache.specs.Keys.{same_key, in_ring, ready_at}
 
 -- ---- what a lookup lands on
 
-abbrev pub landed_on : Found → Landing
-landed_on (Found.At i) = Landing.At i
-landed_on Found.Nothing = Landing.Nothing
+abbrev pub landed_on : Option ℕ → Landing
+landed_on (Some i) = Landing.At i
+landed_on None = Landing.Nothing
 
 -- the ring first, then the lowest ready run
 unfoldable pub lands_on : Cache → TileKey → Landing
@@ -69,11 +65,11 @@ touched c i = record {
 
 abbrev pub got_ready : Bool → Cache → ℕ → Got
 got_ready ok c i =
-    cond ok (record { answer = Lookup.Ready i (len_at c i); cache = touched c i }) (record { answer = Lookup.Refused 12; cache = c })
+    cond ok (record { answer = Ok (Lookup.Ready i (len_at c i)); cache = touched c i }) (record { answer = Err Refusal.BadState; cache = c })
 
 abbrev pub got_at : Landing → Cache → List ℕ → ℕ → TileKey → Got
-got_at Landing.Missing c arena size key = record { answer = Lookup.Missing; cache = c }
-got_at Landing.Nothing c arena size key = record { answer = Lookup.Absent; cache = c }
+got_at Landing.Missing c arena size key = record { answer = Ok Lookup.Missing; cache = c }
+got_at Landing.Nothing c arena size key = record { answer = Ok Lookup.Absent; cache = c }
 got_at (Landing.At i) c arena size key = got_ready (passes arena i (len_at c i) key size) c i
 
 -- a lookup in a state that 12 does not name, of a key in the grid
@@ -90,18 +86,18 @@ landed_by (Landing.At i) c = Lookup.Ready i (len_at c i)
 unfoldable pub landed : Cache → TileKey → Lookup
 landed c key = landed_by (lands_on c key) c
 
-abbrev pub checked : Lookup → List ℕ → ℕ → TileKey → Lookup
-checked (Lookup.Ready first len) arena size key = cond (passes arena first len key size) (Lookup.Ready first len) (Lookup.Refused 12)
-checked Lookup.Missing arena size key = Lookup.Missing
-checked Lookup.Absent arena size key = Lookup.Absent
-checked (Lookup.Refused number) arena size key = Lookup.Refused number
+abbrev pub checked : Result Lookup Refusal → List ℕ → ℕ → TileKey → Result Lookup Refusal
+checked (Ok (Lookup.Ready first len)) arena size key = cond (passes arena first len key size) (Ok (Lookup.Ready first len)) (Err Refusal.BadState)
+checked (Ok Lookup.Missing) arena size key = Ok Lookup.Missing
+checked (Ok Lookup.Absent) arena size key = Ok Lookup.Absent
+checked (Err e) arena size key = Err e
 
 -- ---- pages
 
 -- pages of a ready tile, one for anything else; the ring is not asked
-abbrev pub pages_at : Found → Pages → ℕ
-pages_at (Found.At i) g = span (slot_at g.slots i).len
-pages_at Found.Nothing g = 1
+abbrev pub pages_at : Option ℕ → Pages → ℕ
+pages_at (Some i) g = span (slot_at g.slots i).len
+pages_at None g = 1
 
 unfoldable pub pages_of : Pages → TileKey → ℕ
 pages_of g key = pages_at (ready_at g key) g
@@ -109,9 +105,9 @@ pages_of g key = pages_at (ready_at g key) g
 -- ---- the next step towards a tile
 
 -- a chunk where this tile is being loaded, else its directory entry
-abbrev pub next_read : MaybeLoading → TileKey → Next
-next_read MaybeLoading.Nothing key = Next.Entry
-next_read (MaybeLoading.Tile l) key = cond (same_key l.key key) (Next.Chunk l) Next.Entry
+abbrev pub next_read : Option Loading → TileKey → Next
+next_read None key = Next.Entry
+next_read (Some l) key = cond (same_key l.key key) (Next.Chunk l) Next.Entry
 
 abbrev pub next_at : Landing → Cache → TileKey → Next
 next_at (Landing.At i) c key = Next.Ready i

@@ -2,14 +2,13 @@
 -- they are well-formed: document 01's number 12 for "page runs that overlap, pass the page count or lack a part". A later page whose run
 -- does not reach it is of a run that lacks its first part. The test stands here twice, as the Bool that `runs_ok` answers, page by page, and
 -- as facts of each page (`Good`). Every page has a slot: past the last stands the empty one.
+use Rattle.std.specs.Prelude.{Option, Some, None}
+use Rattle.pack.specs.declared.TileKey.{TileKey}
 use Rattle.std.specs.Prelude.{◌≡◌, ℕ, ◌+◌, ◌-◌, ◌/◌, ◌<◌, ◌≤◌, Bool, true, false, ◌&&◌, List, length, ◌==◌, nat_le, nat_lt, slice_index_or}
 unfoldable pub use Rattle.tile.specs.Below.{all_below}
 use Rattle.cache.specs.declared.Slot.{Slot}
 use Rattle.cache.specs.declared.Pages.{Pages}
 use Rattle.cache.specs.declared.Part.{Part}
-use Rattle.cache.specs.declared.Part.TheVariants as Part
-use Rattle.cache.specs.declared.MaybeKey.{MaybeKey}
-use Rattle.cache.specs.declared.MaybeKey.TheVariants as MaybeKey
 
 -- ---- a page
 
@@ -19,7 +18,7 @@ span len = (len - 1) / 8192 + 1
 
 -- the Rust's `Slot::default()`
 abbrev pub empty_slot : Slot
-empty_slot = record { key = MaybeKey.Nothing; len = 0; ready = false; part = Part.Head }
+empty_slot = record { key = None; len = 0; ready = false; part = Part.Head }
 
 -- the slot of page i; past the last page the empty one
 abbrev pub slot_at : List Slot → ℕ → Slot
@@ -32,10 +31,10 @@ pub data Kind : Type 0 where
   piece : ℕ → Kind
 
 -- a page that points at another is a piece, whatever its key; a first page is a run where it has a key
-abbrev pub kind_by : Part → MaybeKey → Kind
+abbrev pub kind_by : Part → Option TileKey → Kind
 kind_by (Part.Of h) k = piece h
-kind_by Part.Head (MaybeKey.Key k) = run
-kind_by Part.Head MaybeKey.Nothing = bare
+kind_by Part.Head (Some k) = run
+kind_by Part.Head None = bare
 
 abbrev pub kind_of : Slot → Kind
 kind_of s = kind_by s.part s.key
@@ -60,9 +59,9 @@ is_piece p run = false
 is_piece p bare = false
 is_piece p (piece h) = h == p
 
-abbrev pub no_key : MaybeKey → Bool
-no_key MaybeKey.Nothing = true
-no_key (MaybeKey.Key k) = false
+abbrev pub no_key : Option TileKey → Bool
+no_key None = true
+no_key (Some k) = false
 
 -- ---- well-formed, as a test
 

@@ -2,6 +2,7 @@
 -- page runs that overlap, pass the page count or lack a part, or a count above its array (`runs_ok` of Runs); a ring place past its
 -- ring; a load without its run, or done not below its length; an open fetch that the state would not make; a header that `Header::parse`
 -- would refuse; an arena shorter than its pages.
+use Rattle.std.specs.Prelude.{Option, Some, None}
 use Rattle.std.specs.Prelude.{ℕ, ◌*◌, ◌/◌, min, Bool, true, false, not, ◌&&◌, List, [], ◌∷◌, length, replicate, ◌==◌, nat_le, nat_lt}
 use Rattle.pack.specs.Sector.{all_of, rules}
 use Rattle.pack.specs.Grid.{in_grid}
@@ -10,15 +11,10 @@ use Rattle.pack.specs.declared.Header.{Header}
 use Rattle.cache.specs.declared.Slot.{Slot}
 use Rattle.cache.specs.declared.Pages.{Pages}
 use Rattle.cache.specs.Runs as Runs
-use Rattle.cache.specs.declared.RingKey.{RingKey}
 use Rattle.cache.specs.declared.Cache.{Cache}
 use Rattle.cache.specs.declared.Loading.{Loading}
-use Rattle.cache.specs.declared.MaybeLoading.{MaybeLoading}
-use Rattle.cache.specs.declared.MaybeLoading.TheVariants as MaybeLoading
 use Rattle.cache.specs.declared.Pending.{Pending}
-use Rattle.cache.specs.declared.Pending.TheVariants as Pending
 use Rattle.cache.specs.declared.next.Next.{Next}
-use Rattle.cache.specs.declared.next.Next.TheVariants as Next
 use Rattle.cache.specs.Keys as Keys
 use Rattle.cache.specs.Lookups.{next_step}
 
@@ -27,7 +23,7 @@ use Rattle.cache.specs.Lookups.{next_step}
 abbrev pub empty_slot : Slot
 empty_slot = Runs.empty_slot
 
-abbrev pub empty_place : RingKey
+abbrev pub empty_place : Option TileKey
 empty_place = Keys.empty_place
 
 -- a cache of n pages with nothing in it
@@ -35,7 +31,7 @@ unfoldable pub fresh : ℕ → Cache
 fresh n = record {
   pages = record { slots = replicate 96 empty_slot; used = replicate 96 0; count = n; clock = 0 };
   missing = record { keys = replicate 64 empty_place; next = 0 };
-  loading = MaybeLoading.Nothing;
+  loading = None;
   pending = Pending.Nothing;
   loads = 0;
 }
@@ -49,7 +45,7 @@ unfoldable pub cleared : Cache → Cache
 cleared c = record {
   pages = record { slots = replicate 96 empty_slot; used = c.pages.used; count = c.pages.count; clock = c.pages.clock };
   missing = record { keys = replicate 64 empty_place; next = c.missing.next };
-  loading = MaybeLoading.Nothing;
+  loading = None;
   pending = Pending.Nothing;
   loads = c.loads;
 }
@@ -70,9 +66,9 @@ tile_loads g l =
     Runs.is_run (Runs.kind_of s)
     && (Keys.holds s.key l.key && (s.len == l.len && (not s.ready && nat_lt l.done l.len)))
 
-abbrev pub loads_ok : Pages → MaybeLoading → Bool
-loads_ok g MaybeLoading.Nothing = true
-loads_ok g (MaybeLoading.Tile l) = tile_loads g l
+abbrev pub loads_ok : Pages → Option Loading → Bool
+loads_ok g None = true
+loads_ok g (Some l) = tile_loads g l
 
 abbrev pub load_ok : Cache → Bool
 load_ok c = loads_ok c.pages c.loading
@@ -96,9 +92,9 @@ abbrev pub wants_entry : Cache → TileKey → Bool
 wants_entry c key = is_entry (next_step c key)
 
 -- a chunk is fetched where the next step towards the load's key reads one
-abbrev pub wants_chunk_of : MaybeLoading → Cache → Bool
-wants_chunk_of MaybeLoading.Nothing c = false
-wants_chunk_of (MaybeLoading.Tile l) c = is_chunk (next_step c l.key)
+abbrev pub wants_chunk_of : Option Loading → Cache → Bool
+wants_chunk_of None c = false
+wants_chunk_of (Some l) c = is_chunk (next_step c l.key)
 
 abbrev pub wants_chunk : Cache → Bool
 wants_chunk c = wants_chunk_of c.loading c

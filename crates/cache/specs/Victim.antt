@@ -1,12 +1,11 @@
 -- The run to replace: `cache.rs`, victim (document 01: "the run whose youngest page is oldest, lowest start among equals"), a greatest
 -- over the starts of a least over the pages. Empty pages count as oldest; ages are wrapping differences of the clock. No victim where
 -- the count is less than the pages wanted, or above the 96 slots, which number 12 refuses before.
+use Rattle.std.specs.Prelude.{Option, Some, None}
 use Rattle.std.specs.Prelude.{◌≡◌, ℕ, zero, suc, ◌+◌, ◌-◌, ◌%◌, ◌<◌, ◌≤◌, cond, List, nat_lt, slice_index}
 use Rattle.cache.specs.declared.Slot.{Slot}
 use Rattle.cache.specs.declared.Pages.{Pages}
 use Rattle.cache.specs.declared.victim.Best.{Best}
-use Rattle.cache.specs.declared.victim.Found.{Found}
-use Rattle.cache.specs.declared.victim.Found.TheVariants as Found
 use Rattle.cache.specs.Runs.{slot_at, kind_of, kind_at, is_run}
 use Rattle.cache.specs.Evict.{head_of}
 
@@ -53,11 +52,11 @@ best_of f zero = record { at = 0; age = f 0 }
 best_of f (suc n) = better (best_of f n) (suc n) (f (suc n))
 
 -- among the starts whose pages lie below the count
-abbrev pub victim_in : Pages → ℕ → Found
-victim_in g pages = cond (nat_lt g.count pages) Found.Nothing (Found.At (best_of (youngest g pages) (g.count - pages)).at)
+abbrev pub victim_in : Pages → ℕ → Option ℕ
+victim_in g pages = cond (nat_lt g.count pages) None (Some (best_of (youngest g pages) (g.count - pages)).at)
 
-abbrev pub victim : Pages → ℕ → Found
-victim g pages = cond (nat_lt 96 g.count) Found.Nothing (victim_in g pages)
+abbrev pub victim : Pages → ℕ → Option ℕ
+victim g pages = cond (nat_lt 96 g.count) None (victim_in g pages)
 
 -- b is the first greatest of f up to n
 pub record First (f : ℕ → ℕ) (n : ℕ) (b : Best) : Type 0 where
@@ -87,6 +86,6 @@ abbrev pub youngest_in : List ℕ → ℕ → ℕ → ℕ
 youngest_in l n start = least_of (λ (i : ℕ). slice_index l (start + i)) n
 
 -- the victim by the ages of the pages, for the crates above (`oldest_is`)
-abbrev pub oldest : List ℕ → ℕ → ℕ → Found
+abbrev pub oldest : List ℕ → ℕ → ℕ → Option ℕ
 oldest l count pages =
-    cond (nat_lt 96 count) Found.Nothing (cond (nat_lt count pages) Found.Nothing (Found.At (best_of (youngest_in l pages) (count - pages)).at))
+    cond (nat_lt 96 count) None (cond (nat_lt count pages) None (Some (best_of (youngest_in l pages) (count - pages)).at))

@@ -3,32 +3,27 @@ ghost use Rattle.std.specs.Prelude.{◌≡◌};
 ghost use Rattle.cache.specs.Begin.{begun};
 
 use crate::Pages;
-use crate::victim::Found;
 use pack::TileKey;
 
 // The pages after it, and where the run starts; as before, and nothing, where there is no victim.
 #[derive(Drop)]
 pub(crate) struct Begun {
     pub pages: Pages,
-    pub at: Found,
+    pub at: Option<usize>,
 }
 
 pub(crate) fn begin(g: Pages, key: TileKey, len: u16) -> Begun
     ensures { result ≡ begun g key len }
 {
     let n = crate::runs::span(len as usize);
-    let f = crate::victim::victim(g, n);
-    match f {
-        Found::Nothing => Begun {
-            pages: g,
-            at: Found::Nothing,
-        },
-        Found::At(s) => {
+    match crate::victim::victim(g, n) {
+        None => Begun { pages: g, at: None },
+        Some(s) => {
             let d = crate::evict::evict(g, s, n);
             let e = crate::evict::place(d, s, key, len);
             Begun {
                 pages: e,
-                at: Found::At(s),
+                at: Some(s),
             }
         }
     }

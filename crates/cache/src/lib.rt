@@ -11,8 +11,9 @@
 // and structure) when its last chunk arrives.
 //
 // `runs`, `victim`, `evict` and `begin` have the page runs; `keys`, `look`, `uses` and `ages` the lookups (`uses` those of a match, `ages` those of a call that makes many);
-// `state` number 12; `next` and `step` a load's step; `load` the calls that bring tiles in.
-#![tactic(auto)]
+// `state` tests the states that no call leaves (12); `next` and `step` a load's step; `load` the calls that bring tiles in.
+// The definitions that the check opens at each goal of this crate, where a function names none of its own.
+#![tactic(auto, using(std::proofs::lemmas::Bool::Decides::nat_tests), unfolding(crate::specs::Calls::capacity, crate::specs::Calls::loads, crate::specs::Calls::pages, crate::specs::Calls::get, crate::specs::Calls::clear, crate::specs::Calls::fetch, crate::specs::Calls::load, crate::specs::Calls::load_from, crate::specs::State::fresh, crate::specs::State::cleared, crate::specs::Keys::forgotten, crate::specs::Victim::since, crate::specs::Ages::lookups_of, crate::specs::Ages::aged, crate::specs::Ages::bytes_of, crate::specs::Ages::look_up, crate::specs::Ages::marked, crate::specs::Lookups::got, crate::specs::Lookups::landed, crate::specs::Loads::began, crate::specs::Loads::entry_step, crate::specs::Loads::chunk_step, crate::specs::Loads::put, crate::specs::Loads::moved, crate::specs::Loads::forgot, crate::specs::Loads::further, crate::specs::Loads::dropped, crate::specs::Loads::chunk_len, crate::specs::Lookups::touched, crate::specs::Lookups::pages_of, crate::specs::Lookups::next_step, crate::specs::Evict::evicted_page, crate::specs::Pass::fits, crate::specs::Pass::after, crate::specs::Runs::span, crate::specs::Ages::was_found, crate::specs::Keys::is_ready, crate::specs::State::tile_loads, crate::specs::State::lent_ok, crate::specs::State::cache_ok, crate::specs::State::state_ok, crate::specs::Lookups::lands_on, crate::specs::Lookups::passes))]
 
 pub mod ages;
 mod begin;
@@ -32,6 +33,7 @@ ghost use Rattle.cache.specs.State as State;
 ghost use Rattle.std.specs.Prelude.{◌≡◌};
 
 use pack::{Header, TileKey};
+use refusal::Refusal;
 
 // The arena unit; the cache holds up to `MAX_PAGES` of them.
 pub const PAGE_BYTES: usize = 8 * 1024;
@@ -44,23 +46,18 @@ pub const MAX_SPAN: usize = MAX_TILE_BYTES / PAGE_BYTES;
 
 pub const MAX_PAGES: usize = 96;
 
-#[derive(Clone, Copy)]
-pub enum MaybeKey {
-    Nothing,
-    Key(TileKey),
-}
-
-// Whether a page is a first one or, as a continuation page, which the tile's first page is.
-#[derive(Clone, Copy)]
+// Whether a page is a first one or, as a continuation page, which the tile's first page is. No `Option`: a page without another to point at is a
+// first one, which `None` would not say.
+#[derive(Clone, Copy, PartialEq, Eq, Debug)]
 pub enum Part {
     Head,
     Of(u8),
 }
 
 // A page: the first of a tile's pages holds its key and length, the rest point back at it.
-#[derive(Clone, Copy)]
+#[derive(Clone, Copy, PartialEq, Eq, Debug)]
 pub struct Slot {
-    pub key: MaybeKey,
+    pub key: Option<TileKey>,
     pub len: u16,
     pub ready: bool,
     pub part: Part,
@@ -78,21 +75,15 @@ pub struct Pages {
 // Keys that the ring of missing tiles holds.
 pub const MISSING: usize = 64;
 
-// A place of the ring: a key, or none yet.
-#[derive(Clone, Copy)]
-pub struct RingKey {
-    pub key: MaybeKey,
-}
-
-// The tiles that were found missing last, and the place that the next one takes.
+// The tiles that were found missing last, `None` where no tile has taken the place yet, and the place that the next one takes.
 #[derive(Clone, Copy)]
 pub struct Ring {
-    pub keys: [RingKey; MISSING],
+    pub keys: [Option<TileKey>; MISSING],
     pub next: usize,
 }
 
 // A load under way: the tile, its run's first page, where it stands in the pack, and how much of it has come.
-#[derive(Clone, Copy)]
+#[derive(Clone, Copy, PartialEq, Eq, Debug)]
 pub struct Loading {
     pub key: TileKey,
     pub slot: usize,
@@ -101,14 +92,8 @@ pub struct Loading {
     pub done: u32,
 }
 
-#[derive(Clone, Copy)]
-pub enum MaybeLoading {
-    Nothing,
-    Tile(Loading),
-}
-
 // The one read that an engine waits for. Calls on the cache never open one; a load ends one, and `clear` does.
-#[derive(Clone, Copy)]
+#[derive(Clone, Copy, PartialEq, Eq, Debug)]
 pub enum Pending {
     Nothing,
     Header,
@@ -120,42 +105,29 @@ pub enum Pending {
 pub struct Cache {
     pub pages: Pages,
     pub missing: Ring,
-    pub loading: MaybeLoading,
+    pub loading: Option<Loading>,
     pub pending: Pending,
     // Tiles read since start, for diagnostics.
     pub loads: u32,
 }
 
 // What the cache holds for a tile: the run's first page and its length in bytes; no roads there, or an unusable tile; or not loaded yet.
-#[derive(Clone, Copy)]
+#[derive(Clone, Copy, PartialEq, Eq, Debug)]
 pub enum Lookup {
     Ready(usize, usize),
     Missing,
     Absent,
-    Refused(u32),
 }
 
 #[derive(Clone, Copy)]
 pub struct Got {
-    pub answer: Lookup,
+    pub answer: Result<Lookup, Refusal>,
     pub cache: Cache,
 }
 
 #[derive(Clone, Copy)]
-pub enum Count {
-    Is(usize),
-    Refused(u32),
-}
-
-#[derive(Clone, Copy)]
-pub enum Clearing {
-    Done,
-    Refused(u32),
-}
-
-#[derive(Clone, Copy)]
 pub struct Cleared {
-    pub answer: Clearing,
+    pub answer: Result<(), Refusal>,
     pub cache: Cache,
 }
 
@@ -164,46 +136,40 @@ impl Cache {
     pub fn new(arena: &[u8]) -> Cache
         ensures { result ≡ State.new arena.now }
     {
-        let n = arena.len() / crate::PAGE_BYTES;
-        if crate::MAX_PAGES < n {
-            return state::fresh(crate::MAX_PAGES);
-        }
-        state::fresh(n)
+        state::fresh((arena.len() / PAGE_BYTES).min(MAX_PAGES))
     }
 
     // Pages in the arena.
-    pub fn capacity(self, arena: &[u8]) -> Count
+    pub fn capacity(self, arena: &[u8]) -> Result<usize, Refusal>
         ensures { result ≡ Calls.capacity self arena.now }
     {
         if !state::lent_ok(self, arena.len()) {
-            return Count::Refused(12);
+            return Err(Refusal::BadState);
         }
-        let g = self.pages;
-        Count::Is(g.count)
+        Ok(self.pages.count)
     }
 
     // Tiles read since start.
-    pub fn loads(self, arena: &[u8]) -> Count
+    pub fn loads(self, arena: &[u8]) -> Result<usize, Refusal>
         ensures { result ≡ Calls.loads self arena.now }
     {
         if !state::lent_ok(self, arena.len()) {
-            return Count::Refused(12);
+            return Err(Refusal::BadState);
         }
-        Count::Is(self.loads as usize)
+        Ok(self.loads as usize)
     }
 
     // Pages that a ready tile takes, one for anything else.
-    pub fn pages(self, arena: &[u8], header: Header, key: TileKey) -> Count
+    pub fn pages(self, arena: &[u8], header: Header, key: TileKey) -> Result<usize, Refusal>
         ensures { result ≡ Calls.pages self arena.now header key }
     {
         if !state::cache_ok(self, header, arena.len()) {
-            return Count::Refused(12);
+            return Err(Refusal::BadState);
         }
         if !pack::grid::in_grid(header, key) {
-            return Count::Refused(9);
+            return Err(Refusal::OutsideGrid);
         }
-        let g = self.pages;
-        Count::Is(look::pages_of(g, key))
+        Ok(look::pages_of(self.pages, key))
     }
 
     // What the cache holds for a tile. A ready one is checked again, and is then the most recently used.
@@ -212,13 +178,13 @@ impl Cache {
     {
         if !state::cache_ok(self, header, arena.len()) {
             return Got {
-                answer: Lookup::Refused(12),
+                answer: Err(Refusal::BadState),
                 cache: self,
             };
         }
         if !pack::grid::in_grid(header, key) {
             return Got {
-                answer: Lookup::Refused(9),
+                answer: Err(Refusal::OutsideGrid),
                 cache: self,
             };
         }
@@ -231,38 +197,29 @@ impl Cache {
     {
         if !state::lent_ok(self, arena.len()) {
             return Cleared {
-                answer: Clearing::Refused(12),
+                answer: Err(Refusal::BadState),
                 cache: self,
             };
         }
-        let empty = state::cleared(self);
         Cleared {
-            answer: Clearing::Done,
-            cache: empty,
+            answer: Ok(()),
+            cache: state::cleared(self),
         }
     }
 }
 
-// The read that the next step towards a tile makes: offset in the pack and length. Settled where it makes none.
-#[derive(Clone, Copy)]
-pub enum Request {
-    Settled,
-    Read(u64, usize),
-    Refused(u32),
-}
-
-// How a step of a load ended: the tile is ready or known missing; more steps are to come; the read or the entry failed (1, 2 or 4); refused.
-#[derive(Clone, Copy)]
+// How a step of a load ended: the tile is ready or known missing; more steps are to come; the read or the entry failed (`Media`, `PastPack` or
+// `Corrupt`), which drops the load.
+#[derive(Clone, Copy, PartialEq, Eq, Debug)]
 pub enum Progress {
     Done,
     More,
-    Failed(u32),
-    Refused(u32),
+    Failed(Refusal),
 }
 
 #[derive(Clone, Copy)]
 pub struct Loaded {
-    pub answer: Progress,
+    pub answer: Result<Progress, Refusal>,
     pub cache: Cache,
 }
 

@@ -1,14 +1,14 @@
 // Lookups: the ring first, then the lowest ready run, which is checked again before it is handed out (the late check of number 12).
 ghost use Rattle.std.specs.Prelude.{◌≡◌, ◌<◌, slice_set};
+ghost use Rattle.cache.specs.Ages as Ages;
 ghost use Rattle.cache.specs.Lookups as Lookups;
 
-use crate::victim::Found;
 use crate::{Cache, Got, Lookup, Pages};
 use pack::TileKey;
-use tile::Parsed;
+use refusal::Refusal;
 
 // What a lookup lands on, before the run is checked.
-#[derive(Clone, Copy)]
+#[derive(Clone, Copy, PartialEq, Eq, Debug)]
 pub enum Landing {
     Missing,
     At(usize),
@@ -19,14 +19,12 @@ pub enum Landing {
 pub(crate) fn lands_on(c: Cache, key: TileKey) -> Landing
     ensures { result ≡ Lookups.lands_on c key }
 {
-    let ring = c.missing;
-    if crate::keys::in_ring(ring, key) {
+    if crate::keys::in_ring(c.missing, key) {
         return Landing::Missing;
     }
-    let g = c.pages;
-    match crate::keys::ready_at(g, key) {
-        Found::At(i) => Landing::At(i),
-        Found::Nothing => Landing::Nothing,
+    match crate::keys::ready_at(c.pages, key) {
+        Some(i) => Landing::At(i),
+        None => Landing::Nothing,
     }
 }
 
@@ -35,43 +33,37 @@ pub(crate) fn pages_of(g: Pages, key: TileKey) -> usize
     ensures { result ≡ Lookups.pages_of g key }
 {
     match crate::keys::ready_at(g, key) {
-        Found::At(i) => {
-            let s = crate::runs::slot_at(g, i);
-            crate::runs::span(s.len as usize)
-        }
-        Found::Nothing => 1,
+        Some(i) => crate::runs::span(crate::runs::slot_at(g, i).len as usize),
+        None => 1,
     }
 }
 
+#[tactic(auto, unfolding(tile::specs::Parse::parse))]
 fn accepts(bytes: &[u8], key: TileKey, size: u32) -> bool
     ensures { result ≡ Lookups.accepts bytes.now key size }
 {
-    match tile::parse(bytes, key, size) {
-        Parsed::Tile(_) => true,
-        Parsed::Refused(_) => false,
+    tile::parse(bytes, key, size).is_ok()
+}
+
+// Whether the run of `len` bytes from page `first` on lies in the arena.
+pub(crate) fn inside(arena: &[u8], first: usize, len: usize) -> bool
+    ensures { result ≡ Ages.inside arena.now first len }
+{
+    if arena.len() / crate::PAGE_BYTES < first {
+        return false;
     }
+    len <= arena.len() - first * crate::PAGE_BYTES
 }
 
 // Whether the run of `len` bytes from page `first` on lies in the arena and passes `Tile::parse` for its key.
 pub(crate) fn passes(arena: &[u8], first: usize, len: usize, key: TileKey, size: u32) -> bool
     ensures { result ≡ Lookups.passes arena.now first len key size }
 {
-    if arena.len() / crate::PAGE_BYTES < first {
+    if !inside(arena, first, len) {
         return false;
     }
     let at = first * crate::PAGE_BYTES;
-    if arena.len() - at < len {
-        return false;
-    }
     accepts(&arena[at..at + len], key, size)
-}
-
-// The age of page `i`.
-fn set_age(used: &mut [u32; crate::MAX_PAGES], i: usize, age: u32)
-    requires { i < 96 }
-    ensures { used.new ≡ slice_set used.old i age }
-{
-    used[i] = age;
 }
 
 // The run from page `i` on as the most recently used. The state is written in place.
@@ -79,10 +71,10 @@ pub(crate) fn touch(c: Cache, i: usize) -> Cache
     ensures { result ≡ Lookups.touched c i }
 {
     let mut d = c;
-    let age = std::num::wrapping_add_u32(d.pages.clock, 1);
+    let age = d.pages.clock.wrapping_add(1);
     d.pages.clock = age;
     if i < crate::MAX_PAGES {
-        set_age(&mut d.pages.used, i, age);
+        d.pages.used[i] = age;
     }
     d
 }
@@ -93,26 +85,23 @@ pub(crate) fn got(c: Cache, arena: &[u8], size: u32, key: TileKey) -> Got
 {
     match lands_on(c, key) {
         Landing::Missing => Got {
-            answer: Lookup::Missing,
+            answer: Ok(Lookup::Missing),
             cache: c,
         },
         Landing::Nothing => Got {
-            answer: Lookup::Absent,
+            answer: Ok(Lookup::Absent),
             cache: c,
         },
         Landing::At(i) => {
-            let g = c.pages;
-            let s = crate::runs::slot_at(g, i);
-            let len = s.len as usize;
+            let len = crate::runs::slot_at(c.pages, i).len as usize;
             if passes(arena, i, len, key, size) {
-                let d = touch(c, i);
                 return Got {
-                    answer: Lookup::Ready(i, len),
-                    cache: d,
+                    answer: Ok(Lookup::Ready(i, len)),
+                    cache: touch(c, i),
                 };
             }
             Got {
-                answer: Lookup::Refused(12),
+                answer: Err(Refusal::BadState),
                 cache: c,
             }
         }
@@ -127,26 +116,29 @@ pub fn landed(c: Cache, key: TileKey) -> Lookup
         Landing::Missing => Lookup::Missing,
         Landing::Nothing => Lookup::Absent,
         Landing::At(i) => {
-            let g = c.pages;
-            let s = crate::runs::slot_at(g, i);
+            let s = crate::runs::slot_at(c.pages, i);
             Lookup::Ready(i, s.len as usize)
         }
     }
 }
 
-// The late check of what a lookup landed on: a run that no longer passes is refused.
-pub fn checked(landed: Lookup, arena: &[u8], size: u32, key: TileKey) -> Lookup
+// The late check of what a lookup landed on: a run that no longer passes is refused. A lookup that was refused stays so.
+pub fn checked(
+    landed: Result<Lookup, Refusal>,
+    arena: &[u8],
+    size: u32,
+    key: TileKey,
+) -> Result<Lookup, Refusal>
     ensures { result ≡ Lookups.checked landed arena.now size key }
 {
-    match landed {
-        Lookup::Missing => Lookup::Missing,
-        Lookup::Absent => Lookup::Absent,
-        Lookup::Refused(number) => Lookup::Refused(number),
+    match landed? {
+        Lookup::Missing => Ok(Lookup::Missing),
+        Lookup::Absent => Ok(Lookup::Absent),
         Lookup::Ready(first, len) => {
             if passes(arena, first, len, key, size) {
-                return Lookup::Ready(first, len);
+                return Ok(Lookup::Ready(first, len));
             }
-            Lookup::Refused(12)
+            Err(Refusal::BadState)
         }
     }
 }

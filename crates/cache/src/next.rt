@@ -3,11 +3,11 @@ ghost use Rattle.std.specs.Prelude.{◌≡◌};
 ghost use Rattle.cache.specs.Lookups as Lookups;
 
 use crate::look::Landing;
-use crate::{Cache, Loading, MaybeLoading};
+use crate::{Cache, Loading};
 use pack::TileKey;
 
 // What the next step towards a tile is.
-#[derive(Clone, Copy)]
+#[derive(Clone, Copy, PartialEq, Eq, Debug)]
 pub enum Next {
     Ready(usize),
     Missing,
@@ -17,13 +17,13 @@ pub enum Next {
 }
 
 // A chunk where this tile is being loaded, else its directory entry.
-pub fn next_read(loading: MaybeLoading, key: TileKey) -> Next
+pub fn next_read(loading: Option<Loading>, key: TileKey) -> Next
     ensures { result ≡ Lookups.next_read loading key }
 {
     match loading {
-        MaybeLoading::Nothing => Next::Entry,
-        MaybeLoading::Tile(l) => {
-            if crate::keys::same_key(l.key, key) {
+        None => Next::Entry,
+        Some(l) => {
+            if l.key == key {
                 return Next::Chunk(l);
             }
             Next::Entry
@@ -38,12 +38,10 @@ pub(crate) fn next_step(c: Cache, key: TileKey) -> Next
         Landing::At(i) => Next::Ready(i),
         Landing::Missing => Next::Missing,
         Landing::Nothing => {
-            let g = c.pages;
-            if g.count == 0 {
+            if c.pages.count == 0 {
                 return Next::NoPages;
             }
-            let loading = c.loading;
-            next_read(loading, key)
+            next_read(c.loading, key)
         }
     }
 }

@@ -9,7 +9,7 @@ ghost use Rattle.std.specs.Prelude.{◌≡◌, ◌<◌};
 ghost use Rattle.cache.specs.Pass as Pass;
 ghost use Rattle.cache.specs.Runs as Runs;
 
-use crate::{MAX_PAGES, MaybeKey, PAGE_BYTES, Pages, Part, Slot};
+use crate::{MAX_PAGES, PAGE_BYTES, Pages, Part, Slot};
 
 // The last run that a pass over the pages met: its first page and the page after it. Both are 0 before the first.
 #[derive(Clone, Copy)]
@@ -28,6 +28,18 @@ pub fn span(len: usize) -> usize
     (len - 1) / PAGE_BYTES + 1
 }
 
+// The Rust's `Slot::default()`.
+pub(crate) fn empty_slot() -> Slot
+    ensures { result ≡ Runs.empty_slot }
+{
+    Slot {
+        key: None,
+        len: 0,
+        ready: false,
+        part: Part::Head,
+    }
+}
+
 // The slot of page `i`; past the last page the empty one.
 pub(crate) fn slot_at(g: Pages, i: usize) -> Slot
     ensures { result ≡ Runs.slot_at g.slots i }
@@ -35,26 +47,16 @@ pub(crate) fn slot_at(g: Pages, i: usize) -> Slot
     if i < MAX_PAGES {
         return g.slots[i];
     }
-    Slot {
-        key: MaybeKey::Nothing,
-        len: 0,
-        ready: false,
-        part: Part::Head,
-    }
+    empty_slot()
 }
 
 // Whether a run starts at this page.
 pub(crate) fn is_run(s: Slot) -> bool
     ensures { result ≡ Runs.is_run (Runs.kind_of s) }
 {
-    let part = s.part;
-    let key = s.key;
-    match part {
-        Part::Of(_) => false,
-        Part::Head => match key {
-            MaybeKey::Key(_) => true,
-            MaybeKey::Nothing => false,
-        },
+    match (s.part, s.key) {
+        (Part::Head, Some(_)) => true,
+        (Part::Head, None) | (Part::Of(_), _) => false,
     }
 }
 
@@ -64,17 +66,11 @@ fn fits(s: Slot, p: usize, last: LastRun, count: usize) -> bool
     requires { p < 96 }
     ensures { result ≡ Pass.fits s p last count }
 {
-    let part = s.part;
-    let key = s.key;
-    match part {
-        Part::Of(h) => match key {
-            MaybeKey::Key(_) => false,
-            MaybeKey::Nothing => p < last.end && h as usize == last.head,
-        },
-        Part::Head => match key {
-            MaybeKey::Key(_) => last.end <= p && p + span(s.len as usize) <= count,
-            MaybeKey::Nothing => last.end <= p,
-        },
+    match (s.part, s.key) {
+        (Part::Of(_), Some(_)) => false,
+        (Part::Of(h), None) => p < last.end && h as usize == last.head,
+        (Part::Head, Some(_)) => last.end <= p && p + span(s.len as usize) <= count,
+        (Part::Head, None) => last.end <= p,
     }
 }
 
@@ -94,6 +90,7 @@ fn after(s: Slot, p: usize, last: LastRun) -> LastRun
 
 // Whether the count is at most `MAX_PAGES` and the runs are well-formed: none overlaps another, passes the count or lacks a part. One pass, which
 // reads each slot once and carries the last run as two numbers, so that no state is copied page by page.
+#[tactic(auto, using(std::proofs::lemmas::Bool::Decides::nat_tests, crate::proofs::PassLaws::passed, crate::proofs::PassLaws::pass_fails))]
 pub(crate) fn runs_ok(g: Pages) -> bool
     ensures { result ≡ Runs.runs_ok g }
 {
@@ -101,14 +98,12 @@ pub(crate) fn runs_ok(g: Pages) -> bool
         return false;
     }
     let mut last = LastRun { head: 0, end: 0 };
-    let mut p = 0;
-    while p < MAX_PAGES {
+    for p in 0..MAX_PAGES {
         let s = g.slots[p];
         if !fits(s, p, last, g.count) {
             return false;
         }
         last = after(s, p, last);
-        p += 1;
     }
     true
 }

@@ -1,51 +1,29 @@
-// The empty state, and number 12: the causes that document 01 names, tested before anything else is looked at.
+// The empty state, and the states that no call leaves (`BadState`, 12): the causes are tested before anything else is looked at.
 ghost use Rattle.std.specs.Prelude.{◌≡◌};
 ghost use Rattle.cache.specs.State as State;
 
 use crate::next::Next;
-use crate::{Cache, Loading, MaybeKey, MaybeLoading, Pages, Part, Pending, Ring, RingKey, Slot};
+use crate::{Cache, Loading, Pages, Pending, Ring};
 use pack::{Header, TileKey};
-
-// The Rust's `Slot::default()`.
-fn empty_slot() -> Slot
-    ensures { result ≡ State.empty_slot }
-{
-    Slot {
-        key: MaybeKey::Nothing,
-        len: 0,
-        ready: false,
-        part: Part::Head,
-    }
-}
-
-fn empty_place() -> RingKey
-    ensures { result ≡ State.empty_place }
-{
-    RingKey {
-        key: MaybeKey::Nothing,
-    }
-}
 
 // A cache of `count` pages with nothing in it.
 pub(crate) fn fresh(count: usize) -> Cache
     ensures { result ≡ State.fresh count }
 {
-    let empty = empty_slot();
-    let none = empty_place();
-    let slots = [empty; crate::MAX_PAGES];
-    let used = [0u32; crate::MAX_PAGES];
-    let keys = [none; crate::MISSING];
-    let g = Pages {
-        slots,
-        used,
+    let pages = Pages {
+        slots: [crate::runs::empty_slot(); crate::MAX_PAGES],
+        used: [0u32; crate::MAX_PAGES],
         count,
         clock: 0,
     };
-    let missing = Ring { keys, next: 0 };
+    let missing = Ring {
+        keys: [None; crate::MISSING],
+        next: 0,
+    };
     Cache {
-        pages: g,
+        pages,
         missing,
-        loading: MaybeLoading::Nothing,
+        loading: None,
         pending: Pending::Nothing,
         loads: 0,
     }
@@ -55,27 +33,21 @@ pub(crate) fn fresh(count: usize) -> Cache
 pub fn cleared(c: Cache) -> Cache
     ensures { result ≡ State.cleared c }
 {
-    let empty = empty_slot();
-    let none = empty_place();
-    let slots = [empty; crate::MAX_PAGES];
-    let keys = [none; crate::MISSING];
-    let old = c.pages;
-    let used = old.used;
-    let g = Pages {
-        slots,
+    let used = c.pages.used;
+    let pages = Pages {
+        slots: [crate::runs::empty_slot(); crate::MAX_PAGES],
         used,
-        count: old.count,
-        clock: old.clock,
+        count: c.pages.count,
+        clock: c.pages.clock,
     };
-    let ring = c.missing;
     let missing = Ring {
-        keys,
-        next: ring.next,
+        keys: [None; crate::MISSING],
+        next: c.missing.next,
     };
     Cache {
-        pages: g,
+        pages,
         missing,
-        loading: MaybeLoading::Nothing,
+        loading: None,
         pending: Pending::Nothing,
         loads: c.loads,
     }
@@ -86,30 +58,19 @@ fn tile_loads(g: Pages, l: Loading) -> bool
     ensures { result ≡ State.tile_loads g l }
 {
     let s = crate::runs::slot_at(g, l.slot);
-    if !crate::runs::is_run(s) {
-        return false;
-    }
-    let k = s.key;
-    if !crate::keys::holds(k, l.key) {
-        return false;
-    }
-    if s.len as u32 != l.len {
-        return false;
-    }
-    if s.ready {
-        return false;
-    }
-    l.done < l.len
+    crate::runs::is_run(s)
+        && crate::keys::holds(s.key, l.key)
+        && s.len as u32 == l.len
+        && !s.ready
+        && l.done < l.len
 }
 
 fn load_ok(c: Cache) -> bool
     ensures { result ≡ State.load_ok c }
 {
-    let loading = c.loading;
-    let g = c.pages;
-    match loading {
-        MaybeLoading::Tile(l) => tile_loads(g, l),
-        MaybeLoading::Nothing => true,
+    match c.loading {
+        Some(l) => tile_loads(c.pages, l),
+        None => true,
     }
 }
 
@@ -117,29 +78,16 @@ fn load_ok(c: Cache) -> bool
 fn wants_entry(c: Cache, key: TileKey) -> bool
     ensures { result ≡ State.wants_entry c key }
 {
-    match crate::next::next_step(c, key) {
-        Next::Entry => true,
-        Next::Chunk(_) => false,
-        Next::Ready(_) => false,
-        Next::Missing => false,
-        Next::NoPages => false,
-    }
+    matches!(crate::next::next_step(c, key), Next::Entry)
 }
 
 // Whether the next step towards the load's key reads a chunk.
 fn wants_chunk(c: Cache) -> bool
     ensures { result ≡ State.wants_chunk c }
 {
-    let loading = c.loading;
-    match loading {
-        MaybeLoading::Nothing => false,
-        MaybeLoading::Tile(l) => match crate::next::next_step(c, l.key) {
-            Next::Chunk(_) => true,
-            Next::Entry => false,
-            Next::Ready(_) => false,
-            Next::Missing => false,
-            Next::NoPages => false,
-        },
+    match c.loading {
+        None => false,
+        Some(l) => matches!(crate::next::next_step(c, l.key), Next::Chunk(_)),
     }
 }
 
@@ -147,10 +95,8 @@ fn wants_chunk(c: Cache) -> bool
 fn pending_ok(c: Cache) -> bool
     ensures { result ≡ State.pending_ok c }
 {
-    let pending = c.pending;
-    match pending {
-        Pending::Nothing => true,
-        Pending::Header => true,
+    match c.pending {
+        Pending::Nothing | Pending::Header => true,
         Pending::Entry(k) => wants_entry(c, k),
         Pending::Chunk => wants_chunk(c),
     }
@@ -160,29 +106,14 @@ fn pending_ok(c: Cache) -> bool
 pub fn state_ok(c: Cache) -> bool
     ensures { result ≡ State.state_ok c }
 {
-    let g = c.pages;
-    if !crate::runs::runs_ok(g) {
-        return false;
-    }
-    let ring = c.missing;
-    if crate::MISSING <= ring.next {
-        return false;
-    }
-    if !load_ok(c) {
-        return false;
-    }
-    pending_ok(c)
+    crate::runs::runs_ok(c.pages) && c.missing.next < crate::MISSING && load_ok(c) && pending_ok(c)
 }
 
 // The causes of number 12 in a call that is given the state and an arena of `size` bytes.
 pub(crate) fn lent_ok(c: Cache, size: usize) -> bool
     ensures { result ≡ State.lent_ok c size }
 {
-    if !state_ok(c) {
-        return false;
-    }
-    let g = c.pages;
-    g.count <= size / crate::PAGE_BYTES
+    state_ok(c) && c.pages.count <= size / crate::PAGE_BYTES
 }
 
 // Whether an open entry is of a key in the header's grid.
@@ -190,10 +121,8 @@ pub fn entry_in(pending: Pending, header: Header) -> bool
     ensures { result ≡ State.entry_in pending header }
 {
     match pending {
-        Pending::Nothing => true,
-        Pending::Header => true,
         Pending::Entry(key) => pack::grid::in_grid(header, key),
-        Pending::Chunk => true,
+        Pending::Nothing | Pending::Header | Pending::Chunk => true,
     }
 }
 
@@ -201,16 +130,8 @@ pub fn entry_in(pending: Pending, header: Header) -> bool
 pub fn cache_ok(c: Cache, header: Header, size: usize) -> bool
     ensures { result ≡ State.cache_ok c header size }
 {
-    if !state_ok(c) {
-        return false;
-    }
-    if !header.rules() {
-        return false;
-    }
-    let pending = c.pending;
-    if !entry_in(pending, header) {
-        return false;
-    }
-    let g = c.pages;
-    g.count <= size / crate::PAGE_BYTES
+    state_ok(c)
+        && header.rules()
+        && entry_in(c.pending, header)
+        && c.pages.count <= size / crate::PAGE_BYTES
 }

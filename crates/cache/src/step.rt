@@ -5,21 +5,18 @@ ghost use Rattle.cache.specs.Endings as Endings;
 ghost use Rattle.cache.specs.Loads as Loads;
 
 use crate::next::Next;
-use crate::victim::Found;
-use crate::{Cache, Loaded, Loading, MaybeLoading, Pages, Pending, Progress, Request, Ring};
-use pack::{Header, Located, Range, TileKey};
+use crate::{Cache, Loaded, Loading, Pages, Pending, Progress, Ring};
+use pack::{Header, TileKey};
+use refusal::Refusal;
+
+// Bytes that a step of a load brings at most: four sectors, a few milliseconds of a card's time.
+const CHUNK: u32 = 2048;
 
 // Bytes that the next chunk of a load has.
 pub fn chunk_len(l: Loading) -> u32
     ensures { result ≡ Loads.chunk_len l }
 {
-    if l.len <= l.done {
-        return 0;
-    }
-    if l.len - l.done < 2048 {
-        return l.len - l.done;
-    }
-    2048
+    l.len.saturating_sub(l.done).min(CHUNK)
 }
 
 // Where in the pack the next chunk of a load stands.
@@ -30,21 +27,25 @@ fn chunk_offset(l: Loading) -> u64
 }
 
 // The read of the step `n`, in a cache whose state has been tested, towards a key in the grid.
-pub(crate) fn fetched(c: Cache, n: Next, arena: &[u8], header: Header, key: TileKey) -> Request
+pub(crate) fn fetched(
+    c: Cache,
+    n: Next,
+    arena: &[u8],
+    header: Header,
+    key: TileKey,
+) -> Result<Option<(u64, usize)>, Refusal>
     ensures { result ≡ Loads.fetched c n arena.now header key }
 {
     match n {
-        Next::Missing => Request::Settled,
-        Next::NoPages => Request::Settled,
-        Next::Entry => Request::Read(pack::grid::entry_of(header, key), pack::ENTRY_BYTES),
-        Next::Chunk(l) => Request::Read(chunk_offset(l), chunk_len(l) as usize),
+        Next::Missing | Next::NoPages => Ok(None),
+        Next::Entry => Ok(Some((pack::grid::entry_of(header, key), pack::ENTRY_BYTES))),
+        Next::Chunk(l) => Ok(Some((chunk_offset(l), chunk_len(l) as usize))),
         Next::Ready(i) => {
-            let g = c.pages;
-            let s = crate::runs::slot_at(g, i);
+            let s = crate::runs::slot_at(c.pages, i);
             if crate::look::passes(arena, i, s.len as usize, key, header.tile) {
-                return Request::Settled;
+                return Ok(None);
             }
-            Request::Refused(12)
+            Err(Refusal::BadState)
         }
     }
 }
@@ -54,9 +55,7 @@ fn read_len(n: Next) -> usize
     ensures { result ≡ Loads.read_len n }
 {
     match n {
-        Next::Ready(_) => 0,
-        Next::Missing => 0,
-        Next::NoPages => 0,
+        Next::Ready(_) | Next::Missing | Next::NoPages => 0,
         Next::Entry => pack::ENTRY_BYTES,
         Next::Chunk(l) => chunk_len(l) as usize,
     }
@@ -85,11 +84,11 @@ pub(crate) fn takes(n: Next, header: Header, key: TileKey, failure: u32, len: us
     fits(read_len(n), failure, len)
 }
 
-pub(crate) fn refused(c: Cache, number: u32) -> Loaded
-    ensures { result ≡ Loads.refused c number }
+pub(crate) fn refused(c: Cache, e: Refusal) -> Loaded
+    ensures { result ≡ Loads.refused c e }
 {
     Loaded {
-        answer: Progress::Refused(number),
+        answer: Err(e),
         cache: c,
     }
 }
@@ -100,25 +99,19 @@ fn withdrawn(pending: Pending) -> Pending
 {
     match pending {
         Pending::Header => Pending::Header,
-        Pending::Nothing => Pending::Nothing,
-        Pending::Entry(_) => Pending::Nothing,
-        Pending::Chunk => Pending::Nothing,
+        Pending::Nothing | Pending::Entry(_) | Pending::Chunk => Pending::Nothing,
     }
 }
 
 // The state after a step: other pages, another load, and the open fetch withdrawn.
-fn moved(c: Cache, g: Pages, loading: MaybeLoading) -> Cache
+fn moved(c: Cache, g: Pages, loading: Option<Loading>) -> Cache
     ensures { result ≡ Loads.moved c g loading }
 {
-    let missing = c.missing;
-    let old = c.pending;
-    let pending = withdrawn(old);
     Cache {
         pages: g,
-        missing,
         loading,
-        pending,
-        loads: c.loads,
+        pending: withdrawn(c.pending),
+        ..c
     }
 }
 
@@ -126,18 +119,10 @@ fn moved(c: Cache, g: Pages, loading: MaybeLoading) -> Cache
 pub(crate) fn forgot(c: Cache, key: TileKey) -> Cache
     ensures { result ≡ Loads.forgot c key }
 {
-    let ring = c.missing;
-    let missing = crate::keys::forget(ring, key);
-    let g = c.pages;
-    let loading = c.loading;
-    let old = c.pending;
-    let pending = withdrawn(old);
     Cache {
-        pages: g,
-        missing,
-        loading,
-        pending,
-        loads: c.loads,
+        missing: crate::keys::forget(c.missing, key),
+        pending: withdrawn(c.pending),
+        ..c
     }
 }
 
@@ -145,22 +130,24 @@ pub(crate) fn forgot(c: Cache, key: TileKey) -> Cache
 fn dropped(c: Cache) -> Cache
     ensures { result ≡ Loads.dropped c }
 {
-    let loading = c.loading;
-    let g = c.pages;
-    match loading {
-        MaybeLoading::Nothing => moved(c, g, MaybeLoading::Nothing),
-        MaybeLoading::Tile(l) => {
-            let d = crate::evict::evict(g, l.slot, 1);
-            moved(c, d, MaybeLoading::Nothing)
-        }
-    }
+    moved(c, without_run(c.pages, c.loading), None)
 }
 
-fn failed(c: Cache, number: u32) -> Loaded
-    ensures { result ≡ Loads.failed c number }
+// The refusal of a read that failed, by the failure that it was answered with: 1 is the host's, 2 is past the pack.
+fn missed(failure: u32) -> Refusal
+    ensures { result ≡ Loads.missed failure }
+{
+    if failure == 1 {
+        return Refusal::Media;
+    }
+    Refusal::PastPack
+}
+
+fn failed(c: Cache, e: Refusal) -> Loaded
+    ensures { result ≡ Loads.failed c e }
 {
     Loaded {
-        answer: Progress::Failed(number),
+        answer: Ok(Progress::Failed(e)),
         cache: c,
     }
 }
@@ -169,7 +156,7 @@ fn done(c: Cache) -> Loaded
     ensures { result ≡ Loads.done c }
 {
     Loaded {
-        answer: Progress::Done,
+        answer: Ok(Progress::Done),
         cache: c,
     }
 }
@@ -178,16 +165,7 @@ fn done(c: Cache) -> Loaded
 pub fn entry_bytes(bytes: &[u8]) -> [u8; 8]
     ensures { result ≡ Loads.entry_bytes bytes.now }
 {
-    [
-        pack::bytes::byte_at(bytes, 0),
-        pack::bytes::byte_at(bytes, 1),
-        pack::bytes::byte_at(bytes, 2),
-        pack::bytes::byte_at(bytes, 3),
-        pack::bytes::byte_at(bytes, 4),
-        pack::bytes::byte_at(bytes, 5),
-        pack::bytes::byte_at(bytes, 6),
-        pack::bytes::byte_at(bytes, 7),
-    ]
+    std::array::from_fn(|i| pack::bytes::byte_at(bytes, i))
 }
 
 // A load begins, or the key is missing where the tile is too large for the cache or for its pages.
@@ -197,13 +175,10 @@ fn began(c: Cache, key: TileKey, offset: u32, len: u32) -> Loaded
     if crate::MAX_TILE_BYTES < len as usize {
         return done(forgot(c, key));
     }
-    let g = c.pages;
-    let b = crate::begin::begin(g, key, len as u16);
-    let at = b.at;
-    match at {
-        Found::Nothing => done(forgot(c, key)),
-        Found::At(slot) => {
-            let d = b.pages;
+    let b = crate::begin::begin(c.pages, key, len as u16);
+    match b.at {
+        None => done(forgot(c, key)),
+        Some(slot) => {
             let l = Loading {
                 key,
                 slot,
@@ -211,40 +186,28 @@ fn began(c: Cache, key: TileKey, offset: u32, len: u32) -> Loaded
                 len,
                 done: 0,
             };
-            let cache = moved(c, d, MaybeLoading::Tile(l));
             Loaded {
-                answer: Progress::More,
-                cache,
+                answer: Ok(Progress::More),
+                cache: moved(c, b.pages, Some(l)),
             }
         }
     }
 }
 
 // The entry came: another tile's load is dropped, and this one's begins.
+#[tactic(auto, using(std::proofs::lemmas::Bool::Decides::nat_tests, crate::proofs::StepLaws::locate_read), unfolding(crate::specs::Loads::entry_step))]
 fn entry_step(c: Cache, header: Header, key: TileKey, failure: u32, bytes: &[u8]) -> Loaded
     ensures { result ≡ Loads.entry_step c header key failure bytes.now }
 {
     let d = dropped(c);
     if failure != 0 {
-        return failed(d, failure);
+        return failed(d, missed(failure));
     }
     let entry = entry_bytes(bytes);
     match pack::grid::locate_of(header, &entry) {
-        Located::NoTile => done(forgot(d, key)),
-        Located::Refused(n) => failed(d, n),
-        Located::Tile(offset, len) => began(d, key, offset, len),
-    }
-}
-
-// The bytes in place of those from `at` on.
-fn copy(arena: &mut [u8], at: usize, bytes: &[u8])
-    requires { at + length bytes.now ≤ length arena.old }
-    ensures { arena.new ≡ paste arena.old at bytes.now (length bytes.now) }
-{
-    let mut i = 0;
-    while i < bytes.len() {
-        arena[at + i] = bytes[i];
-        i += 1;
+        Ok(None) => done(forgot(d, key)),
+        Err(e) => failed(d, e),
+        Ok(Some((offset, len))) => began(d, key, offset, len),
     }
 }
 
@@ -263,7 +226,7 @@ pub fn put(arena: &mut [u8], slot: usize, done: u32, bytes: &[u8])
     if arena.len() - at < bytes.len() {
         return;
     }
-    copy(arena, at, bytes);
+    arena[at..at + bytes.len()].copy_from_slice(bytes);
 }
 
 // The run from page `at` on ready, and the most recently used.
@@ -271,7 +234,7 @@ fn ready_pages(g: Pages, at: usize) -> Pages
     ensures { result ≡ Endings.ready_pages g at }
 {
     let mut d = g;
-    let age = std::num::wrapping_add_u32(d.clock, 1);
+    let age = d.clock.wrapping_add(1);
     d.clock = age;
     if crate::MAX_PAGES <= at {
         return d;
@@ -282,12 +245,12 @@ fn ready_pages(g: Pages, at: usize) -> Pages
 }
 
 // The pages without the run of a load.
-fn without_run(g: Pages, loading: MaybeLoading) -> Pages
+fn without_run(g: Pages, loading: Option<Loading>) -> Pages
     ensures { result ≡ Loads.without_run loading g }
 {
     match loading {
-        MaybeLoading::Nothing => g,
-        MaybeLoading::Tile(l) => crate::evict::evict(g, l.slot, 1),
+        None => g,
+        Some(l) => crate::evict::evict(g, l.slot, 1),
     }
 }
 
@@ -295,12 +258,10 @@ fn without_run(g: Pages, loading: MaybeLoading) -> Pages
 fn ended_pages(c: Cache, at: usize, ok: bool) -> Pages
     ensures { result ≡ Endings.ended_pages ok c.pages c.loading at }
 {
-    let g = c.pages;
     if ok {
-        return ready_pages(g, at);
+        return ready_pages(c.pages, at);
     }
-    let loading = c.loading;
-    without_run(g, loading)
+    without_run(c.pages, c.loading)
 }
 
 // The ring that it leaves: a tile that does not pass is missing.
@@ -317,7 +278,7 @@ fn ended_loads(loads: u32, ok: bool) -> u32
     ensures { result ≡ Endings.ended_loads ok loads }
 {
     if ok {
-        return std::num::wrapping_add_u32(loads, 1);
+        return loads.wrapping_add(1);
     }
     loads
 }
@@ -328,15 +289,13 @@ fn ended(c: Cache, arena: &[u8], l: Loading, size: u32) -> Cache
 {
     let ok = crate::look::passes(arena, l.slot, l.len as usize, l.key, size);
     let pages = ended_pages(c, l.slot, ok);
-    let ring = c.missing;
-    let missing = ended_ring(ring, l.key, ok);
-    let old = c.pending;
-    let pending = withdrawn(old);
+    let missing = ended_ring(c.missing, l.key, ok);
+    let pending = withdrawn(c.pending);
     let loads = ended_loads(c.loads, ok);
     Cache {
         pages,
         missing,
-        loading: MaybeLoading::Nothing,
+        loading: None,
         pending,
         loads,
     }
@@ -346,19 +305,11 @@ fn ended(c: Cache, arena: &[u8], l: Loading, size: u32) -> Cache
 fn further(c: Cache, l: Loading, come: u32) -> Cache
     ensures { result ≡ Loads.further c l come }
 {
-    let key = l.key;
-    let more = Loading {
-        key,
-        slot: l.slot,
-        offset: l.offset,
-        len: l.len,
-        done: come,
-    };
-    let g = c.pages;
-    moved(c, g, MaybeLoading::Tile(more))
+    moved(c, c.pages, Some(Loading { done: come, ..l }))
 }
 
 // A chunk came.
+#[tactic(auto, using(std::proofs::lemmas::Bool::Decides::nat_tests, crate::proofs::StepLaws::chunk_less), unfolding(crate::specs::Loads::chunk_step))]
 fn chunk_step(
     c: Cache,
     l: Loading,
@@ -371,15 +322,14 @@ fn chunk_step(
     ensures arena_after { arena.new ≡ (Loads.chunk_step c l arena.old size failure bytes.now).arena }
 {
     if failure != 0 {
-        return failed(dropped(c), failure);
+        return failed(dropped(c), missed(failure));
     }
     put(arena, l.slot, l.done, bytes);
     let come = l.done + chunk_len(l);
     if come < l.len {
-        let cache = further(c, l, come);
         return Loaded {
-            answer: Progress::More,
-            cache,
+            answer: Ok(Progress::More),
+            cache: further(c, l, come),
         };
     }
     done(ended(c, &arena[..], l, size))
@@ -389,12 +339,11 @@ fn chunk_step(
 fn ready_step(c: Cache, i: usize, arena: &[u8], key: TileKey, size: u32) -> Loaded
     ensures { result ≡ Loads.ready_step c i arena.now key size }
 {
-    let g = c.pages;
-    let s = crate::runs::slot_at(g, i);
+    let s = crate::runs::slot_at(c.pages, i);
     if crate::look::passes(arena, i, s.len as usize, key, size) {
         return done(crate::look::touch(c, i));
     }
-    refused(c, 12)
+    refused(c, Refusal::BadState)
 }
 
 // A chunk of no bytes, which only a load that has all of its tile asks for: the tile is checked. 11 where there are bytes to come.
@@ -404,7 +353,7 @@ fn chunk_unread(c: Cache, l: Loading, arena: &[u8], size: u32) -> Loaded
     if l.len <= l.done {
         return done(ended(c, arena, l, size));
     }
-    refused(c, 11)
+    refused(c, Refusal::NotAsked)
 }
 
 // The step `n` with failure 0 and no bytes: 11 where a read is made.
@@ -414,7 +363,7 @@ pub(crate) fn unread_step(c: Cache, n: Next, arena: &[u8], key: TileKey, size: u
     match n {
         Next::Missing => done(c),
         Next::NoPages => done(forgot(c, key)),
-        Next::Entry => refused(c, 11),
+        Next::Entry => refused(c, Refusal::NotAsked),
         Next::Chunk(l) => chunk_unread(c, l, arena, size),
         Next::Ready(i) => ready_step(c, i, arena, key, size),
     }
@@ -443,24 +392,26 @@ pub(crate) fn stepped(
 }
 
 // The entry read from the lent pack.
+#[tactic(auto, using(std::proofs::lemmas::Bool::Decides::nat_tests, crate::proofs::StepLaws::read_there, crate::proofs::StepLaws::read_part, crate::proofs::StepLaws::read_past, pack::proofs::Laws::read_at))]
 fn entry_from(c: Cache, header: Header, key: TileKey, pack: &[u8]) -> Loaded
     ensures { result ≡ Loads.entry_from c header key pack.now }
 {
     match pack::read(pack, pack::grid::entry_of(header, key), pack::ENTRY_BYTES) {
-        Range::At(a) => entry_step(c, header, key, 0, &pack[a..a + pack::ENTRY_BYTES]),
-        Range::Refused(_) => entry_step(c, header, key, 2, &pack[..0]),
+        Ok(a) => entry_step(c, header, key, 0, &pack[a..a + pack::ENTRY_BYTES]),
+        Err(_) => entry_step(c, header, key, 2, &pack[..0]),
     }
 }
 
 // A chunk read from the lent pack.
+#[tactic(auto, using(std::proofs::lemmas::Bool::Decides::nat_tests, crate::proofs::StepLaws::read_there, crate::proofs::StepLaws::read_part, crate::proofs::StepLaws::read_past, pack::proofs::Laws::read_at))]
 fn chunk_from(c: Cache, l: Loading, arena: &mut [u8], size: u32, pack: &[u8]) -> Loaded
     ensures value { result ≡ Loads.told (Loads.chunk_from c l arena.old size pack.now) }
     ensures arena_after { arena.new ≡ (Loads.chunk_from c l arena.old size pack.now).arena }
 {
     let len = chunk_len(l) as usize;
     match pack::read(pack, chunk_offset(l), len) {
-        Range::At(a) => chunk_step(c, l, arena, size, 0, &pack[a..a + len]),
-        Range::Refused(_) => chunk_step(c, l, arena, size, 2, &pack[..0]),
+        Ok(a) => chunk_step(c, l, arena, size, 0, &pack[a..a + len]),
+        Err(_) => chunk_step(c, l, arena, size, 2, &pack[..0]),
     }
 }
 

@@ -8,10 +8,9 @@ use crate::{Aging, Cache};
 pub fn uses_of(c: Cache) -> Aging
     ensures { result ≡ Uses.uses_of c }
 {
-    let g = c.pages;
-    let used = g.used;
+    let used = c.pages.used;
     Aging {
-        clock: g.clock,
+        clock: c.pages.clock,
         used,
     }
 }
@@ -21,7 +20,7 @@ pub fn used_at(a: Aging, i: usize) -> Aging
     ensures { result ≡ Uses.used_at a i }
 {
     let mut d = a;
-    let now = std::num::wrapping_add_u32(d.clock, 1);
+    let now = d.clock.wrapping_add(1);
     d.clock = now;
     if i < crate::MAX_PAGES {
         d.used[i] = now;
@@ -34,10 +33,8 @@ pub fn with_uses(c: Cache, a: Aging) -> Cache
     ensures { result ≡ Uses.with_uses c a }
 {
     let mut d = c;
-    let mut g = d.pages;
-    g.clock = a.clock;
     let used = a.used;
-    g.used = used;
-    d.pages = g;
+    d.pages.used = used;
+    d.pages.clock = a.clock;
     d
 }

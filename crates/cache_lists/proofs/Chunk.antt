@@ -1,6 +1,7 @@
 -- A chunk written: the arena changes in the chunk's own bytes alone (`put_written`), and none of these is of a run that is ready, since the
 -- load's run is not and runs are apart. So each ready run holds what it held (`ready_kept`), and a key that is ready before and after has the same bytes
 -- (`bytes_kept`), since it has one ready run.
+use Rattle.std.specs.Prelude.{Option, Some, None}
 use Prim.Native.Nat.{ℕ, ◌+◌, ◌*◌, ◌<◌, ◌≤◌}
 use mathlib.Core.Path.{◌≡◌, refl, sym, ap, ◌∙◌}
 use mathlib.Core.Bool.{true, true≢false}
@@ -16,8 +17,6 @@ use Rattle.cache.proofs.RunLaws.{span_holds, apart}
 use Rattle.cache.proofs.FillLaws.{out}
 use Rattle.cache.specs.declared.Cache.{Cache}
 use Rattle.cache.specs.declared.Loading.{Loading}
-use Rattle.cache.specs.declared.MaybeLoading.{MaybeLoading}
-use Rattle.cache.specs.declared.MaybeLoading.TheVariants as MaybeLoading
 use Rattle.cache.specs.Lookups.{run_bytes, len_at}
 use Rattle.cache.specs.Loads.{chunk_len, put}
 use Rattle.cache_lists.specs.Claims.{OfChunk, Kind, keeps, brings, MayWrite, Written, SameBytes}
@@ -33,17 +32,17 @@ pub chunk_only : (k : Kind) (c : Cache) {before after : List ℕ} → Written (M
 chunk_only keeps c w = record { size = w.size; others = λ b o. w.others b (λ z. z) }
 chunk_only brings c w = w
 
-pub put_written : (l : Loading) (arena bs : List ℕ) → length bs ≡ chunk_len l → Written (OfChunk (MaybeLoading.Tile l)) arena (put arena l.slot l.done bs)
+pub put_written : (l : Loading) (arena bs : List ℕ) → length bs ≡ chunk_len l → Written (OfChunk (Some l)) arena (put arena l.slot l.done bs)
 put_written l arena bs size = record {
   size = put_size arena l.slot l.done bs;
-  others = λ (b : ℕ) (o : OfChunk (MaybeLoading.Tile l) b → ⊥). put_same arena l.slot l.done bs b (out _ _ b (λ p q. o (p, rw size at q)));
+  others = λ (b : ℕ) (o : OfChunk (Some l) b → ⊥). put_same arena l.slot l.done bs b (out _ _ b (λ p q. o (p, rw size at q)));
 }
 
 -- byte b of a ready run, the one from page i on
 module _ (g : Pages) (f : InvPages g) (i b : ℕ) (ready : (slot_at g.slots i).ready ≡ true) (from : i * 8192 ≤ b) (below : b < i * 8192 + (slot_at g.slots i).len) where
-  chunk_apart : (x : MaybeLoading) → LoadIn g.slots x → OfChunk x b → ⊥
-  chunk_apart MaybeLoading.Nothing r o = o
-  chunk_apart (MaybeLoading.Tile l) r o = ⊎_elim before (λ k. after (omega (arith, k, other))) (below_or i l.slot)
+  chunk_apart : (x : Option Loading) → LoadIn g.slots x → OfChunk x b → ⊥
+  chunk_apart None r o = o
+  chunk_apart (Some l) r o = ⊎_elim before (λ k. after (omega (arith, k, other))) (below_or i l.slot)
     where
       starts : kind_at g.slots i ≡ run
       starts = ready_run g f i ready

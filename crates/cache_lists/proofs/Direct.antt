@@ -7,11 +7,11 @@ use mathlib.Core.List.{List}
 use borrow.Author.Tests.{lt-ltb, le-ltb, le-leb, eq-eqb, ne_eqb}
 use lib.Dec.{eqb, ltb, leb}
 use lib.ListN.{length, take, drop}
+use Rattle.std.specs.Prelude.{Option, Some, None, Result, Ok, Err}
+use Rattle.refusal.specs.declared.Refusal.{Refusal}
 use Rattle.pack.specs.Grid.{in_grid, entry_of, locate_of}
 use Rattle.pack.specs.declared.TileKey.{TileKey}
 use Rattle.pack.specs.declared.Header.{Header}
-use Rattle.pack.specs.declared.Located.{Located}
-use Rattle.pack.specs.declared.Located.TheVariants as Located
 use Rattle.cache.specs.Runs.{span}
 use Rattle.tile.specs.Parse.{accepts}
 use Rattle.cache.specs.Direct.{Look, ready, missing, absent, stale, direct_tile, direct_at, direct}
@@ -34,10 +34,10 @@ module _ (P : List ℕ) (h : Header) (n : ℕ) (key : TileKey) where
       by true false e = tt
       by false u e = tt
 
-  at_accepted : (x : Located) → Accepted (direct_at x P h n key)
-  at_accepted Located.NoTile = tt
-  at_accepted (Located.Refused number) = tt
-  at_accepted (Located.Tile offset len) = by (ltb 49152 len || ltb n (span len))
+  at_accepted : (x : Result (Option (ℕ × ℕ)) Refusal) → Accepted (direct_at x P h n key)
+  at_accepted (Ok None) = tt
+  at_accepted (Err number) = tt
+  at_accepted (Ok (Some (offset, len))) = by (ltb 49152 len || ltb n (span len))
     where
       by : (t : Bool) → Accepted (cond t missing (direct_tile P h key offset len))
       by true = tt
@@ -69,17 +69,17 @@ module _ (P : List ℕ) (h : Header) (n : ℕ) (key : TileKey) where
   unfolding direct
   direct_entry z g e = rw (ne_eqb n 0 z, g, le-leb (entry_of h key + 8) (length P) e)
 
-  pub at_long : (offset len : ℕ) → 49152 < len → direct_at (Located.Tile offset len) P h n key ≡ missing
+  pub at_long : (offset len : ℕ) → 49152 < len → direct_at (Ok (Some (offset, len))) P h n key ≡ missing
   at_long offset len e = rw (lt-ltb 49152 len e)
 
-  pub at_wide : (offset len : ℕ) → n < span len → direct_at (Located.Tile offset len) P h n key ≡ missing
+  pub at_wide : (offset len : ℕ) → n < span len → direct_at (Ok (Some (offset, len))) P h n key ≡ missing
   at_wide offset len e = by (ltb 49152 len)
     where
       by : (t : Bool) → cond (t || ltb n (span len)) missing (direct_tile P h key offset len) ≡ missing
       by true = refl
       by false = rw (lt-ltb n (span len) e)
 
-  pub at_tile : (offset len : ℕ) → len ≤ 49152 → span len ≤ n → direct_at (Located.Tile offset len) P h n key ≡ direct_tile P h key offset len
+  pub at_tile : (offset len : ℕ) → len ≤ 49152 → span len ≤ n → direct_at (Ok (Some (offset, len))) P h n key ≡ direct_tile P h key offset len
   at_tile offset len e s = rw (le-ltb 49152 len e, le-ltb n (span len) s)
 
   -- ---- by the bytes

@@ -1,6 +1,7 @@
 -- The state's own invariant, with no premise on what was delivered (`Inv`): well-formed pages of which none is ready but the first of a run, a ring of 64 places and a place in it, a
 -- load that has its run, no run that is neither ready nor the load's, an open fetch that the state makes. It has in it what number 12 tests
 -- (`inv_ok`), a fresh cache has it, and each change of the state keeps it. So live runs lie within the pages and apart (`inv_apart`).
+use Rattle.std.specs.Prelude.{Option, Some, None}
 use Prim.Native.Nat.{ℕ, ◌+◌, ◌-◌, ◌<◌, ◌≤◌}
 use mathlib.Core.Path.{◌≡◌, refl, ap, ◌∙◌}
 use mathlib.Core.Bool.{Bool, true, false, cond}
@@ -13,7 +14,6 @@ use lib.ListN.{length, replicate, length-replicate, length-set}
 use Rattle.pack.specs.declared.TileKey.{TileKey}
 use Rattle.cache.specs.declared.Slot.{Slot}
 use Rattle.cache.specs.declared.Pages.{Pages}
-use Rattle.cache.specs.declared.MaybeKey.TheVariants as MaybeKey
 use Rattle.cache.specs.Runs.{span, empty_slot, slot_at, run, kind_of, kind_at, Good, Sound}
 use Rattle.cache.specs.Evict.{evicted, head_slot}
 use Rattle.cache.specs.Begin.{replaced}
@@ -22,12 +22,8 @@ use Rattle.cache.proofs.EvictLaws.{SameOrEmpty, evicted_count, sound_evicted, ev
 use Rattle.cache.proofs.BeginLaws.{sound_replaced}
 use Rattle.cache.specs.declared.Cache.{Cache}
 use Rattle.cache.specs.declared.Loading.{Loading}
-use Rattle.cache.specs.declared.MaybeLoading.{MaybeLoading}
-use Rattle.cache.specs.declared.MaybeLoading.TheVariants as MaybeLoading
 use Rattle.cache.specs.declared.Pending.{Pending}
-use Rattle.cache.specs.declared.Pending.TheVariants as Pending
 use Rattle.cache.specs.declared.look.Landing.{Landing}
-use Rattle.cache.specs.declared.look.Landing.TheVariants as Landing
 use Rattle.cache.specs.declared.next.Next.TheVariants as Next
 use Rattle.cache.specs.Keys.{empty_place, is_ready, ready_at, forgotten}
 use Rattle.cache.specs.Lookups.{lands_on, touched, next_at, next_step}
@@ -43,15 +39,15 @@ use Rattle.cache_lists.proofs.Live.{LiveIn, none_live, evicted_live, replaced_li
 -- the load has its run, not ready, with the load's key and length, of 49,152 bytes at most, and has not all of it
 pub record Loads (s : List Slot) (l : Loading) : Type 0 where
   pub run : kind_at s l.slot ≡ run
-  pub key : (slot_at s l.slot).key ≡ MaybeKey.Key l.key
+  pub key : (slot_at s l.slot).key ≡ Some l.key
   pub len : (slot_at s l.slot).len ≡ l.len
   pub waits : (slot_at s l.slot).ready ≡ false
   pub below : l.done < l.len
   pub short : l.len ≤ 49152
 
-abbrev pub LoadIn : List Slot → MaybeLoading → Type 0
-LoadIn s MaybeLoading.Nothing = Unit
-LoadIn s (MaybeLoading.Tile l) = Loads s l
+abbrev pub LoadIn : List Slot → Option Loading → Type 0
+LoadIn s None = Unit
+LoadIn s (Some l) = Loads s l
 
 -- well-formed, a page that is marked ready starts a run, and a key has one ready run. Number 12 doesn't ask the last two, and no call leaves anything else
 pub record InvPages (g : Pages) : Type 0 where
@@ -79,16 +75,16 @@ pub record Inv (c : Cache) : Type 0 where
 pub inv_short : (c : Cache) → Inv c → ShortLoad c.loading
 inv_short c f = by c.loading f.load
   where
-    by : (x : MaybeLoading) → LoadIn c.pages.slots x → ShortLoad x
-    by MaybeLoading.Nothing l = tt
-    by (MaybeLoading.Tile l) r = r.short
+    by : (x : Option Loading) → LoadIn c.pages.slots x → ShortLoad x
+    by None l = tt
+    by (Some l) r = r.short
 
 -- ---- it is what number 12 tests
 
-loads_ok_lem : (g : Pages) (x : MaybeLoading) → LoadIn g.slots x → loads_ok g x ≡ true
+loads_ok_lem : (g : Pages) (x : Option Loading) → LoadIn g.slots x → loads_ok g x ≡ true
 unfolding tile_loads
-loads_ok_lem g MaybeLoading.Nothing f = refl
-loads_ok_lem g (MaybeLoading.Tile l) f = rw (f.run, f.key, key_same l.key, eq-eqb _ _ f.len, f.waits, lt-ltb l.done l.len f.below)
+loads_ok_lem g None f = refl
+loads_ok_lem g (Some l) f = rw (f.run, f.key, key_same l.key, eq-eqb _ _ f.len, f.waits, lt-ltb l.done l.len f.below)
 
 pub inv_ok : (c : Cache) → Inv c → state_ok c ≡ true
 unfolding state_ok
@@ -99,9 +95,9 @@ inv_ok c f = rw (sound_ok c.pages (sound_in c.pages f.pages), lt-ltb c.missing.n
 pub ready_run : (g : Pages) → InvPages g → (p : ℕ) → (slot_at g.slots p).ready ≡ true → kind_at g.slots p ≡ run
 ready_run g f p e = f.marks p e
 
-loads_run : (s : List Slot) (x : MaybeLoading) (h : ℕ) → LoadIn s x → LoadsAt x h → kind_at s h ≡ run
-loads_run s MaybeLoading.Nothing h f e = absurd e
-loads_run s (MaybeLoading.Tile l) h f e = rw (← e) f.run
+loads_run : (s : List Slot) (x : Option Loading) (h : ℕ) → LoadIn s x → LoadsAt x h → kind_at s h ≡ run
+loads_run s None h f e = absurd e
+loads_run s (Some l) h f e = rw (← e) f.run
 
 live_run : (c : Cache) → Inv c → (h : ℕ) → Live c h → kind_at c.pages.slots h ≡ run
 live_run c f h o = ⊎_elim (ready_run c.pages f.pages h) (loads_run c.pages.slots c.loading h f.load) o
@@ -130,7 +126,7 @@ inv_fresh n h = record {
   pages = pages_empty (replicate 96 0) n 0 h;
   places = length-replicate 64 empty_place;
   ring = omega arith;
-  live = none_live MaybeLoading.Nothing;
+  live = none_live None;
   load = tt;
   pending = refl;
 }
@@ -141,7 +137,7 @@ inv_cleared c f = record {
   pages = pages_empty c.pages.used c.pages.count c.pages.clock f.pages.small;
   places = length-replicate 64 empty_place;
   ring = f.ring;
-  live = none_live MaybeLoading.Nothing;
+  live = none_live None;
   load = tt;
   pending = refl;
 }
@@ -158,9 +154,9 @@ touched_next : (c : Cache) (i : ℕ) (key : TileKey) → next_step (touched c i)
 unfolding next_step lands_on ready_at touched
 touched_next c i key = touched_at c i key (lands_on c key)
 
-touched_chunk : (c : Cache) (i : ℕ) (x : MaybeLoading) → wants_chunk_of x (touched c i) ≡ wants_chunk_of x c
-touched_chunk c i MaybeLoading.Nothing = refl
-touched_chunk c i (MaybeLoading.Tile l) = ap is_chunk (touched_next c i l.key)
+touched_chunk : (c : Cache) (i : ℕ) (x : Option Loading) → wants_chunk_of x (touched c i) ≡ wants_chunk_of x c
+touched_chunk c i None = refl
+touched_chunk c i (Some l) = ap is_chunk (touched_next c i l.key)
 
 touched_fits : (c : Cache) (i : ℕ) (p : Pending) → pending_fits p (touched c i) ≡ pending_fits p c
 unfolding touched
@@ -199,7 +195,7 @@ inv_forgot c key f = record {
   pending = withdrawn_fits c.pending (forgot c key);
 }
 
-inv_moved : (c : Cache) (g : Pages) (x : MaybeLoading) → Inv c → InvPages g → LiveIn g.slots x → LoadIn g.slots x → Inv (moved c g x)
+inv_moved : (c : Cache) (g : Pages) (x : Option Loading) → Inv c → InvPages g → LiveIn g.slots x → LoadIn g.slots x → Inv (moved c g x)
 unfolding moved
 inv_moved c g x f s a l = record {
   pages = s;
@@ -217,33 +213,33 @@ pub loads_within : (g : Pages) (l : Loading) → InvPages g → Loads g.slots l 
 loads_within g l f r = rw r.len at (inside g.slots g.count f.good l.slot r.run)
 
 module _ (g : Pages) where
-  pub without_count : (x : MaybeLoading) → (without_run x g).count ≡ g.count
-  without_count MaybeLoading.Nothing = refl
-  without_count (MaybeLoading.Tile l) = evicted_count 1 l.slot g
+  pub without_count : (x : Option Loading) → (without_run x g).count ≡ g.count
+  without_count None = refl
+  without_count (Some l) = evicted_count 1 l.slot g
 
   first_within : (l : Loading) → InvPages g → Loads g.slots l → l.slot + 1 ≤ g.count
   first_within l f r = omega (arith, loads_within g l f r, span_pos l.len)
 
-  pages_without : (x : MaybeLoading) → InvPages g → LoadIn g.slots x → InvPages (without_run x g)
-  pages_without MaybeLoading.Nothing f r = f
-  pages_without (MaybeLoading.Tile l) f r =
+  pages_without : (x : Option Loading) → InvPages g → LoadIn g.slots x → InvPages (without_run x g)
+  pages_without None f r = f
+  pages_without (Some l) f r =
       let s : Sound g = sound_in g f in
       let b : l.slot + 1 ≤ g.count = first_within l f r in
       pages_in (evicted 1 l.slot g) (sound_evicted 1 l.slot g s b) (evicted_marked 1 l.slot g s b f.marks)
       (fewer_once g.slots (evicted 1 l.slot g).slots (evicted_fewer 1 l.slot g s b) f.once)
 
-  live_without : (x : MaybeLoading) → InvPages g → LoadIn g.slots x → LiveIn g.slots x → LiveIn (without_run x g).slots MaybeLoading.Nothing
-  live_without MaybeLoading.Nothing f r a = a
-  live_without (MaybeLoading.Tile l) f r a = evicted_live g l (sound_in g f) (first_within l f r) a
+  live_without : (x : Option Loading) → InvPages g → LoadIn g.slots x → LiveIn g.slots x → LiveIn (without_run x g).slots None
+  live_without None f r a = a
+  live_without (Some l) f r a = evicted_live g l (sound_in g f) (first_within l f r) a
 
-  pub without_either : (x : MaybeLoading) → InvPages g → LoadIn g.slots x → (i : ℕ) → SameOrEmpty g (without_run x g) i
-  without_either MaybeLoading.Nothing f r i = inl refl
-  without_either (MaybeLoading.Tile l) f r i = evicted_either 1 l.slot g (sound_in g f) (first_within l f r) i
+  pub without_either : (x : Option Loading) → InvPages g → LoadIn g.slots x → (i : ℕ) → SameOrEmpty g (without_run x g) i
+  without_either None f r i = inl refl
+  without_either (Some l) f r i = evicted_either 1 l.slot g (sound_in g f) (first_within l f r) i
 
 pub inv_dropped : (c : Cache) → Inv c → Inv (dropped c)
 unfolding dropped
 inv_dropped c f =
-    inv_moved c (without_run c.loading c.pages) MaybeLoading.Nothing f
+    inv_moved c (without_run c.loading c.pages) None f
     (pages_without c.pages c.loading f.pages f.load)
     (live_without c.pages c.loading f.pages f.load f.live)
     tt
@@ -253,7 +249,7 @@ pub dropped_fewer : (c : Cache) → Inv c → Fewer c.pages.slots (dropped c).pa
 unfolding dropped moved
 dropped_fewer c f h r = either_fewer (slot_at c.pages.slots h) _ (without_either c.pages c.loading f.pages f.load h) r
 
-pub dropped_load : (c : Cache) → (dropped c).loading ≡ MaybeLoading.Nothing
+pub dropped_load : (c : Cache) → (dropped c).loading ≡ None
 unfolding dropped moved
 dropped_load c = refl
 
@@ -266,11 +262,11 @@ module _ (g : Pages) (s : ℕ) (key : TileKey) (len : ℕ) (f : Sound g) (fits :
       record { run = ap kind_of replaced_head; key = rw replaced_head; len = rw replaced_head; waits = rw replaced_head; below = h; short = b }
 
 -- where no load is
-pub inv_began : (c : Cache) (s : ℕ) (key : TileKey) (offset len : ℕ) → Inv c → c.loading ≡ MaybeLoading.Nothing → s + span len ≤ c.pages.count → 0 < len
-    → len ≤ 49152 → Inv (moved c (replaced c.pages s key len) (MaybeLoading.Tile (new_load key s offset len)))
+pub inv_began : (c : Cache) (s : ℕ) (key : TileKey) (offset len : ℕ) → Inv c → c.loading ≡ None → s + span len ≤ c.pages.count → 0 < len
+    → len ≤ 49152 → Inv (moved c (replaced c.pages s key len) (Some (new_load key s offset len)))
 inv_began c s key offset len f e fits h b =
     let sound : Sound c.pages = sound_in c.pages f.pages in
-    inv_moved c (replaced c.pages s key len) (MaybeLoading.Tile (new_load key s offset len)) f
+    inv_moved c (replaced c.pages s key len) (Some (new_load key s offset len)) f
     (pages_in (replaced c.pages s key len) (sound_replaced c.pages s key len sound fits) (replaced_marked c.pages s key len sound fits f.pages.marks)
     (fewer_once c.pages.slots (replaced c.pages s key len).slots (replaced_fewer c.pages s key len sound fits) f.pages.once))
     (replaced_live c.pages s key offset len sound fits (rw e at f.live))
@@ -286,11 +282,11 @@ unfolding chunk_len
 chunk_room l b = chunk_by l (ltb (l.len - l.done) 2048) refl b
 
 -- with the load that the state has
-module _ (c : Cache) (l : Loading) (f : Inv c) (e : c.loading ≡ MaybeLoading.Tile l) where
+module _ (c : Cache) (l : Loading) (f : Inv c) (e : c.loading ≡ Some l) where
   r : Loads c.pages.slots l
   r = rw e at f.load
 
-  live : LiveIn c.pages.slots (MaybeLoading.Tile l)
+  live : LiveIn c.pages.slots (Some l)
   live = rw e at f.live
 
   pub inv_further : (come : ℕ) → come < l.len → Inv (further c l come)

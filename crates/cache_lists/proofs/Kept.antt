@@ -1,6 +1,7 @@
 -- The invariant under the premises of one pack (`Kept`): beside the state's own, each ready run holds what the direct lookup gives, each key
 -- of the ring is missing there, and what has come of the load is the pack's. Each change of state and arena keeps it. A chunk is written
 -- within its load's run, and runs are apart, so that what other runs hold stays.
+use Rattle.std.specs.Prelude.{Option, Some, None}
 use Prim.Native.Nat.{ℕ, ◌+◌, ◌*◌, ◌<◌, ◌≤◌}
 use mathlib.Core.Path.{◌≡◌, refl, sym, ap, ◌∙◌}
 use mathlib.Core.Bool.{true, false, true≢false}
@@ -14,8 +15,6 @@ use Rattle.pack.specs.declared.TileKey.{TileKey}
 use Rattle.pack.specs.declared.Header.{Header}
 use Rattle.cache.specs.declared.Slot.{Slot}
 use Rattle.cache.specs.declared.Pages.{Pages}
-use Rattle.cache.specs.declared.MaybeKey.{MaybeKey}
-use Rattle.cache.specs.declared.MaybeKey.TheVariants as MaybeKey
 use Rattle.cache.specs.Runs.{span, empty_slot, slot_at, Sound}
 use Rattle.cache.specs.Evict.{evicted, head_slot, piece_slot}
 use Rattle.cache.specs.Begin.{replaced}
@@ -24,11 +23,8 @@ use Rattle.cache.proofs.RunLaws.{span_holds}
 use Rattle.cache.proofs.FillLaws.{Out, out_or}
 use Rattle.cache.proofs.EvictLaws.{evicted_count, sound_evicted, evicted_either, placed_same, placed_piece}
 use Rattle.tile.specs.Parse.{accepts}
-use Rattle.cache.specs.declared.RingKey.{RingKey}
 use Rattle.cache.specs.declared.Cache.{Cache}
 use Rattle.cache.specs.declared.Loading.{Loading}
-use Rattle.cache.specs.declared.MaybeLoading.{MaybeLoading}
-use Rattle.cache.specs.declared.MaybeLoading.TheVariants as MaybeLoading
 use Rattle.cache.specs.Keys.{empty_place, key_at, forgotten}
 use Rattle.cache.specs.declared.next.Next.TheVariants as Next
 use Rattle.cache.specs.Lookups.{run_bytes, passes, touched, next_step}
@@ -45,19 +41,19 @@ use Rattle.cache_lists.proofs.Direct.{tile_ready, tile_missing}
 module _ (P : List ℕ) (h : Header) (n : ℕ) where
   -- a ready run from page i on holds what the direct lookup gives for its key
   abbrev pub SlotHolds : List ℕ → ℕ → Slot → Type 0
-  SlotHolds arena i s = (k : TileKey) → s.ready ≡ true → s.key ≡ MaybeKey.Key k → direct P h n k ≡ ready (run_bytes arena i s.len)
+  SlotHolds arena i s = (k : TileKey) → s.ready ≡ true → s.key ≡ Some k → direct P h n k ≡ ready (run_bytes arena i s.len)
 
-  abbrev pub RingHolds : MaybeKey → Type 0
-  RingHolds m = (k : TileKey) → m ≡ MaybeKey.Key k → direct P h n k ≡ missing
+  abbrev pub RingHolds : Option TileKey → Type 0
+  RingHolds m = (k : TileKey) → m ≡ Some k → direct P h n k ≡ missing
 
   -- the load is of the tile that the direct lookup reads, and what has come of it is the pack's
   pub record LoadHolds (arena : List ℕ) (l : Loading) : Type 0 where
     pub is : direct P h n l.key ≡ direct_tile P h l.key l.offset l.len
     pub bytes : take l.done (drop (l.slot * 8192) arena) ≡ take l.done (drop l.offset P)
 
-  abbrev pub LoadKept : List ℕ → MaybeLoading → Type 0
-  LoadKept arena MaybeLoading.Nothing = Unit
-  LoadKept arena (MaybeLoading.Tile l) = LoadHolds arena l
+  abbrev pub LoadKept : List ℕ → Option Loading → Type 0
+  LoadKept arena None = Unit
+  LoadKept arena (Some l) = LoadHolds arena l
 
   pub record Kept (c : Cache) (arena : List ℕ) : Type 0 where
     pub inv : Inv c
@@ -75,10 +71,10 @@ module _ (P : List ℕ) (h : Header) (n : ℕ) where
   empty_slots : (arena : List ℕ) (i : ℕ) → SlotHolds arena i (slot_at (replicate 96 empty_slot) i)
   empty_slots arena i = rw (get_d_same 96 i empty_slot) (waits arena i empty_slot refl)
 
-  empty_place_lem : RingHolds empty_place.key
+  empty_place_lem : RingHolds empty_place
   empty_place_lem k e = let z : ◌≡◌ {A = ℕ} 0 1 = cc in absurd (omega arith)
 
-  empty_ring : (i : ℕ) → RingHolds (get_or (replicate 64 empty_place) i empty_place).key
+  empty_ring : (i : ℕ) → RingHolds (get_or (replicate 64 empty_place) i empty_place)
   empty_ring i = rw (get_d_same 64 i empty_place) empty_place_lem
 
   pub kept_fresh : (arena : List ℕ) → n ≤ 96 → Kept (fresh n) arena
@@ -101,8 +97,8 @@ module _ (P : List ℕ) (h : Header) (n : ℕ) where
     inv = inv_forgot c key f.inv;
     count = f.count;
     slots = f.slots;
-    ring = λ (i : ℕ). set_cases (λ (x : RingKey). RingHolds x.key) c.missing.keys c.missing.next i (record { key = MaybeKey.Key key }) empty_place
-        (λ (e : i ≡ c.missing.next) (k : TileKey) (q : MaybeKey.Key key ≡ MaybeKey.Key k). let same : key ≡ k = cc in rw same at m)
+    ring = λ (i : ℕ). set_cases (λ (x : Option TileKey). RingHolds x) c.missing.keys c.missing.next i (Some key) empty_place
+        (λ (e : i ≡ c.missing.next) (k : TileKey) (q : Some key ≡ Some k). let same : key ≡ k = cc in rw same at m)
         (f.ring i)
         empty_place_lem;
     load = f.load;
@@ -139,9 +135,9 @@ module _ (P : List ℕ) (h : Header) (n : ℕ) where
             rw (placed_piece (evicted (span len) s g) s key len i (omega (arith, e)) b.1 (omega (arith, (sound_evicted (span len) s g f fits).size, f.small)))
             (waits arena i (piece_slot s) refl)
 
-  pub kept_began : (c : Cache) (arena : List ℕ) (s : ℕ) (key : TileKey) (offset len : ℕ) → Kept c arena → c.loading ≡ MaybeLoading.Nothing → s + span len ≤ c.pages.count → 0 < len
+  pub kept_began : (c : Cache) (arena : List ℕ) (s : ℕ) (key : TileKey) (offset len : ℕ) → Kept c arena → c.loading ≡ None → s + span len ≤ c.pages.count → 0 < len
       → len ≤ 49152 → direct P h n key ≡ direct_tile P h key offset len
-      → Kept (moved c (replaced c.pages s key len) (MaybeLoading.Tile (new_load key s offset len))) arena
+      → Kept (moved c (replaced c.pages s key len) (Some (new_load key s offset len))) arena
   unfolding moved
   kept_began c arena s key offset len f e fits pos short d = record {
     inv = inv_began c s key offset len f.inv e fits pos short;
@@ -154,7 +150,7 @@ module _ (P : List ℕ) (h : Header) (n : ℕ) where
   -- ---- a chunk written
 
   -- the load l with the bytes of its next chunk, which are the pack's, over an arena that holds the pages
-  module _ (c : Cache) (arena : List ℕ) (l : Loading) (bs : List ℕ) (f : Kept c arena) (is : c.loading ≡ MaybeLoading.Tile l)
+  module _ (c : Cache) (arena : List ℕ) (l : Loading) (bs : List ℕ) (f : Kept c arena) (is : c.loading ≡ Some l)
       (holds : c.pages.count * 8192 ≤ length arena) (size : length bs ≡ chunk_len l)
       (within : l.offset + l.done + chunk_len l ≤ length P) (fair : bs ≡ take (chunk_len l) (drop (l.offset + l.done) P)) where
     abbrev filled : List ℕ
@@ -202,7 +198,7 @@ module _ (P : List ℕ) (h : Header) (n : ℕ) where
     kept_put = record {
       inv = f.inv;
       count = f.count;
-      slots = λ (i : ℕ) (k : TileKey) (e : (slot_at c.pages.slots i).ready ≡ true) (q : (slot_at c.pages.slots i).key ≡ MaybeKey.Key k).
+      slots = λ (i : ℕ) (k : TileKey) (e : (slot_at c.pages.slots i).ready ≡ true) (q : (slot_at c.pages.slots i).key ≡ Some k).
           f.slots i k e q ∙ ap ready (sym (ready_bytes i e));
       ring = f.ring;
       load = rw is (record { is = load.is; bytes = old_bytes });

@@ -1,6 +1,7 @@
 -- Every run of pages is ready or the load's (`LiveIn`), of a list of slots, and a page that is marked ready starts a run (`MarksIn`): so where
 -- there is no run, and kept when pages are evicted, when a run is begun in place of others, and when the load's run is made ready. A key has one ready run
 -- (`OnceIn`), kept likewise; what is ready then is as it was (`Fewer`), or of a key that was not ready (`Freshly`).
+use Rattle.std.specs.Prelude.{Option, Some, None}
 use Prim.Native.Nat.{ℕ, ◌+◌, ◌<◌, ◌≤◌}
 use mathlib.Core.Path.{◌≡◌, refl, sym, ap, ◌∙◌}
 use mathlib.Core.Bool.{true, false, true≢false}
@@ -12,7 +13,6 @@ use lib.Seq.{get_or-set_same, get_or-set_other}
 use Rattle.pack.specs.declared.TileKey.{TileKey}
 use Rattle.cache.specs.declared.Slot.{Slot}
 use Rattle.cache.specs.declared.Pages.{Pages}
-use Rattle.cache.specs.declared.MaybeKey.TheVariants as MaybeKey
 use Rattle.cache.specs.Runs.{span, empty_slot, slot_at, run, kind_of, kind_at, Sound}
 use Rattle.cache.specs.Evict.{evicted, head_slot, piece_slot}
 use Rattle.cache.specs.Begin.{replaced}
@@ -21,64 +21,62 @@ use Rattle.cache.proofs.RunLaws.{span_pos}
 use Rattle.cache.proofs.FillLaws.{Out, out_or}
 use Rattle.cache.proofs.EvictLaws.{sound_evicted, evicted_either, evicted_empty, placed_same, placed_head, placed_piece}
 use Rattle.cache.specs.declared.Loading.{Loading}
-use Rattle.cache.specs.declared.MaybeLoading.{MaybeLoading}
-use Rattle.cache.specs.declared.MaybeLoading.TheVariants as MaybeLoading
 use Rattle.cache.specs.Loads.{new_load, ready_slot}
 use Rattle.cache_lists.specs.Claims.{LoadsAt}
 use Rattle.cache_lists.proofs.Stores.{get_d_same}
 
 -- the slot of page h, if it starts a run, is ready or the load's
-abbrev pub SlotLive : Slot → MaybeLoading → ℕ → Type 0
+abbrev pub SlotLive : Slot → Option Loading → ℕ → Type 0
 SlotLive s x h = kind_of s ≡ run → (s.ready ≡ true) ⊎ LoadsAt x h
 
-abbrev pub LiveIn : List Slot → MaybeLoading → Type 0
+abbrev pub LiveIn : List Slot → Option Loading → Type 0
 LiveIn s x = (h : ℕ) → SlotLive (slot_at s h) x h
 
 -- ---- a page that starts no run
 
-empty_live : (x : MaybeLoading) (h : ℕ) → SlotLive empty_slot x h
+empty_live : (x : Option Loading) (h : ℕ) → SlotLive empty_slot x h
 empty_live x h e = let z : ◌≡◌ {A = ℕ} 0 1 = cc in absurd (omega arith)
 
-piece_live : (x : MaybeLoading) (a h : ℕ) → SlotLive (piece_slot a) x h
+piece_live : (x : Option Loading) (a h : ℕ) → SlotLive (piece_slot a) x h
 piece_live x a h e = let z : ◌≡◌ {A = ℕ} 0 1 = cc in absurd (omega arith)
 
-pub none_live : (x : MaybeLoading) → LiveIn (replicate 96 empty_slot) x
+pub none_live : (x : Option Loading) → LiveIn (replicate 96 empty_slot) x
 none_live x h = rw (get_d_same 96 h empty_slot) (empty_live x h)
 
 -- ---- pages evicted
 
 -- a page that is as before or empty
-either_live : (s t : Slot) (x : MaybeLoading) (h : ℕ) → SlotLive s x h → (t ≡ s) ⊎ (t ≡ empty_slot) → SlotLive t x h
+either_live : (s t : Slot) (x : Option Loading) (h : ℕ) → SlotLive s x h → (t ≡ s) ⊎ (t ≡ empty_slot) → SlotLive t x h
 either_live s t x h f o = ⊎_elim (λ e. rw e f) (λ e. rw e (empty_live x h)) o
 
 -- with no load all is ready, and so live with any
-with_live : (s : Slot) (x : MaybeLoading) (h : ℕ) → SlotLive s MaybeLoading.Nothing h → SlotLive s x h
+with_live : (s : Slot) (x : Option Loading) (h : ℕ) → SlotLive s None h → SlotLive s x h
 with_live s x h f e = ⊎_elim (λ r. inl r) (λ z. absurd z) (f e)
 
 -- a page that is not the load's first is live without the load
-other_live : (s : Slot) (l : Loading) (h : ℕ) → SlotLive s (MaybeLoading.Tile l) h → (h ≡ l.slot → ⊥) → SlotLive s MaybeLoading.Nothing h
+other_live : (s : Slot) (l : Loading) (h : ℕ) → SlotLive s (Some l) h → (h ≡ l.slot → ⊥) → SlotLive s None h
 other_live s l h f ne e = ⊎_elim (λ r. inl r) (λ z. absurd (ne (sym z))) (f e)
 
 -- the load's own run evicted: what is left was ready
-pub evicted_live : (g : Pages) (l : Loading) → Sound g → l.slot + 1 ≤ g.count → LiveIn g.slots (MaybeLoading.Tile l)
-    → LiveIn (evicted 1 l.slot g).slots MaybeLoading.Nothing
+pub evicted_live : (g : Pages) (l : Loading) → Sound g → l.slot + 1 ≤ g.count → LiveIn g.slots (Some l)
+    → LiveIn (evicted 1 l.slot g).slots None
 evicted_live g l f fits live h = ⊎_elim here there (same_or h l.slot)
   where
-    here : h ≡ l.slot → SlotLive (slot_at (evicted 1 l.slot g).slots h) MaybeLoading.Nothing h
-    here e = rw (evicted_empty 1 l.slot g f fits h (omega arith) (omega arith)) (empty_live MaybeLoading.Nothing h)
+    here : h ≡ l.slot → SlotLive (slot_at (evicted 1 l.slot g).slots h) None h
+    here e = rw (evicted_empty 1 l.slot g f fits h (omega arith) (omega arith)) (empty_live None h)
 
-    there : (h ≡ l.slot → ⊥) → SlotLive (slot_at (evicted 1 l.slot g).slots h) MaybeLoading.Nothing h
+    there : (h ≡ l.slot → ⊥) → SlotLive (slot_at (evicted 1 l.slot g).slots h) None h
     there ne =
-        either_live (slot_at g.slots h) _ MaybeLoading.Nothing h (other_live (slot_at g.slots h) l h (live h) ne) (evicted_either 1 l.slot g f fits h)
+        either_live (slot_at g.slots h) _ None h (other_live (slot_at g.slots h) l h (live h) ne) (evicted_either 1 l.slot g f fits h)
 
 -- ---- a run begun where there was no load: it is the load's, and the others are ready
 
 module _ (g : Pages) (s : ℕ) (key : TileKey) (offset len : ℕ) (f : Sound g) (fits : s + span len ≤ g.count) where
-  pub replaced_live : LiveIn g.slots MaybeLoading.Nothing → LiveIn (replaced g s key len).slots (MaybeLoading.Tile (new_load key s offset len))
+  pub replaced_live : LiveIn g.slots None → LiveIn (replaced g s key len).slots (Some (new_load key s offset len))
   replaced_live live h = ⊎_elim beside (λ b. ⊎_elim head (piece b) (same_or h s)) (out_or s (s + span len) h)
     where
-      new : MaybeLoading
-      new = MaybeLoading.Tile (new_load key s offset len)
+      new : Option Loading
+      new = Some (new_load key s offset len)
 
       beside : Out s (s + span len) h → SlotLive (slot_at (replaced g s key len).slots h) new h
       beside o =
@@ -95,17 +93,17 @@ module _ (g : Pages) (s : ℕ) (key : TileKey) (offset len : ℕ) (f : Sound g) 
 
 -- ---- the load's run made ready
 
-pub ready_live : (s : List Slot) (l : Loading) → l.slot < length s → LiveIn s (MaybeLoading.Tile l)
-    → LiveIn (set s l.slot (ready_slot (slot_at s l.slot))) MaybeLoading.Nothing
+pub ready_live : (s : List Slot) (l : Loading) → l.slot < length s → LiveIn s (Some l)
+    → LiveIn (set s l.slot (ready_slot (slot_at s l.slot))) None
 ready_live s l b live h = ⊎_elim here there (same_or h l.slot)
   where
     now : Slot
     now = ready_slot (slot_at s l.slot)
 
-    here : h ≡ l.slot → SlotLive (slot_at (set s l.slot now) h) MaybeLoading.Nothing h
+    here : h ≡ l.slot → SlotLive (slot_at (set s l.slot now) h) None h
     here e = rw (e, get_or-set_same s l.slot now empty_slot b) (λ r. inl refl)
 
-    there : (h ≡ l.slot → ⊥) → SlotLive (slot_at (set s l.slot now) h) MaybeLoading.Nothing h
+    there : (h ≡ l.slot → ⊥) → SlotLive (slot_at (set s l.slot now) h) None h
     there ne = rw (get_or-set_other s l.slot h now empty_slot ne) (other_live (slot_at s h) l h (live h) ne)
 
 -- ---- a page that is marked ready starts a run
@@ -164,7 +162,7 @@ ready_marked s l b r m h = ⊎_elim here there (same_or h l.slot)
 
 -- marked ready, with this key
 abbrev pub SlotReady : Slot → TileKey → Type 0
-SlotReady s key = (s.ready ≡ true) × (s.key ≡ MaybeKey.Key key)
+SlotReady s key = (s.ready ≡ true) × (s.key ≡ Some key)
 
 abbrev pub OnceIn : List Slot → Type 0
 OnceIn s = (key : TileKey) (i j : ℕ) → SlotReady (slot_at s i) key → SlotReady (slot_at s j) key → i ≡ j
@@ -224,7 +222,7 @@ replaced_fewer g s key len f fits h = ⊎_elim beside (λ b. ⊎_elim head (piec
         (λ z. absurd (true≢false (sym z)))
 
 -- the load's run made ready, where its key was not
-module _ (s : List Slot) (l : Loading) (b : l.slot < length s) (key_is : (slot_at s l.slot).key ≡ MaybeKey.Key l.key)
+module _ (s : List Slot) (l : Loading) (b : l.slot < length s) (key_is : (slot_at s l.slot).key ≡ Some l.key)
     (unready : (i : ℕ) → SlotReady (slot_at s i) l.key → ⊥) where
   abbrev made : List Slot
   made = set s l.slot (ready_slot (slot_at s l.slot))
@@ -238,8 +236,8 @@ module _ (s : List Slot) (l : Loading) (b : l.slot < length s) (key_is : (slot_a
   -- what is ready on the load's page has its key
   own_key : (key : TileKey) → SlotReady (slot_at made l.slot) key → l.key ≡ key
   own_key key r =
-      let is : (slot_at s l.slot).key ≡ MaybeKey.Key key = sym (ap (λ (x : Slot). x.key) made_here) ∙ r.1 in
-      let same : MaybeKey.Key l.key ≡ MaybeKey.Key key = sym key_is ∙ is in
+      let is : (slot_at s l.slot).key ≡ Some key = sym (ap (λ (x : Slot). x.key) made_here) ∙ r.1 in
+      let same : Some l.key ≡ Some key = sym key_is ∙ is in
       cc
 
   other_key : (key : TileKey) (h : ℕ) → SlotReady (slot_at made l.slot) key → SlotReady (slot_at made h) key → (h ≡ l.slot → ⊥) → ⊥

@@ -1,4 +1,7 @@
 -- With no premise: the state's invariant holds along every list of calls, and each call is safe. By the ways that a call goes.
+use Rattle.refusal.specs.declared.Refusal.{Refusal}
+use Rattle.std.specs.Prelude.{Option, Some, None, Result}
+use Rattle.refusal.specs.Refusal.{number_of_result}
 use Prim.Native.Nat.{ℕ, ◌+◌, ◌*◌, ◌≤◌}
 use mathlib.Core.Path.{◌≡◌, refl, sym, ap, ◌∙◌}
 use mathlib.Core.Bool.{Bool, true, false, ◌&&◌, cond, true≢false}
@@ -9,8 +12,8 @@ use native.Mathlib.Omega.{arith}
 use borrow.Author.Tests.{leb-true, eqb-true}
 use lib.Dec.{leb}
 use lib.ListN.{length}
+use Rattle.std.specs.Prelude.{Ok, Err}
 use Rattle.pack.specs.Grid.{in_grid, read}
-use Rattle.pack.specs.declared.Range.TheVariants as Range
 use Rattle.pack.specs.declared.TileKey.{TileKey}
 use Rattle.pack.specs.declared.Header.{Header}
 use Rattle.pack.proofs.Laws.{located}
@@ -21,21 +24,16 @@ use Rattle.cache.proofs.VictimLaws.{victim_is}
 use Rattle.cache.specs.declared.Cache.{Cache}
 use Rattle.cache.specs.declared.Got.{Got}
 use Rattle.cache.specs.declared.Cleared.{Cleared}
-use Rattle.cache.specs.declared.Clearing.TheVariants as Clearing
 use Rattle.cache.specs.declared.Lookup.{Lookup}
-use Rattle.cache.specs.declared.Lookup.TheVariants as Lookup
 use Rattle.cache.specs.declared.next.Next.{Next}
-use Rattle.cache.specs.declared.next.Next.TheVariants as Next
 use Rattle.cache.specs.Lookups.{run_bytes, passes, len_at, touched, next_step}
 use Rattle.cache.specs.State.{cleared, lent_ok, cache_ok}
 use Rattle.cache.specs.Calls as Cached
-use Rattle.cache.specs.declared.Request.{Request}
-use Rattle.cache.specs.declared.Request.TheVariants as Request
 use Rattle.cache.specs.declared.Progress.TheVariants as Progress
 use Rattle.cache.specs.Loads.{After, over, refused, fetched, read_len, takes, moved, forgot, dropped, further, chunk_len, stepped}
 use Rattle.tile.specs.Parse.{accepts}
 use Rattle.cache_lists.specs.Lists.{World, Call, capacity, loads, pages, get, fetch, load, load_from, clear, found, loaded, exec, Along}
-use Rattle.cache_lists.specs.Claims.{refused_progress, Settles, Passed, HandedOut, Read, reads_of, reads, bytes_of, TakesOnly, SameAt, SameFor, LentOnly, OfChunk, kind_of, MayWrite, Written, KeptBytes, LeavesShort, Safe}
+use Rattle.cache_lists.specs.Claims.{Settles, Passed, HandedOut, reads_of, reads, bytes_of, TakesOnly, SameAt, SameFor, LentOnly, OfChunk, kind_of, MayWrite, Written, KeptBytes, LeavesShort, Safe}
 use Rattle.cache_lists.proofs.Steps.{Gets, denied, ringed, unknown, handed, get_is, came_loading, came_key, came_next, Step, refuses, knows, uses, no_pages, fails, lacks, begins, goes_on, readies, spoils, load_is, from_is}
 use Rattle.cache_lists.proofs.Inv.{sound_in, Inv, inv_short, inv_apart, inv_cleared, inv_touched, inv_forgot, inv_dropped, dropped_fewer, dropped_load, inv_began, inv_further, readied_freshly, inv_readied}
 use Rattle.cache_lists.proofs.Stores.{get_d_same}
@@ -70,7 +68,7 @@ pub clear_leaves : (R : Cache → Type 0) (c : Cache) (arena : List ℕ) → R (
 unfolding Cached.clear
 clear_leaves R c arena r k = by (lent_ok c (length arena))
   where
-    by : (t : Bool) → R (cond {A = Cleared} t (record { answer = Clearing.Done; cache = cleared c }) (record { answer = Clearing.Refused 12; cache = c })).cache
+    by : (t : Bool) → R (cond {A = Cleared} t (record { answer = Ok tt; cache = cleared c }) (record { answer = Err Refusal.BadState; cache = c })).cache
     by true = r
     by false = k
 
@@ -88,7 +86,7 @@ inv_call w clear f = clear_leaves Inv w.cache w.arena (inv_cleared w.cache f) f
 -- ---- each call is safe
 
 handed_out_lem : {c : Cache} {arena : List ℕ} {h : Header} {key : TileKey} {r : Got} → Gets c arena h key r
-    → (first len : ℕ) → found r.answer ≡ found (Lookup.Ready first len) → Passed arena h key first len
+    → (first len : ℕ) → found r.answer ≡ found (Ok (Lookup.Ready first len)) → Passed arena h key first len
 unfolding passes
 handed_out_lem (denied n s) first len q = let z : ◌≡◌ {A = ℕ} 0 1 = cc in absurd (omega arith)
 handed_out_lem (ringed e) first len q = let z : ◌≡◌ {A = ℕ} 0 1 = cc in absurd (omega arith)
@@ -113,10 +111,10 @@ handed_call w (load h key failure bs) = tt
 handed_call w (load_from h key pack) = tt
 handed_call w clear = tt
 
-one_of : (x : Request) → length (reads_of x) ≤ 1
-one_of Request.Settled = omega arith
-one_of (Request.Refused n) = omega arith
-one_of (Request.Read offset n) = omega arith
+one_of : (x : Result (Option (ℕ × ℕ)) Refusal) → length (reads_of x) ≤ 1
+one_of (Ok None) = omega arith
+one_of (Err n) = omega arith
+one_of (Ok (Some (offset, n))) = omega arith
 
 pub one_read_lem : (w : World) (c : Call) → length (reads w c) ≤ 1
 one_read_lem w capacity = omega arith
@@ -133,7 +131,7 @@ module _ (c : Cache) (arena : List ℕ) (h : Header) (key : TileKey) where
   read_len_lem : (n : Next) → bytes_of (reads_of (fetched c n arena h key)) ≡ read_len n
   read_len_lem (Next.Ready i) = by (passes arena i (len_at c i) key h.tile)
     where
-      by : (t : Bool) → bytes_of (reads_of (cond t Request.Settled (Request.Refused 12))) ≡ 0
+      by : (t : Bool) → bytes_of (reads_of (cond t (Ok None) (Err Refusal.BadState))) ≡ 0
       by true = refl
       by false = refl
   read_len_lem Next.Missing = refl
@@ -142,18 +140,18 @@ module _ (c : Cache) (arena : List ℕ) (h : Header) (key : TileKey) where
   read_len_lem (Next.Chunk l) = add-zero (chunk_len l)
 
   -- so a `load` that is not refused has them
-  takes_only_lem : (bs : List ℕ) → refused_progress (Cached.load c arena h key 0 bs).answer ≡ 0 → length bs ≡ bytes_of (reads_of (Cached.fetch c arena h key))
+  takes_only_lem : (bs : List ℕ) → number_of_result (Cached.load c arena h key 0 bs).answer ≡ 0 → length bs ≡ bytes_of (reads_of (Cached.fetch c arena h key))
   unfolding Cached.load Cached.fetch
   takes_only_lem bs e = by (cache_ok c h (length arena)) (takes (next_step c key) h key 0 (length bs)) (in_grid h key) refl refl e
     where
       left : Bool → Bool → Bool → After
       left ok t grid =
           cond ok
-          (cond t (cond grid (stepped c (next_step c key) arena h key 0 bs) (over (refused c 9) arena)) (over (refused c 11) arena))
-          (over (refused c 12) arena)
+          (cond t (cond grid (stepped c (next_step c key) arena h key 0 bs) (over (refused c Refusal.OutsideGrid) arena)) (over (refused c Refusal.NotAsked) arena))
+          (over (refused c Refusal.BadState) arena)
 
-      by : (ok t grid : Bool) → takes (next_step c key) h key 0 (length bs) ≡ t → in_grid h key ≡ grid → refused_progress (left ok t grid).answer ≡ 0
-          → length bs ≡ bytes_of (reads_of (cond ok (cond grid (fetched c (next_step c key) arena h key) (Request.Refused 9)) (Request.Refused 12)))
+      by : (ok t grid : Bool) → takes (next_step c key) h key 0 (length bs) ≡ t → in_grid h key ≡ grid → number_of_result (left ok t grid).answer ≡ 0
+          → length bs ≡ bytes_of (reads_of (cond ok (cond grid (fetched c (next_step c key) arena h key) (Err Refusal.OutsideGrid)) (Err Refusal.BadState)))
       by true true true t g e = eqb-true (length bs) (read_len (next_step c key)) (rw g at t) ∙ sym (read_len_lem (next_step c key))
       by true true false t g e = absurd (omega arith)
       by true false grid t g e = absurd (omega arith)
@@ -177,8 +175,8 @@ module _ (c : Cache) (arena : List ℕ) (h : Header) (key : TileKey) (Q R : List
   unfolding read
   read_only offset len s = rw s.fits (by (leb (offset + len) (length Q)))
     where
-      by : (t : Bool) → Cached.load_by (cond t (Range.At offset) (Range.Refused 2)) c arena h key len R
-          ≡ Cached.load_by (cond t (Range.At offset) (Range.Refused 2)) c arena h key len Q
+      by : (t : Bool) → Cached.load_by (cond t (Ok offset) (Err Refusal.PastPack)) c arena h key len R
+          ≡ Cached.load_by (cond t (Ok offset) (Err Refusal.PastPack)) c arena h key len Q
       by true = ap (λ (bs : List ℕ). Cached.load c arena h key 0 bs) s.bytes
       by false = refl
 
@@ -186,10 +184,10 @@ module _ (c : Cache) (arena : List ℕ) (h : Header) (key : TileKey) (Q R : List
   unfolding Cached.load_from
   load_only = by (Cached.fetch c arena h key)
     where
-      by : (x : Request) → SameFor x Q R → Cached.request_load x c arena h key R ≡ Cached.request_load x c arena h key Q
-      by (Request.Read offset len) s = read_only offset len s
-      by Request.Settled s = refl
-      by (Request.Refused number) s = refl
+      by : (x : Result (Option (ℕ × ℕ)) Refusal) → SameFor x Q R → Cached.request_load x c arena h key R ≡ Cached.request_load x c arena h key Q
+      by (Ok (Some (offset, len))) s = read_only offset len s
+      by (Ok None) s = refl
+      by (Err number) s = refl
 
 pub lent_only_lem : (w : World) (c : Call) → LentOnly w c
 unfolding exec
@@ -272,7 +270,7 @@ kept_bytes w c f =
 
 -- a step that answers Done leaves its tile ready or known missing
 settled_step : {c : Cache} {arena : List ℕ} {h : Header} {key : TileKey} {failure : ℕ} {bs : List ℕ} {r : After}
-    → Inv c → Step c arena h key failure bs r → r.answer ≡ Progress.Done → Settled r.cache key
+    → Inv c → Step c arena h key failure bs r → r.answer ≡ Ok Progress.Done → Settled r.cache key
 settled_step f (refuses n s) q = let z : ◌≡◌ {A = ℕ} 0 1 = cc in absurd (omega arith)
 settled_step {c} {key = key} f (knows e) q = ring_settled c key e
 settled_step {c} {key = key} f (uses i e) q = touched_settled c i key e

@@ -1,5 +1,7 @@
 -- Under the premises of one pack: the invariant holds along every list of fair calls, `get` answers as the direct lookup, and no call is
 -- refused with 12 while the arena holds the pages. By the ways that a call goes.
+use Rattle.std.specs.Prelude.{Some, None, Ok, Err}
+use Rattle.refusal.specs.Refusal.{number_of, number_of_result}
 use Prim.Native.Nat.{ℕ, ◌+◌, ◌*◌, ◌≤◌}
 use mathlib.Core.Path.{◌≡◌, refl, sym, ◌∙◌}
 use mathlib.Core.Bool.{Bool, true, false, cond, true≢false}
@@ -8,40 +10,33 @@ use mathlib.Core.Logic.{⊎_elim}
 use native.Mathlib.Omega.{arith}
 use borrow.Author.Tests.{le-leb}
 use lib.ListN.{length, take, drop}
-use Rattle.pack.specs.Sector.{rules, parse}
+use Rattle.std.specs.Prelude.{Option, Result}
+use Rattle.refusal.specs.declared.Refusal.{Refusal}
+use Rattle.pack.specs.Sector.{rules, parse, header_in}
 use Rattle.pack.specs.Grid.{in_grid, entry_of, locate_of}
 use Rattle.pack.specs.declared.TileKey.{TileKey}
 use Rattle.pack.specs.declared.Header.{Header}
-use Rattle.pack.specs.declared.Located.{Located}
 use Rattle.pack.proofs.Laws.{parse_accepted, located}
-use Rattle.cache.specs.declared.victim.Found.{Found}
-use Rattle.cache.specs.declared.victim.Found.TheVariants as Found
 use Rattle.cache.specs.Runs.{span}
 use Rattle.cache.proofs.Below.{below_or}
 use Rattle.cache.proofs.RunLaws.{span_holds, inside}
 use Rattle.cache.proofs.VictimLaws.{victim_there, victim_is}
 use Rattle.cache.specs.declared.Cache.{Cache}
 use Rattle.cache.specs.declared.Got.{Got}
-use Rattle.cache.specs.declared.Count.{Count}
-use Rattle.cache.specs.declared.Count.TheVariants as Count
 use Rattle.cache.specs.declared.Lookup.{Lookup}
 use Rattle.cache.specs.declared.Loading.{Loading}
 use Rattle.cache.specs.declared.next.Next.{Next}
-use Rattle.cache.specs.declared.next.Next.TheVariants as Next
 use Rattle.cache.specs.Keys.{ready_at}
 use Rattle.cache.specs.Lookups.{pages_of, passes, len_at, touched}
 use Rattle.cache.specs.declared.Pending.{Pending}
-use Rattle.cache.specs.declared.Pending.TheVariants as Pending
 use Rattle.cache.specs.State.{cleared, lent_ok, entry_in, cache_ok}
 use Rattle.cache.specs.Direct.{missing, direct_at, direct}
 use Rattle.cache.specs.Calls as Cached
-use Rattle.cache.specs.declared.Request.{Request}
-use Rattle.cache.specs.declared.Request.TheVariants as Request
 use Rattle.cache.specs.Loads.{After, fetched, withdrawn, moved, forgot, dropped, chunk_len, readied, further}
 use Rattle.cache_lists.specs.Lists.{World, Call, capacity, loads, pages, get, fetch, load, load_from, clear, found, exec, Along}
-use Rattle.cache_lists.specs.Claims.{number_of_count, number_of_lookup, number_of_request, refused_progress, Parsed, FairBytes, Fair, SameLook, SameAs, Open}
+use Rattle.cache_lists.specs.Claims.{Parsed, FairBytes, Fair, SameLook, SameAs, Open}
 use Rattle.cache_lists.proofs.Lookups.{in_ring_lem, ReadyAt, ready_at_lem, found_run, next_is}
-use Rattle.cache_lists.proofs.Steps.{Refusal, named, unasked, outside, stale, Gets, denied, ringed, unknown, handed, get_is, Came, came_loading, came_next, came_holds, Lacks, none, long, wide, Step, refuses, knows, uses, no_pages, fails, lacks, begins, goes_on, readies, spoils, load_is, fetch_came, FetchIs, fetch_is, From, from_is}
+use Rattle.cache_lists.proofs.Steps.{Cause, named, unasked, outside, stale, Gets, denied, ringed, unknown, handed, get_is, Came, came_loading, came_next, came_holds, Lacks, none, long, wide, Step, refuses, knows, uses, no_pages, fails, lacks, begins, goes_on, readies, spoils, load_is, fetch_came, FetchIs, fetch_is, From, from_is}
 use Rattle.cache_lists.proofs.Inv.{sound_in, Inv, inv_ok, dropped_load}
 use Rattle.cache_lists.proofs.Safe.{clear_leaves, written_call}
 use Rattle.cache_lists.proofs.Direct.{direct-ready, direct_none, direct_entry, at_long, at_wide, at_tile}
@@ -51,7 +46,7 @@ use Rattle.cache_lists.proofs.Kept.{Kept, kept_cleared, kept_touched, kept_forgo
 
 module _ (P : List ℕ) (h : Header) (n : ℕ) (key : TileKey) where
   -- what the cache can't hold, the direct lookup doesn't find
-  lacks_missing : {d : Cache} {x : Located} → Inv d → d.pages.count ≡ n → Lacks d x → direct_at x P h n key ≡ missing
+  lacks_missing : {d : Cache} {x : Result (Option (ℕ × ℕ)) Refusal} → Inv d → d.pages.count ≡ n → Lacks d x → direct_at x P h n key ≡ missing
   lacks_missing f e none = refl
   lacks_missing f e (long offset len s) = at_long P h n key offset len s
   lacks_missing {d} f e (wide offset len v) =
@@ -116,7 +111,7 @@ module _ (P : List ℕ) (h : Header) (n : ℕ) (key : TileKey) where
 
     module _ (ok : rules h ≡ true) (holds : n * 8192 ≤ length arena) where
       -- a ready run lies in the arena and holds what the direct lookup gives, so it passes
-      pub kept_passes : (i : ℕ) → ready_at c.pages key ≡ Found.At i → passes arena i (len_at c i) key h.tile ≡ true
+      pub kept_passes : (i : ℕ) → ready_at c.pages key ≡ Some i → passes arena i (len_at c i) key h.tile ≡ true
       unfolding passes
       kept_passes i e =
           let r : ReadyAt c.pages key i = ready_at_lem c.pages key i e in
@@ -130,24 +125,24 @@ module _ (P : List ℕ) (h : Header) (n : ℕ) (key : TileKey) where
         unfolding cache_ok
         kept_ok = rw (inv_ok c k.inv, ok, entry, k.count) (le-leb (n * 8192) (length arena) holds)
 
-        pub not_12 : {number : ℕ} → Refusal c arena h key number → number ≡ 12 → ⊥
+        pub not_12 : {e : Refusal} → Cause c arena h key e → number_of e ≡ 12 → ⊥
         not_12 (named e) z = true≢false (sym kept_ok ∙ e)
         not_12 unasked z = omega arith
         not_12 outside z = omega arith
         not_12 (stale i e p) z = true≢false (sym (kept_passes i e) ∙ p)
 
-        open_got : {r : Got} → Gets c arena h key r → number_of_lookup r.answer ≡ 12 → ⊥
+        open_got : {r : Got} → Gets c arena h key r → number_of_result r.answer ≡ 12 → ⊥
         open_got (denied number s) z = not_12 s z
         open_got (ringed e) z = omega arith
         open_got unknown z = omega arith
         open_got (handed i e p) z = omega arith
 
-        pub open_fetch : (x : Request) → FetchIs c arena h key x → number_of_request x ≡ 12 → ⊥
-        open_fetch Request.Settled f z = omega arith
-        open_fetch (Request.Read offset len) f z = omega arith
-        open_fetch (Request.Refused number) f z = not_12 f z
+        pub open_fetch : (x : Result (Option (ℕ × ℕ)) Refusal) → FetchIs c arena h key x → number_of_result x ≡ 12 → ⊥
+        open_fetch (Ok None) f z = omega arith
+        open_fetch (Ok (Some (offset, len))) f z = omega arith
+        open_fetch (Err number) f z = not_12 f z
 
-        pub open_step : {failure : ℕ} {bs : List ℕ} {r : After} → Step c arena h key failure bs r → refused_progress r.answer ≡ 12 → ⊥
+        pub open_step : {failure : ℕ} {bs : List ℕ} {r : After} → Step c arena h key failure bs r → number_of_result r.answer ≡ 12 → ⊥
         open_step (refuses number s) z = not_12 s z
         open_step (knows e) z = omega arith
         open_step (uses i e) z = omega arith
@@ -210,38 +205,41 @@ module _ (g : Header) where
 
 -- ---- a list of calls
 
+pub header_is : {P : List ℕ} {h : Header} → Parsed P h → header_in (parse (take 512 P)) ≡ h
+header_is p = rw p.parses
+
 module _ (P : List ℕ) (n : ℕ) where
   -- with the pack's header, which is the one that each call is given
   abbrev pub KeptIn : World → Type 0
-  KeptIn w = Kept P (parse (take 512 P)).header n w.cache w.arena
+  KeptIn w = Kept P (header_in (parse (take 512 P))) n w.cache w.arena
 
   pub given : {w : World} {h : Header} → Parsed P h → KeptIn w → Kept P h n w.cache w.arena
-  given p k = rw p.header at k
+  given p k = rw (header_is p) at k
 
   pub parsed_rules : {h : Header} → Parsed P h → rules h ≡ true
-  parsed_rules p = rw p.header at (parse_accepted (take 512 P) p.accepted).0
+  parsed_rules p = (parse_accepted (take 512 P) p.parses).0
 
   pub kept_call : (w : World) (c : Call) → KeptIn w → Fair P w c → KeptIn (exec c w).world
   unfolding exec
   kept_call w capacity k f = k
   kept_call w loads k f = k
   kept_call w (pages h key) k f = k
-  kept_call w (get h key) k f = rw f.header (kept_got P h n key w.cache w.arena (given f k) (get_is w.cache w.arena h key))
+  kept_call w (get h key) k f = rw (header_is f) (kept_got P h n key w.cache w.arena (given f k) (get_is w.cache w.arena h key))
   kept_call w (fetch h key) k f = k
   kept_call w (load h key failure bs) k f =
-      rw f.0.header (kept_step P h n key w.cache w.arena (given f.0 k) failure bs f.1 (load_is w.cache w.arena h key failure bs))
+      rw (header_is f.0) (kept_step P h n key w.cache w.arena (given f.0 k) failure bs f.1 (load_is w.cache w.arena h key failure bs))
   kept_call w (load_from h key Q) k f =
       let r : From w.cache w.arena h key Q (Cached.load_from w.cache w.arena h key Q) = from_is w.cache w.arena h key Q in
-      rw f.0.header (kept_step P h n key w.cache w.arena (given f.0 k) r.failure r.bytes (r.fair P f.1) r.goes)
+      rw (header_is f.0) (kept_step P h n key w.cache w.arena (given f.0 k) r.failure r.bytes (r.fair P f.1) r.goes)
   kept_call w clear k f =
-      clear_leaves (λ (c : Cache). Kept P (parse (take 512 P)).header n c w.arena) w.cache w.arena (kept_cleared P _ n w.cache w.arena k) k
+      clear_leaves (λ (c : Cache). Kept P (header_in (parse (take 512 P))) n c w.arena) w.cache w.arena (kept_cleared P _ n w.cache w.arena k) k
 
   same_call : (w : World) (c : Call) → KeptIn w → Fair P w c → SameAs P n w c
   unfolding exec
   same_call w capacity k f = tt
   same_call w loads k f = tt
   same_call w (pages h key) k f = tt
-  same_call w (get h key) k f = λ (l : Lookup) (e : found (Cached.get w.cache w.arena h key).answer ≡ found l).
+  same_call w (get h key) k f = λ (l : Result Lookup Refusal) (e : found (Cached.get w.cache w.arena h key).answer ≡ found l).
       let is : (Cached.get w.cache w.arena h key).answer ≡ l = cc in
       rw is at (same_got P h n key w.cache w.arena (given f k) (get_is w.cache w.arena h key))
   same_call w (fetch h key) k f = tt
@@ -255,19 +253,19 @@ module _ (P : List ℕ) (n : ℕ) where
   same_along (c ∷ cs) w k f = (same_call w c k f.0, same_along cs (exec c w).world (kept_call w c k f.0) f.1)
 
   -- the state with the arena, without a header and with one
-  module _ (w : World) (k : KeptIn w) (holds : n * 8192 ≤ length w.arena) (entry : EntryIn (parse (take 512 P)).header w.cache) where
+  module _ (w : World) (k : KeptIn w) (holds : n * 8192 ≤ length w.arena) (entry : EntryIn (header_in (parse (take 512 P))) w.cache) where
     pub lent_is : lent_ok w.cache (length w.arena) ≡ true
     unfolding lent_ok
     lent_is = rw (inv_ok w.cache k.inv, k.count) (le-leb (n * 8192) (length w.arena) holds)
 
     entry_of_lem : {h : Header} → Parsed P h → entry_in w.cache.pending h ≡ true
-    entry_of_lem p = rw p.header at entry
+    entry_of_lem p = rw (header_is p) at entry
 
-    open_pages : (h : Header) (key : TileKey) → Parsed P h → number_of_count (Cached.pages w.cache w.arena h key) ≡ 12 → ⊥
+    open_pages : (h : Header) (key : TileKey) → Parsed P h → number_of_result (Cached.pages w.cache w.arena h key) ≡ 12 → ⊥
     unfolding Cached.pages
     open_pages h key p = rw (kept_ok P h n key w.cache w.arena (given p k) (parsed_rules p) holds (entry_of_lem p)) (by (in_grid h key))
       where
-        by : (t : Bool) → number_of_count (cond t (Count.Is (pages_of w.cache.pages key)) (Count.Refused 9)) ≡ 12 → ⊥
+        by : (t : Bool) → number_of_result (cond t (Ok (pages_of w.cache.pages key)) (Err Refusal.OutsideGrid)) ≡ 12 → ⊥
         by true z = omega arith
         by false z = omega arith
 
@@ -286,7 +284,7 @@ module _ (P : List ℕ) (n : ℕ) where
         open_step P h n key w.cache w.arena (given f.0 k) (parsed_rules f.0) holds (entry_of_lem f.0) (from_is w.cache w.arena h key Q).goes
     open_call clear f = rw lent_is (λ z. omega arith)
 
-  pub open_along : (cs : List Call) (w : World) → KeptIn w → n * 8192 ≤ length w.arena → EntryIn (parse (take 512 P)).header w.cache
+  pub open_along : (cs : List Call) (w : World) → KeptIn w → n * 8192 ≤ length w.arena → EntryIn (header_in (parse (take 512 P))) w.cache
       → Along (Fair P) cs w → Along Open cs w
   unfolding Along
   open_along [] w k holds entry f = tt

@@ -8,62 +8,53 @@ use native.Mathlib.Omega.{arith}
 use borrow.Author.Tests.{leb-true, ltb-true, ltb-false, eqb-true}
 use lib.Dec.{eqb, ltb}
 use lib.ListN.{length}
+use Rattle.std.specs.Prelude.{Option, Some, None, Result, Ok, Err}
+use Rattle.refusal.specs.declared.Refusal.{Refusal}
 use Rattle.pack.specs.Sector.{rules}
 use Rattle.pack.specs.Grid.{in_grid, locate_of, read}
 use Rattle.pack.specs.declared.TileKey.{TileKey}
 use Rattle.pack.specs.declared.Header.{Header}
-use Rattle.pack.specs.declared.Located.{Located}
-use Rattle.pack.specs.declared.Located.TheVariants as Located
-use Rattle.pack.specs.declared.Range.{Range}
-use Rattle.pack.specs.declared.Range.TheVariants as Range
 use Rattle.pack.proofs.Laws.{read_at}
-use Rattle.cache.specs.declared.victim.Found.{Found}
-use Rattle.cache.specs.declared.victim.Found.TheVariants as Found
 use Rattle.cache.specs.Runs.{span}
 use Rattle.cache.specs.Victim.{victim}
 use Rattle.cache.specs.Begin.{replaced, begun_at, begun}
 use Rattle.cache.proofs.Below.{and_right}
 use Rattle.cache.specs.declared.Cache.{Cache}
 use Rattle.cache.specs.declared.Loading.{Loading}
-use Rattle.cache.specs.declared.MaybeLoading.TheVariants as MaybeLoading
 use Rattle.cache.specs.declared.next.Next.{Next}
-use Rattle.cache.specs.declared.next.Next.TheVariants as Next
 use Rattle.cache.specs.declared.Lookup.TheVariants as Lookup
 use Rattle.cache.specs.declared.Got.{Got}
 use Rattle.cache.specs.declared.look.Landing.{Landing}
-use Rattle.cache.specs.declared.look.Landing.TheVariants as Landing
 use Rattle.cache.specs.Keys.{in_ring, ready_at}
 use Rattle.cache.specs.Lookups.{lands_on, passes, len_at, touched, got_ready, got_at, got, next_step}
 use Rattle.cache.specs.State.{state_ok, cache_ok, entry_in}
-use Rattle.cache.specs.declared.Request.{Request}
-use Rattle.cache.specs.declared.Request.TheVariants as Request
-use Rattle.cache.specs.Loads.{After, over, refused, failed, done, more, fetched, read_len, fits, takes, moved, forgot, dropped, new_load, began_at, began, located, entry_step, chunk_len, put, readied, ended, further, chunk_came, chunk_step, stepped, pack_bytes}
+use Rattle.cache.specs.Loads.{After, over, refused, missed, failed, done, more, fetched, read_len, fits, takes, moved, forgot, dropped, new_load, began_at, began, located, entry_step, chunk_len, put, readied, ended, further, chunk_came, chunk_step, stepped, pack_bytes}
 use Rattle.cache.specs.Calls.{got_nothing, get, fetch, load, load_by, request_load, load_from}
 use Rattle.cache_lists.specs.Claims.{FairBytes, FairPack}
 use Rattle.cache_lists.proofs.Lookups.{LandingIs, landing, next_is}
 
 -- ---- refusals
 
--- why a call is refused, by its number: a state that 12 names; an answer to another read; a key outside the grid; a ready run that no longer passes
-pub data Refusal (c : Cache) (arena : List ℕ) (h : Header) (key : TileKey) : ℕ → Type 0 where
-  named : cache_ok c h (length arena) ≡ false → Refusal c arena h key 12
-  unasked : Refusal c arena h key 11
-  outside : Refusal c arena h key 9
-  stale : (i : ℕ) → ready_at c.pages key ≡ Found.At i → passes arena i (len_at c i) key h.tile ≡ false → Refusal c arena h key 12
+-- why a call is refused: a state that 12 names; an answer to another read; a key outside the grid; a ready run that no longer passes
+pub data Cause (c : Cache) (arena : List ℕ) (h : Header) (key : TileKey) : Refusal → Type 0 where
+  named : cache_ok c h (length arena) ≡ false → Cause c arena h key Refusal.BadState
+  unasked : Cause c arena h key Refusal.NotAsked
+  outside : Cause c arena h key Refusal.OutsideGrid
+  stale : (i : ℕ) → ready_at c.pages key ≡ Some i → passes arena i (len_at c i) key h.tile ≡ false → Cause c arena h key Refusal.BadState
 
 -- ---- `get`, and the ways that it goes
 
 pub data Gets (c : Cache) (arena : List ℕ) (h : Header) (key : TileKey) : Got → Type 0 where
-  denied : (number : ℕ) → Refusal c arena h key number → Gets c arena h key (got_nothing c number)
-  ringed : in_ring c.missing key ≡ true → Gets c arena h key (record { answer = Lookup.Missing; cache = c })
-  unknown : Gets c arena h key (record { answer = Lookup.Absent; cache = c })
-  handed : (i : ℕ) → ready_at c.pages key ≡ Found.At i → passes arena i (len_at c i) key h.tile ≡ true
-      → Gets c arena h key (record { answer = Lookup.Ready i (len_at c i); cache = touched c i })
+  denied : (e : Refusal) → Cause c arena h key e → Gets c arena h key (got_nothing c e)
+  ringed : in_ring c.missing key ≡ true → Gets c arena h key (record { answer = Ok Lookup.Missing; cache = c })
+  unknown : Gets c arena h key (record { answer = Ok Lookup.Absent; cache = c })
+  handed : (i : ℕ) → ready_at c.pages key ≡ Some i → passes arena i (len_at c i) key h.tile ≡ true
+      → Gets c arena h key (record { answer = Ok (Lookup.Ready i (len_at c i)); cache = touched c i })
 
 module _ (c : Cache) (arena : List ℕ) (h : Header) (key : TileKey) where
-  ready_is : (i : ℕ) (t : Bool) → ready_at c.pages key ≡ Found.At i → passes arena i (len_at c i) key h.tile ≡ t → Gets c arena h key (got_ready t c i)
+  ready_is : (i : ℕ) (t : Bool) → ready_at c.pages key ≡ Some i → passes arena i (len_at c i) key h.tile ≡ t → Gets c arena h key (got_ready t c i)
   ready_is i true e p = handed i e p
-  ready_is i false e p = denied 12 (stale i e p)
+  ready_is i false e p = denied Refusal.BadState (stale i e p)
 
   landed_is : (x : Landing) → LandingIs c key x → Gets c arena h key (got_at x c arena h.tile key)
   landed_is Landing.Missing e = ringed e
@@ -75,10 +66,10 @@ module _ (c : Cache) (arena : List ℕ) (h : Header) (key : TileKey) where
   get_is = by (cache_ok c h (length arena)) (in_grid h key) refl
     where
       by : (ok grid : Bool) → cache_ok c h (length arena) ≡ ok
-          → Gets c arena h key (cond ok (cond grid (got_at (lands_on c key) c arena h.tile key) (got_nothing c 9)) (got_nothing c 12))
+          → Gets c arena h key (cond ok (cond grid (got_at (lands_on c key) c arena h.tile key) (got_nothing c Refusal.OutsideGrid)) (got_nothing c Refusal.BadState))
       by true true o = landed_is (lands_on c key) (landing c key)
-      by true false o = denied 9 outside
-      by false grid o = denied 12 (named o)
+      by true false o = denied Refusal.OutsideGrid outside
+      by false grid o = denied Refusal.BadState (named o)
 
 -- ---- `load`, and the ways that it goes
 
@@ -92,7 +83,7 @@ pub record Came (c : Cache) (arena : List ℕ) (h : Header) (key : TileKey) (fai
 
 -- the chunk is of the state's load, which is the key's
 pub came_loading : {c : Cache} {arena : List ℕ} {h : Header} {key : TileKey} {failure : ℕ} {bs : List ℕ} {l : Loading}
-    → Came c arena h key failure bs (Next.Chunk l) → c.loading ≡ MaybeLoading.Tile l
+    → Came c arena h key failure bs (Next.Chunk l) → c.loading ≡ Some l
 came_loading {c} {key = key} came = (rw came.is at (next_is c key)).0
 
 pub came_key : {c : Cache} {arena : List ℕ} {h : Header} {key : TileKey} {failure : ℕ} {bs : List ℕ} {l : Loading}
@@ -110,26 +101,26 @@ unfolding cache_ok
 came_holds {c} {arena} {h} came = leb-true (c.pages.count * 8192) (length arena) (and_right (entry_in c.pending h) _ (and_right (rules h) _ (and_right (state_ok c) _ came.ok)))
 
 -- what an entry tells of a tile that the cache d can't hold: none there, too long for any run, or for the pages
-pub data Lacks (d : Cache) : Located → Type 0 where
-  none : Lacks d Located.NoTile
-  long : (offset len : ℕ) → 49152 < len → Lacks d (Located.Tile offset len)
-  wide : (offset len : ℕ) → victim d.pages (span len) ≡ Found.Nothing → Lacks d (Located.Tile offset len)
+pub data Lacks (d : Cache) : Result (Option (ℕ × ℕ)) Refusal → Type 0 where
+  none : Lacks d (Ok None)
+  long : (offset len : ℕ) → 49152 < len → Lacks d (Ok (Some (offset, len)))
+  wide : (offset len : ℕ) → victim d.pages (span len) ≡ None → Lacks d (Ok (Some (offset, len)))
 
 pub data Step (c : Cache) (arena : List ℕ) (h : Header) (key : TileKey) (failure : ℕ) (bs : List ℕ) : After → Type 0 where
-  refuses : (number : ℕ) → Refusal c arena h key number → Step c arena h key failure bs (over (refused c number) arena)
+  refuses : (e : Refusal) → Cause c arena h key e → Step c arena h key failure bs (over (refused c e) arena)
   -- nothing to read: known missing; ready; no pages
   knows : in_ring c.missing key ≡ true → Step c arena h key failure bs (over (done c) arena)
-  uses : (i : ℕ) → ready_at c.pages key ≡ Found.At i → Step c arena h key failure bs (over (done (touched c i)) arena)
+  uses : (i : ℕ) → ready_at c.pages key ≡ Some i → Step c arena h key failure bs (over (done (touched c i)) arena)
   no_pages : c.pages.count ≡ 0 → Step c arena h key failure bs (over (done (forgot c key)) arena)
   -- the read failed, or its entry is a bad one
-  fails : (number : ℕ) → Step c arena h key failure bs (over (failed (dropped c) number) arena)
+  fails : (e : Refusal) → Step c arena h key failure bs (over (failed (dropped c) e) arena)
   -- the entry came: missing; a load begins
   lacks : Came c arena h key failure bs Next.Entry → Lacks (dropped c) (locate_of h bs)
       → Step c arena h key failure bs (over (done (forgot (dropped c) key)) arena)
-  begins : Came c arena h key failure bs Next.Entry → (offset len slot : ℕ) → locate_of h bs ≡ Located.Tile offset len → len ≤ 49152
-      → victim (dropped c).pages (span len) ≡ Found.At slot
+  begins : Came c arena h key failure bs Next.Entry → (offset len slot : ℕ) → locate_of h bs ≡ Ok (Some (offset, len)) → len ≤ 49152
+      → victim (dropped c).pages (span len) ≡ Some slot
       → Step c arena h key failure bs
-      (over (more (moved (dropped c) (replaced (dropped c).pages slot key len) (MaybeLoading.Tile (new_load key slot offset len)))) arena)
+      (over (more (moved (dropped c) (replaced (dropped c).pages slot key len) (Some (new_load key slot offset len)))) arena)
   -- a chunk came: more to come; the last, and the tile passes; the last, and it does not
   goes_on : (l : Loading) → Came c arena h key failure bs (Next.Chunk l) → l.done + chunk_len l < l.len
       → Step c arena h key failure bs (over (more (further c l (l.done + chunk_len l))) (put arena l.slot l.done bs))
@@ -146,22 +137,22 @@ module _ (c : Cache) (arena : List ℕ) (h : Header) (key : TileKey) (failure : 
 
   -- the entry
   module _ (came : Came c arena h key failure bs Next.Entry) where
-    begins_by : (offset len : ℕ) (x : Found) → locate_of h bs ≡ Located.Tile offset len → len ≤ 49152 → victim (dropped c).pages (span len) ≡ x
+    begins_by : (offset len : ℕ) (x : Option ℕ) → locate_of h bs ≡ Ok (Some (offset, len)) → len ≤ 49152 → victim (dropped c).pages (span len) ≡ x
         → Goes (over (began_at (begun_at (dropped c).pages key len x).at (dropped c) (begun_at (dropped c).pages key len x).pages key offset len) arena)
-    begins_by offset len Found.Nothing e s v = lacks came (rw e (wide offset len v))
-    begins_by offset len (Found.At slot) e s v = begins came offset len slot e s v
+    begins_by offset len None e s v = lacks came (rw e (wide offset len v))
+    begins_by offset len (Some slot) e s v = begins came offset len slot e s v
 
-    began_by : (offset len : ℕ) (t : Bool) → locate_of h bs ≡ Located.Tile offset len → ltb 49152 len ≡ t
+    began_by : (offset len : ℕ) (t : Bool) → locate_of h bs ≡ Ok (Some (offset, len)) → ltb 49152 len ≡ t
         → Goes (over (cond t (done (forgot (dropped c) key))
         (began_at (begun (dropped c).pages key len).at (dropped c) (begun (dropped c).pages key len).pages key offset len)) arena)
     began_by offset len true e s = lacks came (rw e (long offset len (ltb-true 49152 len s)))
     began_by offset len false e s = begins_by offset len (victim (dropped c).pages (span len)) e (ltb-false 49152 len s) refl
 
-    located_by : (x : Located) → locate_of h bs ≡ x → Goes (over (located x (dropped c) key) arena)
+    located_by : (x : Result (Option (ℕ × ℕ)) Refusal) → locate_of h bs ≡ x → Goes (over (located x (dropped c) key) arena)
     unfolding began
-    located_by Located.NoTile e = lacks came (rw e none)
-    located_by (Located.Refused n) e = fails n
-    located_by (Located.Tile offset len) e = began_by offset len (ltb 49152 len) e refl
+    located_by (Ok None) e = lacks came (rw e none)
+    located_by (Err n) e = fails n
+    located_by (Ok (Some (offset, len))) e = began_by offset len (ltb 49152 len) e refl
 
   -- a chunk
   module _ (l : Loading) (came : Came c arena h key failure bs (Next.Chunk l)) where
@@ -190,20 +181,20 @@ module _ (c : Cache) (arena : List ℕ) (h : Header) (key : TileKey) (failure : 
       size = eqb-true (length bs) (read_len n) (rw f at t);
     }
 
-    ready_by : (i : ℕ) (t : Bool) → ready_at c.pages key ≡ Found.At i → passes arena i (len_at c i) key h.tile ≡ t
-        → Goes (over (cond t (done (touched c i)) (refused c 12)) arena)
+    ready_by : (i : ℕ) (t : Bool) → ready_at c.pages key ≡ Some i → passes arena i (len_at c i) key h.tile ≡ t
+        → Goes (over (cond t (done (touched c i)) (refused c Refusal.BadState)) arena)
     ready_by i true e p = uses i e
-    ready_by i false e p = refuses 12 (stale i e p)
+    ready_by i false e p = refuses Refusal.BadState (stale i e p)
 
     entry_by : (t : Bool) → next_step c key ≡ Next.Entry → fits 8 failure (length bs) ≡ true → eqb failure 0 ≡ t
-        → Goes (over (cond t (located (locate_of h bs) (dropped c) key) (failed (dropped c) failure)) arena)
+        → Goes (over (cond t (located (locate_of h bs) (dropped c) key) (failed (dropped c) (missed failure))) arena)
     entry_by true e f z = located_by (came_of Next.Entry e z f) (locate_of h bs) refl
-    entry_by false e f z = fails failure
+    entry_by false e f z = fails (missed failure)
 
     chunk_by : (l : Loading) (t : Bool) → next_step c key ≡ Next.Chunk l → fits (chunk_len l) failure (length bs) ≡ true → eqb failure 0 ≡ t
-        → Goes (cond t (chunk_came c l (put arena l.slot l.done bs) h.tile (l.done + chunk_len l)) (over (failed (dropped c) failure) arena))
+        → Goes (cond t (chunk_came c l (put arena l.slot l.done bs) h.tile (l.done + chunk_len l)) (over (failed (dropped c) (missed failure)) arena))
     chunk_by l true e f z = came_by l (came_of (Next.Chunk l) e z f) (ltb (l.done + chunk_len l) l.len) refl
-    chunk_by l false e f z = fails failure
+    chunk_by l false e f z = fails (missed failure)
 
     step_by : (n : Next) → next_step c key ≡ n → fits (read_len n) failure (length bs) ≡ true → Goes (stepped c n arena h key failure bs)
     unfolding entry_step chunk_step
@@ -215,12 +206,12 @@ module _ (c : Cache) (arena : List ℕ) (h : Header) (key : TileKey) (failure : 
 
   load_by_lem : (ok t grid : Bool) → cache_ok c h (length arena) ≡ ok → takes (next_step c key) h key failure (length bs) ≡ t → in_grid h key ≡ grid
       → Goes (cond ok
-      (cond t (cond grid (stepped c (next_step c key) arena h key failure bs) (over (refused c 9) arena)) (over (refused c 11) arena))
-      (over (refused c 12) arena))
+      (cond t (cond grid (stepped c (next_step c key) arena h key failure bs) (over (refused c Refusal.OutsideGrid) arena)) (over (refused c Refusal.NotAsked) arena))
+      (over (refused c Refusal.BadState) arena))
   load_by_lem true true true o t g = step_by o g (next_step c key) refl (rw g at t)
-  load_by_lem true true false o t g = refuses 9 outside
-  load_by_lem true false grid o t g = refuses 11 unasked
-  load_by_lem false t grid o q g = refuses 12 (named o)
+  load_by_lem true true false o t g = refuses Refusal.OutsideGrid outside
+  load_by_lem true false grid o t g = refuses Refusal.NotAsked unasked
+  load_by_lem false t grid o q g = refuses Refusal.BadState (named o)
 
   pub load_is : Step c arena h key failure bs (load c arena h key failure bs)
   unfolding load
@@ -234,15 +225,15 @@ module _ (c : Cache) (arena : List ℕ) (h : Header) (key : TileKey) where
   unfolding fetch
   fetch_came came = rw (came.ok, came.grid, came.is)
 
-  abbrev pub FetchIs : Request → Type 0
-  FetchIs Request.Settled = Unit
-  FetchIs (Request.Read offset len) = Unit
-  FetchIs (Request.Refused number) = Refusal c arena h key number
+  abbrev pub FetchIs : Result (Option (ℕ × ℕ)) Refusal → Type 0
+  FetchIs (Ok None) = Unit
+  FetchIs (Ok (Some (offset, len))) = Unit
+  FetchIs (Err e) = Cause c arena h key e
 
   fetched_is : (n : Next) → next_step c key ≡ n → FetchIs (fetched c n arena h key)
   fetched_is (Next.Ready i) e = by (passes arena i (len_at c i) key h.tile) refl
     where
-      by : (t : Bool) → passes arena i (len_at c i) key h.tile ≡ t → FetchIs (cond t Request.Settled (Request.Refused 12))
+      by : (t : Bool) → passes arena i (len_at c i) key h.tile ≡ t → FetchIs (cond t (Ok None) (Err Refusal.BadState))
       by true p = tt
       by false p = stale i (rw e at (next_is c key)) p
   fetched_is Next.Missing e = tt
@@ -255,7 +246,7 @@ module _ (c : Cache) (arena : List ℕ) (h : Header) (key : TileKey) where
   fetch_is = by (cache_ok c h (length arena)) (in_grid h key) refl
     where
       by : (ok grid : Bool) → cache_ok c h (length arena) ≡ ok
-          → FetchIs (cond ok (cond grid (fetched c (next_step c key) arena h key) (Request.Refused 9)) (Request.Refused 12))
+          → FetchIs (cond ok (cond grid (fetched c (next_step c key) arena h key) (Err Refusal.OutsideGrid)) (Err Refusal.BadState))
       by true true o = fetched_is (next_step c key) refl
       by true false o = outside
       by false grid o = named o
@@ -269,9 +260,9 @@ pub record From (c : Cache) (arena : List ℕ) (h : Header) (key : TileKey) (pac
   pub fair : (P : List ℕ) → FairPack P (fetch c arena h key) pack → failure ≡ 0 → FairBytes P (fetch c arena h key) bytes
 
 module _ (c : Cache) (arena : List ℕ) (h : Header) (key : TileKey) (pack : List ℕ) where
-  read_by : (offset n : ℕ) (x : Range) → fetch c arena h key ≡ Request.Read offset n → read pack offset n ≡ x
+  read_by : (offset n : ℕ) (x : Result ℕ Refusal) → fetch c arena h key ≡ Ok (Some (offset, n)) → read pack offset n ≡ x
       → From c arena h key pack (load_by x c arena h key n pack)
-  read_by offset n (Range.At a) e q =
+  read_by offset n (Ok a) e q =
       let r : (a ≡ offset) × (offset + n ≤ length pack) = read_at pack offset n q in
       record {
         failure = 0;
@@ -279,27 +270,27 @@ module _ (c : Cache) (arena : List ℕ) (h : Header) (key : TileKey) (pack : Lis
         goes = load_is c arena h key 0 (pack_bytes pack a n);
         fair = λ (P : List ℕ). rw (e, r.0) (λ f z size. f r.1);
       }
-  read_by offset n (Range.Refused number) e q = record {
+  read_by offset n (Err number) e q = record {
     failure = 2;
     bytes = [];
     goes = load_is c arena h key 2 [];
     fair = λ (P : List ℕ) (f : FairPack P (fetch c arena h key) pack) (z : ◌≡◌ {A = ℕ} 2 0). absurd (omega arith);
   }
 
-  request_by : (x : Request) → fetch c arena h key ≡ x → FetchIs c arena h key x → From c arena h key pack (request_load x c arena h key pack)
-  request_by Request.Settled e f = record {
+  request_by : (x : Result (Option (ℕ × ℕ)) Refusal) → fetch c arena h key ≡ x → FetchIs c arena h key x → From c arena h key pack (request_load x c arena h key pack)
+  request_by (Ok None) e f = record {
     failure = 0;
     bytes = [];
     goes = load_is c arena h key 0 [];
     fair = λ (P : List ℕ). rw e (λ f z. tt);
   }
-  request_by (Request.Refused number) e f = record {
+  request_by (Err number) e f = record {
     failure = 0;
     bytes = [];
     goes = refuses number f;
     fair = λ (P : List ℕ). rw e (λ f z. tt);
   }
-  request_by (Request.Read offset n) e f = read_by offset n (read pack offset n) e refl
+  request_by (Ok (Some (offset, n))) e f = read_by offset n (read pack offset n) e refl
 
   pub from_is : From c arena h key pack (load_from c arena h key pack)
   unfolding load_from

@@ -1,45 +1,40 @@
 -- What is claimed of every list of calls on the cache, from a fresh one of any page count over any arena: demand 3, the part that concerns
 -- memory. `Safe` is claimed with no premise at all; `Fair` are demand 3's premises for one pack, and `SameAs` and `Open` are claimed under
 -- them.
-use Rattle.std.specs.Prelude.{ℕ, ◌+◌, ◌*◌, ◌<◌, ◌≤◌, ◌≡◌, true, List, [], ◌∷◌, ◌⊎◌, leb, length, take, drop, get_or}
+use Rattle.refusal.specs.declared.Refusal.{Refusal}
+use Rattle.std.specs.Prelude.{Option, Some, None, Result, Err}
+use Rattle.refusal.specs.Refusal.{number_of_result}
+use Rattle.cache.specs.declared.Loading.{Loading}
+use Rattle.std.specs.Prelude.{Ok, ℕ, ◌+◌, ◌*◌, ◌<◌, ◌≤◌, ◌≡◌, true, List, [], ◌∷◌, ◌⊎◌, leb, length, take, drop, get_or}
 use Rattle.pack.specs.Sector.{parse}
 use Rattle.pack.specs.declared.TileKey.{TileKey}
 use Rattle.pack.specs.declared.Header.{Header}
-use Rattle.pack.specs.declared.Answer.TheVariants as Sector
 use Rattle.cache.specs.Runs.{run, slot_at, kind_at, end_of}
 use Rattle.tile.specs.Parse.{accepts}
 use Rattle.cache.specs.declared.Cache.{Cache}
-use Rattle.cache.specs.declared.MaybeKey.TheVariants as MaybeKey
 use Rattle.cache.specs.declared.Slot.{Slot}
-use Rattle.cache.specs.declared.MaybeLoading.{MaybeLoading}
-use Rattle.cache.specs.declared.MaybeLoading.TheVariants as MaybeLoading
 use Rattle.cache.specs.declared.Lookup.{Lookup}
-use Rattle.cache.specs.declared.Lookup.TheVariants as Lookup
 use Rattle.cache.specs.declared.look.Landing.TheVariants as Landing
 use Rattle.cache.specs.Lookups.{lands_on, run_bytes}
 use Rattle.cache.specs.Direct.{Look, ready, missing, direct}
-use Rattle.cache.specs.declared.Request.{Request}
-use Rattle.cache.specs.declared.Request.TheVariants as Request
 use Rattle.cache.specs.declared.Progress.{Progress}
-use Rattle.cache.specs.declared.Progress.TheVariants as Progress
 use Rattle.cache.specs.Loads.{chunk_len}
-pub use Rattle.cache.specs.Numbers.{number_of_count, number_of_lookup, number_of_request, refused_progress, number_of_clearing}
 use Rattle.cache.specs.Calls as Loaded
 use Rattle.cache_lists.specs.Lists.{World, Call, capacity, loads, pages, get, fetch, load, load_from, clear, Answer, counted, found, asked, stepped, cleared, exec, start, Along}
 
 -- document 01's number of a refusal, 0 for any other answer: a step of a load that failed is none
 abbrev pub number : Answer → ℕ
-number (counted a) = number_of_count a
-number (found a) = number_of_lookup a
-number (asked a) = number_of_request a
-number (stepped a) = refused_progress a
-number (cleared a) = number_of_clearing a
+number (counted a) = number_of_result a
+number (found a) = number_of_result a
+number (asked a) = number_of_result a
+number (stepped a) = number_of_result a
+number (cleared a) = number_of_result a
 
 -- ---- with no premise
 
-abbrev pub LoadsAt : MaybeLoading → ℕ → Type 0
-LoadsAt MaybeLoading.Nothing h = ⊥
-LoadsAt (MaybeLoading.Tile l) h = l.slot ≡ h
+abbrev pub LoadsAt : Option Loading → ℕ → Type 0
+LoadsAt None h = ⊥
+LoadsAt (Some l) h = l.slot ≡ h
 
 -- document 01: "A run is live while its tile is ready or its load unfinished"; the run from page h on
 abbrev pub Live : Cache → ℕ → Type 0
@@ -56,7 +51,7 @@ pub record Passed (arena : List ℕ) (h : Header) (key : TileKey) (first len : �
   pub accepted : accepts (run_bytes arena first len) key h.tile ≡ true
 
 abbrev pub HandedOut : World → Call → Type 0
-HandedOut w (get h key) = (first len : ℕ) → (exec (get h key) w).answer ≡ found (Lookup.Ready first len) → Passed w.arena h key first len
+HandedOut w (get h key) = (first len : ℕ) → (exec (get h key) w).answer ≡ found (Ok (Lookup.Ready first len)) → Passed w.arena h key first len
 HandedOut w capacity = Unit
 HandedOut w loads = Unit
 HandedOut w (pages h key) = Unit
@@ -70,10 +65,10 @@ pub record Read : Type 0 where
   pub offset : ℕ
   pub len : ℕ
 
-abbrev pub reads_of : Request → List Read
-reads_of Request.Settled = []
-reads_of (Request.Refused number) = []
-reads_of (Request.Read offset len) = record { offset = offset; len = len } ∷ []
+abbrev pub reads_of : Result (Option (ℕ × ℕ)) Refusal → List Read
+reads_of (Ok None) = []
+reads_of (Err e) = []
+reads_of (Ok (Some (offset, len))) = record { offset = offset; len = len } ∷ []
 
 -- the reads that a call asks for, is given the answer of, or makes of a lent pack
 abbrev pub reads : World → Call → List Read
@@ -108,10 +103,10 @@ pub record SameAt (offset len : ℕ) (Q R : List ℕ) : Type 0 where
   pub fits : leb (offset + len) (length R) ≡ leb (offset + len) (length Q)
   pub bytes : take len (drop offset R) ≡ take len (drop offset Q)
 
-abbrev pub SameFor : Request → List ℕ → List ℕ → Type 0
-SameFor (Request.Read offset len) Q R = SameAt offset len Q R
-SameFor Request.Settled Q R = Unit
-SameFor (Request.Refused number) Q R = Unit
+abbrev pub SameFor : Result (Option (ℕ × ℕ)) Refusal → List ℕ → List ℕ → Type 0
+SameFor (Ok (Some (offset, len))) Q R = SameAt offset len Q R
+SameFor (Ok None) Q R = Unit
+SameFor (Err e) Q R = Unit
 
 -- "fetches twice" by values: of a lent pack `load_from` sees the one read that `fetch` tells, and nothing else
 abbrev pub LentOnly : World → Call → Type 0
@@ -120,9 +115,9 @@ LentOnly w c =
     exec (load_from h key R) w ≡ exec c w
 
 -- byte b of the arena is one of the load's next chunk
-abbrev pub OfChunk : MaybeLoading → ℕ → Type 0
-OfChunk MaybeLoading.Nothing b = ⊥
-OfChunk (MaybeLoading.Tile l) b = (l.slot * 8192 + l.done ≤ b) × (b < l.slot * 8192 + l.done + chunk_len l)
+abbrev pub OfChunk : Option Loading → ℕ → Type 0
+OfChunk None b = ⊥
+OfChunk (Some l) b = (l.slot * 8192 + l.done ≤ b) × (b < l.slot * 8192 + l.done + chunk_len l)
 
 -- what a call may do to the arena: leave it as it is, or bring the next chunk of the load
 pub data Kind : Type 0 where
@@ -153,7 +148,7 @@ pub record Written (may : ℕ → Type 0) (before after : List ℕ) : Type 0 whe
 pub record ReadyBytes (s : List Slot) (arena : List ℕ) (key : TileKey) (bs : List ℕ) : Type 0 where
   pub first : ℕ
   pub ready : (slot_at s first).ready ≡ true
-  pub key_is : (slot_at s first).key ≡ MaybeKey.Key key
+  pub key_is : (slot_at s first).key ≡ Some key
   pub bytes : run_bytes arena first (slot_at s first).len ≡ bs
 
 -- a key that is ready before and after has the same bytes
@@ -165,9 +160,9 @@ abbrev pub KeptBytes : World → Call → Type 0
 KeptBytes w c = SameBytes w.cache.pages.slots w.arena (exec c w).world.cache.pages.slots (exec c w).world.arena
 
 -- the unfinished load is of a tile of 49,152 bytes at most (document 01: a longer one is Missing), so of 24 chunks at most
-abbrev pub ShortLoad : MaybeLoading → Type 0
-ShortLoad MaybeLoading.Nothing = Unit
-ShortLoad (MaybeLoading.Tile l) = l.len ≤ 49152
+abbrev pub ShortLoad : Option Loading → Type 0
+ShortLoad None = Unit
+ShortLoad (Some l) = l.len ≤ 49152
 
 abbrev pub LeavesShort : World → Call → Type 0
 LeavesShort w c = ShortLoad (exec c w).world.cache.loading
@@ -179,9 +174,9 @@ AllLive c = (h : ℕ) → kind_at c.pages.slots h ≡ run → Live c h
 -- a step that answers Done leaves its tile ready or known missing, as the Rust's `load` says ("true once the tile is ready or known missing")
 abbrev pub Settles : World → Call → Type 0
 Settles w (load h key failure bs) =
-    (exec (load h key failure bs) w).answer ≡ stepped Progress.Done → lands_on (exec (load h key failure bs) w).world.cache key ≡ Landing.Nothing → ⊥
+    (exec (load h key failure bs) w).answer ≡ stepped (Ok Progress.Done) → lands_on (exec (load h key failure bs) w).world.cache key ≡ Landing.Nothing → ⊥
 Settles w (load_from h key pack) =
-    (exec (load_from h key pack) w).answer ≡ stepped Progress.Done → lands_on (exec (load_from h key pack) w).world.cache key ≡ Landing.Nothing → ⊥
+    (exec (load_from h key pack) w).answer ≡ stepped (Ok Progress.Done) → lands_on (exec (load_from h key pack) w).world.cache key ≡ Landing.Nothing → ⊥
 Settles w capacity = Unit
 Settles w loads = Unit
 Settles w (pages h key) = Unit
@@ -206,20 +201,19 @@ pub record Safe (w : World) (c : Call) : Type 0 where
 -- a given header is the pack's, parsed
 pub record Parsed (P : List ℕ) (h : Header) : Type 0 where
   pub whole : 512 ≤ length P
-  pub accepted : (parse (take 512 P)).answer ≡ Sector.Accepted
-  pub header : (parse (take 512 P)).header ≡ h
+  pub parses : parse (take 512 P) ≡ Ok h
 
 -- bytes that answer a read are what the pack has there
-abbrev pub FairBytes : List ℕ → Request → List ℕ → Type 0
-FairBytes P (Request.Read offset len) bs = length bs ≡ len → (offset + len ≤ length P) × (bs ≡ take len (drop offset P))
-FairBytes P Request.Settled bs = Unit
-FairBytes P (Request.Refused number) bs = Unit
+abbrev pub FairBytes : List ℕ → Result (Option (ℕ × ℕ)) Refusal → List ℕ → Type 0
+FairBytes P (Ok (Some (offset, len))) bs = length bs ≡ len → (offset + len ≤ length P) × (bs ≡ take len (drop offset P))
+FairBytes P (Ok None) bs = Unit
+FairBytes P (Err e) bs = Unit
 
 -- what a lent pack yields for a read is what the pack has there
-abbrev pub FairPack : List ℕ → Request → List ℕ → Type 0
-FairPack P (Request.Read offset len) Q = offset + len ≤ length Q → (offset + len ≤ length P) × (take len (drop offset Q) ≡ take len (drop offset P))
-FairPack P Request.Settled Q = Unit
-FairPack P (Request.Refused number) Q = Unit
+abbrev pub FairPack : List ℕ → Result (Option (ℕ × ℕ)) Refusal → List ℕ → Type 0
+FairPack P (Ok (Some (offset, len))) Q = offset + len ≤ length Q → (offset + len ≤ length P) × (take len (drop offset Q) ≡ take len (drop offset P))
+FairPack P (Ok None) Q = Unit
+FairPack P (Err e) Q = Unit
 
 -- nothing is asked of a call that gives nothing, of a read that failed, nor of bytes of another length, which are refused
 abbrev pub Fair : List ℕ → World → Call → Type 0
@@ -235,15 +229,15 @@ Fair P w (load_from h key Q) = Parsed P h × FairPack P (Loaded.fetch w.cache w.
 -- ---- under them
 
 -- an answer in bytes: what it says of the direct lookup
-abbrev pub SameLook : List ℕ → Lookup → Look → Type 0
-SameLook arena (Lookup.Ready first len) d = d ≡ ready (run_bytes arena first len)
-SameLook arena Lookup.Missing d = d ≡ missing
-SameLook arena Lookup.Absent d = Unit
-SameLook arena (Lookup.Refused number) d = Unit
+abbrev pub SameLook : List ℕ → Result Lookup Refusal → Look → Type 0
+SameLook arena (Ok (Lookup.Ready first len)) d = d ≡ ready (run_bytes arena first len)
+SameLook arena (Ok Lookup.Missing) d = d ≡ missing
+SameLook arena (Ok Lookup.Absent) d = Unit
+SameLook arena (Err e) d = Unit
 
 -- whatever `get` answers other than Absent is what the direct lookup with n pages gives, bytes included: so that has an answer there
 abbrev pub SameAs : List ℕ → ℕ → World → Call → Type 0
-SameAs P n w (get h key) = (l : Lookup) → (exec (get h key) w).answer ≡ found l → SameLook w.arena l (direct P h n key)
+SameAs P n w (get h key) = (l : Result Lookup Refusal) → (exec (get h key) w).answer ≡ found l → SameLook w.arena l (direct P h n key)
 SameAs P n w capacity = Unit
 SameAs P n w loads = Unit
 SameAs P n w (pages h key) = Unit

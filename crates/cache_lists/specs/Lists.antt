@@ -1,15 +1,14 @@
 -- The public calls on the cache as data, and what a list of them does to the state and the arena, by the functions' own definitions. Each
 -- call gets the state and the arena that the last one left (demand 3); header, key, bytes and pack are its own arguments.
+use Rattle.refusal.specs.declared.Refusal.{Refusal}
+use Rattle.std.specs.Prelude.{Option, Result}
 use Rattle.std.specs.Prelude.{ℕ, List, [], ◌∷◌}
 use Rattle.pack.specs.declared.TileKey.{TileKey}
 use Rattle.pack.specs.declared.Header.{Header}
 use Rattle.cache.specs.declared.Cache.{Cache}
-use Rattle.cache.specs.declared.Count.{Count}
 use Rattle.cache.specs.declared.Lookup.{Lookup}
-use Rattle.cache.specs.declared.Clearing.{Clearing}
 use Rattle.cache.specs.State.{fresh}
 use Rattle.cache.specs.Calls as Cached
-use Rattle.cache.specs.declared.Request.{Request}
 use Rattle.cache.specs.declared.Progress.{Progress}
 use Rattle.cache.specs.Loads.{After}
 
@@ -29,11 +28,11 @@ pub data Call : Type 0 where
   clear : Call
 
 pub data Answer : Type 0 where
-  counted : Count → Answer
-  found : Lookup → Answer
-  asked : Request → Answer
-  stepped : Progress → Answer
-  cleared : Clearing → Answer
+  counted : Result ℕ Refusal → Answer
+  found : Result Lookup Refusal → Answer
+  asked : Result (Option (ℕ × ℕ)) Refusal → Answer
+  stepped : Result Progress Refusal → Answer
+  cleared : Result Unit Refusal → Answer
 
 -- what a call leaves, and what it answers
 pub record Done : Type 0 where

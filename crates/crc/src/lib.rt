@@ -69,20 +69,10 @@ fn crc_octets(table: &[u32; 128], value: u32, bytes: &[u8]) -> u32
     ensures { Takes value bytes.now result }
 {
     let mut c = value;
-    let mut i = 0;
-    while i < bytes.len() {
-        c = crc_octet(table, c, bytes[i]);
-        i += 1;
+    for octet in bytes {
+        c = crc_octet(table, c, *octet);
     }
     c
-}
-
-// An octet as a number of 32 bits, with its bound.
-fn wide(o: u8) -> u32
-    ensures value { result ≡ o }
-    ensures upper_bound { result < 256 }
-{
-    o as u32
 }
 
 // The four octets at `i` as a number, the first one lowest: in that order their bits are the message's.
@@ -90,11 +80,7 @@ fn four_at(bytes: &[u8], i: usize) -> u32
     requires { i + 4 ≤ length bytes.now }
     ensures { bits 32 result ≡ message (take 4 (drop i bytes.now)) }
 {
-    let a = wide(bytes[i]);
-    let b = wide(bytes[i + 1]);
-    let c = wide(bytes[i + 2]);
-    let d = wide(bytes[i + 3]);
-    a + (b + (c + d * 256) * 256) * 256
+    u32::from_le_bytes([bytes[i], bytes[i + 1], bytes[i + 2], bytes[i + 3]])
 }
 
 // The eight octets at `i` as a number.
@@ -112,13 +98,12 @@ fn crc_few(table: &[u32; 128], value: u32, bytes: &[u8]) -> u32
     requires { Rule table.now }
     ensures { Takes value bytes.now result }
 {
+    let turns = bytes.len() / 4;
     let mut c = value;
-    let mut i = 0;
-    while 4 <= bytes.len() - i {
-        c = crc_four(table, c ^ four_at(bytes, i));
-        i += 4;
+    for turn in 0..turns {
+        c = crc_four(table, c ^ four_at(bytes, turn * 4));
     }
-    crc_octets(table, c, &bytes[i..])
+    crc_octets(table, c, &bytes[turns * 4..])
 }
 
 // The register after 64 bits.
@@ -132,7 +117,7 @@ fn crc_word(table: &[u32; 128], c: u32, w: u64) -> u32
 }
 
 // Five words to be added to the next five of the message: what stands for all that was before them.
-#[derive(Drop)]
+#[derive(Clone, Copy, PartialEq, Eq, Debug)]
 struct Pending {
     first: u64,
     second: u64,
@@ -162,10 +147,8 @@ fn spread_on(p: Pending, bytes: &[u8]) -> Pending
     ensures { SpreadsOn p bytes.now result }
 {
     let mut q = p;
-    let mut i = 0;
-    while i < bytes.len() {
-        q = turned(q, word_at(bytes, i));
-        i += 8;
+    for word in 0..bytes.len() / 8 {
+        q = turned(q, word_at(bytes, word * 8));
     }
     q
 }
@@ -224,13 +207,7 @@ pub fn crc32(bytes: &[u8]) -> u32
 fn skipped(len: usize, at: usize) -> usize
     ensures { result ≡ min 4 (len - at) }
 {
-    if len <= at {
-        return 0;
-    }
-    if len - at < 4 {
-        return len - at;
-    }
-    4
+    len.saturating_sub(at).min(4)
 }
 
 // The register after the bytes with the four at `at` read as zero, where `at` begins a word: the zeros go without the table, as one word with the four

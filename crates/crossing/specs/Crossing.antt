@@ -1,6 +1,6 @@
 -- Does a leg cross a transect: document 02, request 4. The transect is given by its two ends, the tile by header, key and bytes.
 -- Which of the meeting segments is named stays open, as the request says: `Crosses` limits the answer and does not fix it.
-use Rattle.std.specs.Prelude.{ℕ, ◌+◌, ◌≤◌, ◌<◌, ◌≡◌, Bool, cond, List, [], ◌∷◌}
+use Rattle.std.specs.Prelude.{ℕ, ◌+◌, ◌≤◌, ◌<◌, ◌≡◌, List, [], ◌∷◌, Option, Some, None, Result, Ok, Err}
 use Rattle.pack.specs.Sector.{rules}
 use Rattle.pack.specs.Grid.{is_point, in_grid}
 use Rattle.pack.specs.declared.Header.{Header}
@@ -10,8 +10,8 @@ use Rattle.tile.specs.Parse.{accepts}
 use Rattle.geo.specs.Points as Points
 use Rattle.geo.specs.declared.Point.{Point}
 use Rattle.crossing.specs.Segments.{Meet}
-use Rattle.crossing.specs.declared.Crossed.{Crossed}
-use Rattle.crossing.specs.declared.Crossed.TheVariants as Crossed
+use Rattle.refusal.specs.Refusal.{first_of}
+use Rattle.refusal.specs.declared.Refusal.{Refusal}
 
 -- ---- the segments of a tile
 
@@ -27,38 +27,30 @@ point_at h k bs edge index = Points.point_of h k (Layout.point_of bs (Layout.edg
 abbrev pub MeetsTransect : Point → Point → Header → TileKey → List ℕ → ℕ → ℕ → Type 0
 MeetsTransect first second h k bs edge segment = Meet first second (point_at h k bs edge segment) (point_at h k bs edge (segment + 1))
 
--- ---- refusals, in document 01's order, 0 where nothing is refused
+-- ---- refusals, in document 01's order
 
-abbrev pub number_of : List (Bool × ℕ) → ℕ
-number_of [] = 0
-number_of ((ok, number) ∷ rest) = cond ok (number_of rest) number
-
-unfoldable pub refusal : Point → Point → Header → TileKey → List ℕ → ℕ
+unfoldable pub refusal : Point → Point → Header → TileKey → List ℕ → Result Unit Refusal
 refusal first second h k bs =
-    number_of
-    ((rules h, 12)
-    ∷ (is_point first.lat first.lon, 8)
-    ∷ (is_point second.lat second.lon, 8)
-    ∷ (in_grid h k, 9)
-    ∷ (accepts bs k h.tile, 4)
+    first_of
+    ((rules h, Refusal.BadState)
+    ∷ (is_point first.lat first.lon, Refusal.OutOfRange)
+    ∷ (is_point second.lat second.lon, Refusal.OutOfRange)
+    ∷ (in_grid h k, Refusal.OutsideGrid)
+    ∷ (accepts bs k h.tile, Refusal.Corrupt)
     ∷ [])
 
 -- ---- the answer
 
 pub record Named (first second : Point) (h : Header) (k : TileKey) (bs : List ℕ) (edge segment : ℕ) : Type 0 where
-  pub accepted : refusal first second h k bs ≡ 0
+  pub accepted : refusal first second h k bs ≡ Ok tt
   pub there : IsSegment bs edge segment
   pub meets : MeetsTransect first second h k bs edge segment
 
 pub record NoneMeets (first second : Point) (h : Header) (k : TileKey) (bs : List ℕ) : Type 0 where
-  pub accepted : refusal first second h k bs ≡ 0
+  pub accepted : refusal first second h k bs ≡ Ok tt
   pub none : (edge segment : ℕ) → IsSegment bs edge segment → MeetsTransect first second h k bs edge segment → ⊥
 
-pub record Refuses (first second : Point) (h : Header) (k : TileKey) (bs : List ℕ) (number : ℕ) : Type 0 where
-  pub is : number ≡ refusal first second h k bs
-  pub some : 0 < number
-
-abbrev pub Crosses : Point → Point → Header → TileKey → List ℕ → Crossed → Type 0
-Crosses first second h k bs (Crossed.At edge segment) = Named first second h k bs edge segment
-Crosses first second h k bs Crossed.Nothing = NoneMeets first second h k bs
-Crosses first second h k bs (Crossed.Refused number) = Refuses first second h k bs number
+abbrev pub Crosses : Point → Point → Header → TileKey → List ℕ → Result (Option (ℕ × ℕ)) Refusal → Type 0
+Crosses first second h k bs (Ok (Some (edge, segment))) = Named first second h k bs edge segment
+Crosses first second h k bs (Ok None) = NoneMeets first second h k bs
+Crosses first second h k bs (Err e) = refusal first second h k bs ≡ Err e

@@ -2,5 +2,3 @@
 pub mod Segments
 pub mod Crossing
 pub mod Sides
--- The number of each answer.
-pub mod Numbers

@@ -1,6 +1,6 @@
 -- The sign tests of the code, restated for the proofs: nothing here has to be believed, since proofs/Meeting.antt shows them equal to specs/Segments.antt.
 -- A place is a point counted from -360,000,000, so that its numbers are not negative.
-use Rattle.std.specs.Prelude.{ℕ, ◌+◌, ◌*◌, ◌≤◌, ◌<◌, ◌^◌, min, max, ◌≡◌, Bool, true, false, ◌&&◌, ◌||◌, not, cond, List, ltb, ℤ, pos, ◌+ℤ◌}
+use Rattle.std.specs.Prelude.{ℕ, ◌+◌, ◌*◌, ◌≤◌, ◌<◌, ◌^◌, min, max, ◌≡◌, Bool, true, false, ◌&&◌, ◌||◌, not, cond, List, ltb, ℤ, pos, ◌+ℤ◌, Option, Some, None}
 use Rattle.pack.specs.Sector.{rules}
 use Rattle.pack.specs.Grid.{natural, in_grid}
 use Rattle.pack.specs.declared.Header.{Header}
@@ -10,8 +10,6 @@ use Rattle.tile.specs.declared.Edge.{Edge}
 use Rattle.geo.specs.Points as Points
 use Rattle.geo.specs.declared.Point.{Point}
 use Rattle.crossing.specs.Crossing.{IsSegment}
-use Rattle.crossing.specs.declared.Crossed.{Crossed}
-use Rattle.crossing.specs.declared.Crossed.TheVariants as Crossed
 use Rattle.crossing.specs.declared.Place.{Place}
 
 -- z counted from -360,000,000, and 0 below that
@@ -66,13 +64,12 @@ pub record Placed (h : Header) (k : TileKey) (bs : List ℕ) (e : Edge) (index :
 unfoldable pub meets_at : Place → Place → Header → TileKey → List ℕ → Edge → ℕ → Bool
 meets_at a b h k bs e s = meets a b (place_at h k bs e s) (place_at h k bs e (s + 1))
 
--- a segment of an edge that meets the transect, or a number past its segments
-pub record InEdge (a b : Place) (h : Header) (k : TileKey) (bs : List ℕ) (e : Edge) (r : ℕ) : Type 0 where
-  pub hit : r ≤ e.vertices → meets_at a b h k bs e r ≡ true
-  pub miss : e.vertices < r → (s : ℕ) → s ≤ e.vertices → meets_at a b h k bs e s ≡ false
+-- a segment of an edge that meets the transect, or none
+abbrev pub InEdge : Place → Place → Header → TileKey → List ℕ → Edge → Option ℕ → Type 0
+InEdge a b h k bs e (Some s) = (s ≤ e.vertices) × (meets_at a b h k bs e s ≡ true)
+InEdge a b h k bs e None = (s : ℕ) → s ≤ e.vertices → meets_at a b h k bs e s ≡ false
 
--- a segment of a tile that does, or none; the search refuses nothing
-abbrev pub InTile : Place → Place → Header → TileKey → List ℕ → Crossed → Type 0
-InTile a b h k bs (Crossed.At edge s) = IsSegment bs edge s × (meets_at a b h k bs (Layout.edge_of bs edge) s ≡ true)
-InTile a b h k bs Crossed.Nothing = (edge s : ℕ) → IsSegment bs edge s → meets_at a b h k bs (Layout.edge_of bs edge) s ≡ false
-InTile a b h k bs (Crossed.Refused number) = ⊥
+-- a segment of a tile that does, or none
+abbrev pub InTile : Place → Place → Header → TileKey → List ℕ → Option (ℕ × ℕ) → Type 0
+InTile a b h k bs (Some (edge, s)) = IsSegment bs edge s × (meets_at a b h k bs (Layout.edge_of bs edge) s ≡ true)
+InTile a b h k bs None = (edge s : ℕ) → IsSegment bs edge s → meets_at a b h k bs (Layout.edge_of bs edge) s ≡ false

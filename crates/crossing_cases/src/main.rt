@@ -2,9 +2,9 @@
 // A case is a name and the transect's two ends, latitude before longitude. Where several segments meet, the answer names one of them.
 #![tactic(auto)]
 
-use crossing::Crossed;
 use geo::Point;
 use pack::{Header, TileKey};
+use refusal::Refusal;
 use std::io;
 
 // A header of a grid of square tiles from its south-west corner on.
@@ -25,11 +25,14 @@ fn grid(tile: u32, from: i32, side: u16, data: u32) -> Header {
     }
 }
 
-fn say(rt: &impl Print, name: &str, answer: Crossed) -> io::Result<()> {
+fn say(rt: &impl Print, name: &str, answer: Result<Option<(u16, u32)>, Refusal>) -> io::Result<()> {
     match answer {
-        Crossed::At(edge, segment) => println!(rt; "{name}: edge {edge} segment {segment}"),
-        Crossed::Nothing => println!(rt; "{name}: none"),
-        Crossed::Refused(n) => println!(rt; "{name}: refused {n}"),
+        Ok(Some((edge, segment))) => println!(rt; "{name}: edge {edge} segment {segment}"),
+        Ok(None) => println!(rt; "{name}: none"),
+        Err(e) => {
+            let n = e.number();
+            println!(rt; "{name}: refused {n}")
+        }
     }
 }
 

@@ -9,10 +9,10 @@ use Rattle.cache.specs.Direct.{ready, stale, settled, Agree, look_at, look, dire
 use Rattle.cache.specs.Lookups.{lands_on, run_bytes, passes, len_at}
 use Rattle.cache.specs.declared.Cache.{Cache}
 use Rattle.cache.specs.declared.look.Landing.{Landing}
-use Rattle.cache.specs.declared.look.Landing.TheVariants as Landing
 use Rattle.cache_lists.specs.Claims.{Parsed}
 use Rattle.cache_lists.proofs.Lookups.{in_ring_lem, ReadyAt, ready_at_lem, LandingIs, landing}
 use Rattle.cache_lists.proofs.Kept.{Kept}
+use Rattle.cache_lists.proofs.Same.{header_is}
 use Rattle.direct.specs.Direct.{Lookup, header_of, directly}
 use Rattle.direct.specs.Claims.{Answers}
 
@@ -37,6 +37,6 @@ pub look_agrees : (P : List ℕ) (n : ℕ) (c : Cache) (arena : List ℕ) (h : H
     → Agree (look c arena h.tile) (at P)
 look_agrees P n c arena h parsed k at answers key s =
     let same : Agree (look c arena h.tile) (directly n P)
-    = subst (λ (x : Header). Agree (look c arena x.tile) (directly n P)) parsed.header (kept_agrees P (header_of P) n c arena k) in
+    = subst (λ (x : Header). Agree (look c arena x.tile) (directly n P)) (header_is parsed) (kept_agrees P (header_of P) n c arena k) in
     let e : directly n P key ≡ look c arena h.tile key = same key s in
     answers P key (ap settled e ∙ s) ∙ e

@@ -1,5 +1,8 @@
 -- Along every list of fair calls, with an arena as long as its pages: the engine is in no state that 12 names, its match was found in the pack, and so no
 -- call is refused with 12 but for a matcher that the caller gives. By the ways that a call goes.
+use Rattle.refusal.specs.Refusal.{number_of_result}
+use Rattle.refusal.specs.declared.Refusal.{Refusal}
+use Rattle.std.specs.Prelude.{Result, Ok, Err}
 use Prim.Native.Nat.{ℕ, ◌*◌, ◌≤◌}
 use mathlib.Core.Path.{◌≡◌, refl, sym, ap, subst, ◌∙◌}
 use mathlib.Core.Bool.{Bool, true, false, ◌&&◌, not, cond, true≢false}
@@ -17,12 +20,10 @@ use Rattle.cache.specs.Direct.{stale, look}
 use Rattle.cache.specs.State.{entry_in, cache_ok}
 use Rattle.cache.specs.declared.Cache.{Cache}
 use Rattle.cache.specs.declared.Progress.{Progress}
-use Rattle.cache.specs.declared.Progress.TheVariants as Progress
-use Rattle.cache_lists.specs.Claims as Cached
 use Rattle.cache_lists.specs.Claims.{Parsed}
 use Rattle.cache_lists.proofs.Inv.{Inv}
 use Rattle.cache_lists.proofs.Steps.{load_is}
-use Rattle.cache_lists.proofs.Same.{kept_ok, given, parsed_rules, open_step, open_call}
+use Rattle.cache_lists.proofs.Same.{header_is, kept_ok, given, parsed_rules, open_step, open_call}
 use Rattle.matcher.specs.declared.Current.{Current}
 use Rattle.matcher.specs.declared.Current.TheVariants as CurrentIs
 use Rattle.matcher.specs.declared.Heading.{Heading}
@@ -60,7 +61,6 @@ use Rattle.engine.specs.declared.Engine.{Engine}
 use Rattle.engine.specs.declared.HeaderRead.{HeaderRead}
 use Rattle.engine.specs.declared.Known.TheVariants as Known
 use Rattle.engine.specs.declared.Phase.{Phase}
-use Rattle.engine.specs.declared.Phase.TheVariants as Phase
 use Rattle.engine.specs.declared.Stepped.{Stepped}
 use Rattle.engine_states.proofs.EngineKept.{fix_kept, lost_kept}
 use Rattle.engine_states.proofs.EngineClosed.{reset_ok, step_ok, deliver_ok, step_from_ok}
@@ -118,12 +118,12 @@ module _ (P : List ℕ) (n : ℕ) (horizon : Float) (w : World) (s : Stays P n h
   either_number true x y p q = p
   either_number false x y p q = q
 
-  loaded_number : (x : Progress) (c : Cache) → (Cached.refused_progress x ≡ 12 → ⊥) → number_of_status (loaded_by x e₁ c).answer ≡ 12 → ⊥
+  loaded_number : (x : Result Progress Refusal) (c : Cache) → (number_of_result x ≡ 12 → ⊥) → number_of_status (loaded_by x e₁ c).answer ≡ 12 → ⊥
   unfolding arrived load_failed
-  loaded_number Progress.Done c f z = omega arith
-  loaded_number Progress.More c f z = omega arith
-  loaded_number (Progress.Failed k) c f z = either_number (ltb e₁.follower.failures 7) _ _ (λ y. omega arith) (λ y. omega arith) z
-  loaded_number (Progress.Refused k) c f z = f z
+  loaded_number (Ok Progress.Done) c f z = omega arith
+  loaded_number (Ok Progress.More) c f z = omega arith
+  loaded_number (Ok (Progress.Failed k)) c f z = either_number (ltb e₁.follower.failures 7) _ _ (λ y. omega arith) (λ y. omega arith) z
+  loaded_number (Err k) c f z = f z
 
   delivers_number : {failure : ℕ} {bs : List ℕ} {r : After} → Delivers e₁ w.arena failure bs r → number_of_status r.answer ≡ 12 → ⊥
   unfolding header_failed
@@ -292,7 +292,7 @@ module _ (P : List ℕ) (n : ℕ) (horizon : Float) (w : World) (s : Stays P n h
 
   -- the header that was read is the pack's
   header_same : e₂.shared.phase ≡ Phase.Ready → e₂.shared.header ≡ header_of P
-  header_same z = let parsed : Parsed P e₂.shared.header = rw z at s.fit.shared.header in sym parsed.header
+  header_same z = let parsed : Parsed P e₂.shared.header = rw z at s.fit.shared.header in sym (header_is parsed)
 
   pub entry_of_pack : entry_in e₂.shared.cache.pending (header_of P) ≡ true
   entry_of_pack = entry_is e₂ w.arena s.ok (header_of P) header_same
@@ -304,7 +304,7 @@ module _ (P : List ℕ) (n : ℕ) (horizon : Float) (w : World) (s : Stays P n h
     pub cache_is : (key : TileKey) → cache_ok e₂.shared.cache h (length w.arena) ≡ true
     cache_is key =
         kept_ok P h n key e₂.shared.cache w.arena (given P n parsed s.fit.shared.cache) (parsed_rules P n parsed) s.long
-        (entry_is e₂ w.arena s.ok h (λ z. header_same z ∙ parsed.header))
+        (entry_is e₂ w.arena s.ok h (λ z. header_same z ∙ (header_is parsed)))
 
     update_number : (m : Matcher) (p : Point) (heading : Heading) → MatchNumbers.number_of_outcome (Matching.update m e₂.shared.cache w.arena h p heading).answer ≡ 12
         → (counts_ok m && key_ok m.current h) ≡ false

@@ -1,5 +1,8 @@
 -- What a step and a delivery leave beside the cache: phase, header, and of the follower what it sees, what it matches and what it was made with; a
 -- delivery also what is published. By the ways that a call goes.
+use Rattle.refusal.specs.declared.Refusal.{Refusal}
+use Rattle.std.specs.Prelude.{Result, Err}
+use Rattle.std.specs.Prelude.{Ok}
 use Prim.Native.Nat.{ℕ}
 use mathlib.Core.Path.{◌≡◌, refl, ◌∙◌}
 use mathlib.Core.Bool.{Bool, true, false, ◌&&◌, cond}
@@ -8,12 +11,10 @@ use mathlib.Core.Logic.{inl}
 use lib.Dec.{eqb, ltb}
 use lib.ListN.{length}
 use Rattle.pack.specs.Sector.{parse}
-use Rattle.pack.specs.declared.Answer.TheVariants as SectorIs
 use Rattle.pack.specs.declared.Header.{Header}
 use Rattle.pack.specs.declared.TileKey.{TileKey}
 use Rattle.cache.specs.declared.Cache.{Cache}
 use Rattle.cache.specs.declared.Progress.{Progress}
-use Rattle.cache.specs.declared.Progress.TheVariants as Progress
 use Rattle.matcher.specs.declared.Outcome as MatchOutcome
 use Rattle.matcher.specs.declared.Outcome.TheVariants as Match
 use Rattle.matcher.specs.declared.Updated.{Updated}
@@ -21,7 +22,6 @@ use Rattle.predict.specs.Predict as Predict
 use Rattle.predict.specs.declared.Outcome as RoadOutcome
 use Rattle.predict.specs.declared.Outcome.TheVariants as Roads
 use Rattle.matcher.specs.declared.Current.{Current}
-use Rattle.matcher.specs.declared.Current.TheVariants as Current
 use Rattle.matcher.specs.declared.Matched.{Matched}
 use Rattle.matcher.specs.declared.Matcher.{Matcher}
 use Rattle.engine.specs.declared.Fix.{Fix}
@@ -34,9 +34,7 @@ use Rattle.engine.specs.Deliver.{After, over, sector_of, arrived, header_failed,
 use Rattle.engine.specs.Calls as Engines
 use Rattle.engine.specs.declared.Engine.{Engine}
 use Rattle.engine.specs.declared.Phase.{Phase}
-use Rattle.engine.specs.declared.Phase.TheVariants as Phase
 use Rattle.engine.specs.declared.Status.{Status}
-use Rattle.engine.specs.declared.Status.TheVariants as Status
 use Rattle.engine.specs.declared.Stepped.{Stepped}
 use Rattle.direct.specs.Finished.{Task, match_of, road_at}
 use Rattle.direct.specs.Claims.{open_read}
@@ -154,8 +152,8 @@ pub data Heads (e : Engine) (failure : ℕ) (bs : List ℕ) : Status → Phase �
   kept : {a : Status} → Heads e failure bs a e.shared.phase e.shared.header
   unread : {a : Status} → Heads e failure bs a Phase.Unread e.shared.header
   failed : {a : Status} → Heads e failure bs a Phase.Failed e.shared.header
-  came : open_read e ≡ Status.Fetch 0 512 → failure ≡ 0 → length bs ≡ 512 → (parse (sector_of bs)).answer ≡ SectorIs.Accepted
-      → Heads e failure bs Status.Working Phase.Ready (parse (sector_of bs)).header
+  came : {h : Header} → open_read e ≡ Status.Fetch 0 512 → failure ≡ 0 → length bs ≡ 512 → parse (sector_of bs) ≡ Ok h
+      → Heads e failure bs Status.Working Phase.Ready h
 
 pub record Left (e : Engine) (failure : ℕ) (bs : List ℕ) (a : Status) (n : Engine) : Type 0 where
   pub heads : Heads e failure bs a n.shared.phase n.shared.header
@@ -179,14 +177,14 @@ module _ (e : Engine) (failure : ℕ) (bs : List ℕ) where
       → n.follower.due.matching ≡ e.follower.due.matching → n.follower.due.road ≡ e.follower.due.road → Left e failure bs a n
   left_parts h s m r = record { heads = h; follower = s; due = record { matching = m; road = inl r } }
 
-  loaded_left : (p : Progress) (c : Cache) → Left e failure bs (loaded_by p e c).answer (loaded_by p e c).engine
+  loaded_left : (p : Result Progress Refusal) (c : Cache) → Left e failure bs (loaded_by p e c).answer (loaded_by p e c).engine
   unfolding arrived load_failed
-  loaded_left Progress.Done c = left_parts kept (same_parts refl refl refl refl) refl refl
-  loaded_left Progress.More c = left_parts kept (same_parts refl refl refl refl) refl refl
-  loaded_left (Progress.Failed number) c =
+  loaded_left (Ok Progress.Done) c = left_parts kept (same_parts refl refl refl refl) refl refl
+  loaded_left (Ok Progress.More) c = left_parts kept (same_parts refl refl refl refl) refl refl
+  loaded_left (Ok (Progress.Failed number)) c =
       either_left (ltb e.follower.failures 7) _ _ (left_parts kept (same_parts refl refl refl refl) refl refl)
       (left_parts failed (same_parts refl refl refl refl) refl refl)
-  loaded_left (Progress.Refused number) c = left_same
+  loaded_left (Err number) c = left_same
 
   delivers_left : {arena : List ℕ} {r : After} → Delivers e arena failure bs r → Left e failure bs r.answer r.engine
   unfolding header_failed

@@ -17,11 +17,8 @@ use Rattle.cache.specs.Lookups.{lands_on, passes, len_at, touched, got_at, got_r
 use Rattle.cache.specs.State.{pending_fits, cache_ok}
 use Rattle.cache.specs.declared.Cache.{Cache}
 use Rattle.cache.specs.declared.Pending.{Pending}
-use Rattle.cache.specs.declared.Pending.TheVariants as Pending
 use Rattle.cache.specs.declared.look.Landing.{Landing}
-use Rattle.cache.specs.declared.look.Landing.TheVariants as Landing
 use Rattle.cache.specs.declared.next.Next.{Next}
-use Rattle.cache.specs.declared.next.Next.TheVariants as Next
 use Rattle.cache.specs.Loads as Loads
 use Rattle.cache.specs.Loads.{forgot, told}
 use Rattle.cache_lists.proofs.Lookups.{next_is}
@@ -36,7 +33,6 @@ use Rattle.matcher.specs.declared.Outcome as MatchOutcome
 use Rattle.matcher.specs.declared.Outcome.TheVariants as Match
 use Rattle.matcher.specs.declared.Updated.{Updated}
 use Rattle.matcher.specs.declared.gather.Ending.{Ending}
-use Rattle.matcher.specs.declared.gather.Ending.TheVariants as Ending
 use Rattle.predict.specs.Predict as Predict
 use Rattle.predict.specs.declared.Outcome as RoadOutcome
 use Rattle.predict.specs.declared.Outcome.TheVariants as Roads

@@ -13,7 +13,6 @@ use Rattle.pack.specs.declared.TileKey.{TileKey}
 use Rattle.cache.specs.declared.Cache.{Cache}
 use Rattle.cache.specs.declared.Aging.{Aging}
 use Rattle.cache.specs.declared.look.Landing.{Landing}
-use Rattle.cache.specs.declared.look.Landing.TheVariants as Landing
 use Rattle.cache.specs.Ages as Ages
 use Rattle.cache.specs.Calls as CacheCalls
 use Rattle.cache.specs.Direct.{ready, missing, direct}

@@ -1,6 +1,7 @@
 -- What is due, and what a step off the map clears. The idea: unless a road is due for its match, a step off the map clears the matcher where it has a match
 -- (`Clears`, along every list: `all_cleared`); where a fix is given only once nothing is due, no road is due off the map (`Rested`), not both a match and
 -- a road are due (`Idles`), and so a step that answers that there is nothing to do leaves nothing due (`step_settles`).
+use Rattle.cache.specs.declared.Loading.{Loading}
 use Prim.Native.Nat.{ℕ, ◌+◌}
 use mathlib.Core.Path.{◌≡◌, refl, sym, ap, subst, ◌∙◌}
 use mathlib.Core.Bool.{Bool, true, false, ◌&&◌, ◌||◌, not, cond, true≢false}
@@ -10,16 +11,12 @@ use native.Mathlib.Omega.{arith}
 use lib.Dec.{eqb}
 use lib.Ieee.{Float}
 use lib.ListN.{length}
+use Rattle.std.specs.Prelude.{Option, Some, None}
+use Rattle.pack.specs.declared.TileKey.{TileKey}
 use Rattle.pack.specs.Grid.{is_point, key_of}
 use Rattle.pack.specs.declared.Header.{Header}
-use Rattle.pack.specs.declared.Keyed.{Keyed}
-use Rattle.pack.specs.declared.Keyed.TheVariants as Keyed
-use Rattle.cache.specs.declared.MaybeLoading.{MaybeLoading}
-use Rattle.cache.specs.declared.MaybeLoading.TheVariants as MaybeLoading
 use Rattle.cache.specs.declared.Pending.{Pending}
-use Rattle.cache.specs.declared.Pending.TheVariants as Pending
 use Rattle.matcher.specs.declared.Current.{Current}
-use Rattle.matcher.specs.declared.Current.TheVariants as Current
 use Rattle.matcher.specs.declared.Matched.{Matched}
 use Rattle.matcher.specs.Calls as Matching
 use Rattle.matcher.specs.declared.Matcher.{Matcher}
@@ -39,7 +36,6 @@ use Rattle.engine.specs.declared.Ahead.{Ahead}
 use Rattle.engine.specs.declared.Fix.{Fix}
 use Rattle.engine.specs.declared.Follower.{Follower}
 use Rattle.engine.specs.declared.MaybeFix.{MaybeFix}
-use Rattle.engine.specs.declared.MaybeFix.TheVariants as MaybeFix
 use Rattle.engine.specs.State as States
 use Rattle.engine.specs.State.{refused, is_failed, pending_by, engine_ok}
 use Rattle.engine.specs.Work as Work
@@ -50,7 +46,6 @@ use Rattle.engine.specs.Calls as Engines
 use Rattle.engine.specs.declared.Changed.{Changed}
 use Rattle.engine.specs.declared.Engine.{Engine}
 use Rattle.engine.specs.declared.Phase.{Phase}
-use Rattle.engine.specs.declared.Phase.TheVariants as Phase
 use Rattle.engine.specs.declared.Sight.{Sight}
 use Rattle.engine.specs.declared.Status.TheVariants as Status
 use Rattle.engine.specs.declared.Stepped.{Stepped}
@@ -59,7 +54,7 @@ use Rattle.direct.specs.Lists as Calls
 use Rattle.direct.specs.Lists.{World, Call, exec, start}
 use Rattle.direct.specs.Finished as Shows
 use Rattle.direct.specs.Finished.{Shown, Road, Task, task_of, match_of, road_at, match_shown, road_shown, task_shown, step_shown}
-use Rattle.direct.specs.Direct.{header_of, forgotten, no_road}
+use Rattle.direct.specs.Direct.{header_of}
 use Rattle.direct.specs.Story.{after}
 use Rattle.direct.specs.Settled.{AllCleared, is_settled, Settles, is_resting}
 use Rattle.engine_states.proofs.Ways as Ways
@@ -227,19 +222,17 @@ all_cleared n horizon arena cs fix q =
 
 -- ---- off the map
 
-abbrev pub is_outside : Keyed → Bool
-is_outside (Keyed.In key) = false
-is_outside Keyed.Outside = true
-is_outside (Keyed.Refused number) = true
+abbrev pub is_outside : Option TileKey → Bool
+is_outside (Some key) = false
+is_outside None = true
 
 abbrev pub is_off : Header → MaybeFix → Bool
 is_off h MaybeFix.Nothing = false
 is_off h (MaybeFix.Is f) = is_outside (key_of h f.lat f.lon)
 
-outside_is : (x : Keyed) → OffGrid x → is_outside x ≡ true
-outside_is (Keyed.In key) o = absurd o
-outside_is Keyed.Outside o = refl
-outside_is (Keyed.Refused number) o = refl
+outside_is : (x : Option TileKey) → OffGrid x → is_outside x ≡ true
+outside_is (Some key) o = absurd o
+outside_is None o = refl
 
 -- a matcher whose match is gone where the fix is off the map
 abbrev pub cleared : Bool → Matcher → Matcher
@@ -537,9 +530,9 @@ module _ (e : Engine) (arena : List ℕ) (i : Idles e) where
   open_works_on (Pending.Entry key) = refl
   open_works_on Pending.Chunk = by e.shared.cache.loading
     where
-      by : (x : MaybeLoading) → is_resting (chunk_request x) ≡ false
-      by MaybeLoading.Nothing = refl
-      by (MaybeLoading.Tile l) = refl
+      by : (x : Option Loading) → is_resting (chunk_request x) ≡ false
+      by None = refl
+      by (Some l) = refl
 
   match_rests : (x : MatchOutcome.Outcome) (fix : Fix) (u : Updated) → e.follower.due.matching ≡ true → NotBoth e.follower
       → let s = match_ended_by x e (counted e.follower) fix u in is_resting s.answer ≡ true → is_settled s.engine ≡ true

@@ -29,7 +29,7 @@ use Rattle.cache_lists.proofs.Steps.{Step, refuses, knows, uses, no_pages, fails
 use Rattle.cache_lists.proofs.Direct.{direct_none}
 use Rattle.cache_lists.proofs.Inv.{inv_cleared}
 use Rattle.cache_lists.proofs.Kept.{Kept, kept_fresh, kept_touched, kept_forgot}
-use Rattle.cache_lists.proofs.Same.{kept_step, given, kept_call}
+use Rattle.cache_lists.proofs.Same.{header_is, kept_step, given, kept_call}
 use Rattle.engine.specs.Follow as Followers
 use Rattle.engine.specs.Fixes.{is_same_place}
 use Rattle.engine.specs.declared.Fix.{Fix}
@@ -40,10 +40,8 @@ use Rattle.engine.specs.Calls as Engines
 use Rattle.engine.specs.declared.Changed.{Changed}
 use Rattle.engine.specs.declared.Engine.{Engine}
 use Rattle.engine.specs.declared.Phase.{Phase}
-use Rattle.engine.specs.declared.Phase.TheVariants as Phase
 use Rattle.engine.specs.declared.Shared.{Shared}
 use Rattle.engine.specs.declared.Status.{Status}
-use Rattle.engine.specs.declared.Status.TheVariants as Status
 use Rattle.engine.specs.declared.Stepped.{Stepped}
 use Rattle.engine_states.proofs.RefusedSame.{step_open}
 use Rattle.direct.specs.Lists.{World, Call, fix, lost, reset, step, deliver, step_from, read, on_cache, nearby, current, update, predict, cache_of, number_of_taken, number_of_status, exec, start}
@@ -161,7 +159,7 @@ module _ (P : List ℕ) (n : ℕ) where
           let parsed : Parsed P h = rw b.ready at fits in
           let goes : Step e.shared.cache arena h key failure bs (brought e arena key failure bs) = load_is e.shared.cache arena h key failure bs in
           part_by goes
-          (λ z. rw parsed.header
+          (λ z. rw (header_is parsed)
           (kept_step P h n key e.shared.cache arena (given P n parsed k) failure bs
           (λ y. rw b.fetches (rw b.asks at (fair (sym same ∙ z) y))) goes))
 
@@ -176,7 +174,7 @@ module _ (P : List ℕ) (n : ℕ) where
       heads_fit (Sides.came o z size a) same =
           let pack : (0 + 512 ≤ length P) × (bs ≡ take 512 (drop 0 P)) = (rw o at (fair (ap number_of_status (sym same)) z)) size in
           let is : sector_of bs ≡ take 512 P = sector_whole bs size ∙ pack.1 in
-          record { whole = pack.0; accepted = rw is at a; header = rw is }
+          record { whole = pack.0; parses = rw is at a }
 
   -- ---- a step, a delivery, the lent-pack form
 

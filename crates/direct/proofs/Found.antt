@@ -1,5 +1,6 @@
 -- Every run that a lookup of a match or of a road answers lies in the arena and passes `Tile::parse` for its key. The idea: what is found is what
 -- the look answers, and that is tested first. For a road, a walk over a reader is compared with itself, what it carries holding more.
+use Rattle.std.specs.Prelude.{Option, Some, None}
 use Prim.Native.Nat.{ℕ, ◌<◌}
 use mathlib.Core.Path.{◌≡◌, refl, ap}
 use mathlib.Core.Bool.{Bool, true, false, cond}
@@ -10,14 +11,11 @@ use lib.IntN.{ℤ}
 use Rattle.num.proofs.FoldLaws.{up_keeps}
 use Rattle.pack.specs.declared.Header.{Header}
 use Rattle.pack.specs.declared.TileKey.{TileKey}
-use Rattle.cache.specs.declared.MaybeKey.{MaybeKey}
-use Rattle.cache.specs.declared.MaybeKey.TheVariants as MaybeKey
 use Rattle.geo.specs.declared.Point.{Point}
 use Rattle.cache.specs.Direct.{Look, ready, missing, absent, stale, look_at, look}
 use Rattle.cache.specs.Lookups.{lands_on, run_bytes, passes, len_at}
 use Rattle.cache.specs.declared.Cache.{Cache}
 use Rattle.cache.specs.declared.look.Landing.{Landing}
-use Rattle.cache.specs.declared.look.Landing.TheVariants as Landing
 use Rattle.cache.proofs.LookLaws.{passes_inside, passes_accepted}
 use Rattle.matcher.specs.declared.Heading.{Heading}
 use Rattle.matcher.specs.declared.Matched.{Matched}
@@ -27,7 +25,6 @@ use Rattle.matcher.specs.Gather.{Run, look_step, key_step, run_step, no_run, run
 use Rattle.matcher.specs.declared.Matcher.{Matcher}
 use Rattle.matcher.specs.declared.NearKeys.{NearKeys}
 use Rattle.matcher.specs.declared.gather.Ending.{Ending}
-use Rattle.matcher.specs.declared.gather.Ending.TheVariants as Ending
 use Rattle.cache.specs.Reader.{plain}
 use Rattle.predict.specs.Predict.{predict_over}
 use Rattle.predict.proofs.RoadLaws.{forecast_simulates}
@@ -50,11 +47,11 @@ module _ (at : TileKey → Look) (R : TileKey → Type 0) (is : (key : TileKey) 
     look_all absent r key e all = all
     look_all stale r key e all = all
 
-    key_all : (m : MaybeKey) (r : Run) → AllOf R r.found → AllOf R (key_step m at r q).found
-    key_all MaybeKey.Nothing r all = all
-    key_all (MaybeKey.Key key) r all = look_all (at key) r key refl all
+    key_all : (m : Option TileKey) (r : Run) → AllOf R r.found → AllOf R (key_step m at r q).found
+    key_all None r all = all
+    key_all (Some key) r all = look_all (at key) r key refl all
 
-    step_all : (end : Ending) (m : MaybeKey) (r : Run) → AllOf R r.found → AllOf R (run_step end m at r q).found
+    step_all : (end : Ending) (m : Option TileKey) (r : Run) → AllOf R r.found → AllOf R (run_step end m at r q).found
     step_all Ending.All m r all = key_all m r all
     step_all (Ending.Need key) m r all = all
     step_all Ending.Stale m r all = all

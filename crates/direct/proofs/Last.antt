@@ -9,11 +9,10 @@ use lib.Dec.{eqb}
 use lib.Ieee.{Float}
 use lib.IntN.{ℤ}
 use lib.ListN.{length}
+use Rattle.std.specs.Prelude.{Option, Some, None}
+use Rattle.pack.specs.declared.TileKey.{TileKey}
 use Rattle.pack.specs.Grid.{is_point, key_of}
-use Rattle.pack.specs.declared.Keyed.{Keyed}
-use Rattle.pack.specs.declared.Keyed.TheVariants as Keyed
 use Rattle.matcher.specs.declared.Current.{Current}
-use Rattle.matcher.specs.declared.Current.TheVariants as Current
 use Rattle.matcher.specs.declared.Matched.{Matched}
 use Rattle.matcher.specs.declared.Matcher.{Matcher}
 use Rattle.matcher.specs.declared.Outcome as MatchOutcome
@@ -32,7 +31,6 @@ use Rattle.engine.specs.declared.Ahead.{Ahead}
 use Rattle.engine.specs.declared.Fix.{Fix}
 use Rattle.engine.specs.declared.Follower.{Follower}
 use Rattle.engine.specs.declared.MaybeFix.{MaybeFix}
-use Rattle.engine.specs.declared.MaybeFix.TheVariants as MaybeFix
 use Rattle.engine.specs.State as States
 use Rattle.engine.specs.State.{refused, unchanged, followed, engine_ok}
 use Rattle.engine.specs.Work as Work
@@ -98,10 +96,9 @@ module _ (at : Lookup) (made : Made) (P : List ℕ) (d : Held) where
   current_keeps Current.Nothing f = refl
   current_keeps (Current.Is found) f = let r = road_held at made P found in road_keeps r.answer f found r.samples r.behind
 
-  key_keeps : (x : Keyed) (f : Fix) → Keeps (key_worked at made P x d f)
-  key_keeps (Keyed.In key) f = current_keeps d.matcher.current f
-  key_keeps Keyed.Outside f = refl
-  key_keeps (Keyed.Refused k) f = refl
+  key_keeps : (x : Option TileKey) (f : Fix) → Keeps (key_worked at made P x d f)
+  key_keeps (Some key) f = current_keeps d.matcher.current f
+  key_keeps None f = refl
 
   step_keeps : (t : Told) → Keeps (step_worked at made P t d)
   unfolding step_worked

@@ -17,10 +17,8 @@ use Rattle.geo.specs.declared.Point.{Point}
 use Rattle.cache.specs.Direct.{Look, look}
 use Rattle.cache.specs.State.{cache_ok}
 use Rattle.cache.specs.declared.Pending.{Pending}
-use Rattle.cache.specs.declared.Pending.TheVariants as Pending
 use Rattle.cache_lists.specs.Claims.{Parsed}
 use Rattle.matcher.specs.declared.Current.{Current}
-use Rattle.matcher.specs.declared.Current.TheVariants as Current
 use Rattle.matcher.specs.declared.Heading.{Heading}
 use Rattle.matcher.specs.declared.Kept.{Kept}
 use Rattle.matcher.specs.declared.Matched.{Matched}
@@ -34,7 +32,6 @@ use Rattle.matcher.specs.declared.Outcome as MatchOutcome
 use Rattle.matcher.specs.declared.Outcome.TheVariants as Match
 use Rattle.matcher.specs.declared.Updated.{Updated}
 use Rattle.matcher.specs.declared.gather.Ending.{Ending}
-use Rattle.matcher.specs.declared.gather.Ending.TheVariants as Ending
 use Rattle.matcher.proofs.AgreeLaws.{update_agrees}
 use Rattle.predict.specs.Predict as Predict
 use Rattle.predict.specs.Relied as RoadRelied
@@ -53,10 +50,9 @@ use Rattle.engine.specs.Calls as Engines
 use Rattle.engine.specs.declared.Changed.{Changed}
 use Rattle.engine.specs.declared.Engine.{Engine}
 use Rattle.engine.specs.declared.Phase.{Phase}
-use Rattle.engine.specs.declared.Phase.TheVariants as Phase
 use Rattle.engine.specs.declared.Status.{Status}
-use Rattle.engine.specs.declared.Status.TheVariants as Status
 use Rattle.engine.specs.declared.Stepped.{Stepped}
+use Rattle.cache_lists.proofs.Same.{header_is}
 use Rattle.direct.specs.Lists as Calls
 use Rattle.direct.specs.Lists.{World, Call, number_of_taken, number, exec}
 use Rattle.direct.specs.Finished.{Shown, nothing, updated, predicted, is_match, is_road, Task, none, off_map, match, road, open_task, task_of, match_of, road_at, task_shown, step_shown, update_shown, predict_shown, shown}
@@ -356,11 +352,11 @@ module _ (at : Lookup) (n : ℕ) (horizon : Float) (P : List ℕ) (w : World) (d
           told : Bool → Told
           told refused = told_by refused (is_fetching s.engine) (task_shown x e₁ w.arena s.engine)
 
-          agrees : (refused : Bool) → Agrees at n horizon P e₁ w.arena (sym parsed.header) as_made fits.cache.count
+          agrees : (refused : Bool) → Agrees at n horizon P e₁ w.arena (sym (header_is parsed)) as_made fits.cache.count
               (look_agrees P n e₁.shared.cache w.arena e₁.shared.header parsed fits.cache at answers) d.held.last refused (is_fetching s.engine)
               (task_shown x e₁ w.arena s.engine) s.engine.follower.matcher
           agrees refused =
-              steps_agree at n horizon P e₁ w.arena (sym parsed.header) as_made fits.cache.count
+              steps_agree at n horizon P e₁ w.arena (sym (header_is parsed)) as_made fits.cache.count
               (look_agrees P n e₁.shared.cache w.arena e₁.shared.header parsed fits.cache at answers) d.held.last refused
               (is_fetching s.engine) goes
 

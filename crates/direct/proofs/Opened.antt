@@ -1,5 +1,7 @@
 -- Under the premises, with an arena as long as its pages, no call is refused with 12 but for a matcher that the caller gives, and a step's road ends neither
 -- by 6 nor by 10. The idea: what is ready holds what the pack has, so it passes; and the current match was found in a tile of the pack.
+use Rattle.std.specs.Prelude.{Option, Some, None}
+use Rattle.cache.specs.declared.Loading.{Loading}
 use Prim.Native.Nat.{ℕ, ◌*◌, ◌<◌, ◌≤◌}
 use mathlib.Core.Path.{◌≡◌, refl, sym, ap, subst, ◌∙◌}
 use mathlib.Core.Bool.{Bool, true, false, cond, true≢false}
@@ -15,27 +17,19 @@ use Rattle.num.proofs.FoldLaws.{up_keeps}
 use Rattle.pack.specs.Sector.{rules}
 use Rattle.pack.specs.declared.Header.{Header}
 use Rattle.pack.specs.declared.TileKey.{TileKey}
-use Rattle.cache.specs.declared.MaybeKey.{MaybeKey}
-use Rattle.cache.specs.declared.MaybeKey.TheVariants as MaybeKey
 use Rattle.geo.specs.declared.Point.{Point}
 use Rattle.cache.specs.Direct.{Look, ready, missing, absent, stale, Agree, look_at, look}
 use Rattle.cache.specs.Lookups.{lands_on, run_bytes, passes, len_at}
-use Rattle.cache.specs.declared.victim.Found.TheVariants as Found
 use Rattle.cache.specs.Keys.{ready_at}
 use Rattle.cache.specs.State.{wants_chunk_of}
 use Rattle.cache.specs.declared.Cache.{Cache}
-use Rattle.cache.specs.declared.MaybeLoading.{MaybeLoading}
-use Rattle.cache.specs.declared.MaybeLoading.TheVariants as MaybeLoading
 use Rattle.cache.specs.declared.Pending.{Pending}
-use Rattle.cache.specs.declared.Pending.TheVariants as Pending
 use Rattle.cache.specs.declared.look.Landing.{Landing}
-use Rattle.cache.specs.declared.look.Landing.TheVariants as Landing
 use Rattle.cache_lists.specs.Claims.{Parsed}
 use Rattle.cache_lists.proofs.Lookups.{LandingIs, landing, next_is}
 use Rattle.cache_lists.proofs.Kept.{Kept}
-use Rattle.cache_lists.proofs.Same.{kept_passes, given, parsed_rules}
+use Rattle.cache_lists.proofs.Same.{header_is, kept_passes, given, parsed_rules}
 use Rattle.matcher.specs.declared.Current.{Current}
-use Rattle.matcher.specs.declared.Current.TheVariants as Current
 use Rattle.matcher.specs.declared.Heading.{Heading}
 use Rattle.matcher.specs.declared.Kept as Keeping
 use Rattle.matcher.specs.declared.Matched.{Matched}
@@ -50,7 +44,6 @@ use Rattle.matcher.specs.declared.NearKeys.{NearKeys}
 use Rattle.matcher.specs.declared.Outcome as MatchOutcome
 use Rattle.matcher.specs.declared.Outcome.TheVariants as Match
 use Rattle.matcher.specs.declared.gather.Ending.{Ending}
-use Rattle.matcher.specs.declared.gather.Ending.TheVariants as Ending
 use Rattle.matcher.proofs.WithinLaws.{update_within}
 use Rattle.matcher.specs.Calls as Matching
 use Rattle.predict.specs.Predict as Predict
@@ -65,7 +58,6 @@ use Rattle.engine.specs.Steps.{chunk_request, request_of}
 use Rattle.engine.specs.declared.Engine.{Engine}
 use Rattle.engine.specs.declared.Phase.TheVariants as Phase
 use Rattle.engine.specs.declared.Status.{Status}
-use Rattle.engine.specs.declared.Status.TheVariants as Status
 use Rattle.engine.specs.declared.Stepped.{Stepped}
 use Rattle.engine_states.proofs.MatcherKept.{look_accepted}
 use Rattle.engine_states.proofs.RoadBounds.{road_not_stale}
@@ -110,11 +102,11 @@ module _ (at : TileKey → Look) (fresh : (key : TileKey) → at key ≡ stale �
     look_fresh absent r key e f = λ z. let y : ◌≡◌ {A = ℕ} 0 1 = cc in omega arith
     look_fresh stale r key e f = λ z. fresh key e
 
-    key_fresh : (m : MaybeKey) (r : Run) → Fresh r → Fresh (key_step m at r q)
-    key_fresh MaybeKey.Nothing r f = f
-    key_fresh (MaybeKey.Key key) r f = look_fresh (at key) r key refl f
+    key_fresh : (m : Option TileKey) (r : Run) → Fresh r → Fresh (key_step m at r q)
+    key_fresh None r f = f
+    key_fresh (Some key) r f = look_fresh (at key) r key refl f
 
-    step_fresh : (end : Ending) (m : MaybeKey) (r : Run) → Fresh r → Fresh (run_step end m at r q)
+    step_fresh : (end : Ending) (m : Option TileKey) (r : Run) → Fresh r → Fresh (run_step end m at r q)
     step_fresh Ending.All m r f = key_fresh m r f
     step_fresh (Ending.Need key) m r f = f
     step_fresh Ending.Stale m r f = f
@@ -208,7 +200,7 @@ module _ (P : List ℕ) (n : ℕ) (horizon : Float) (w : World) (s : Stays P n h
       bytes = x.bytes;
       looked = agrees f.tile.key (rw x.looked) ∙ x.looked;
       within = x.within;
-      grid = rw parsed.header x.grid;
+      grid = rw (header_is parsed) x.grid;
     }
 
     match_fits : (m : Matcher) (p : Point) (heading : Heading) → CurrentFits P n m
@@ -257,9 +249,9 @@ module _ (P : List ℕ) (n : ℕ) (horizon : Float) (w : World) (s : Stays P n h
   open_number : is_open c₁.pending ≡ true → number_of_status (open_read e₁) ≡ 12 → ⊥
   open_number o z = by c₁.pending refl o z
     where
-      loads : (x : MaybeLoading) → wants_chunk_of x c₁ ≡ true → number_of_status (chunk_request x) ≡ 12 → ⊥
-      loads MaybeLoading.Nothing q z = true≢false (sym q)
-      loads (MaybeLoading.Tile l) q z = omega arith
+      loads : (x : Option Loading) → wants_chunk_of x c₁ ≡ true → number_of_status (chunk_request x) ≡ 12 → ⊥
+      loads None q z = true≢false (sym q)
+      loads (Some l) q z = omega arith
 
       by : (x : Pending) → c₁.pending ≡ x → is_open x ≡ true → number_of_status (request_of e₁.shared x) ≡ 12 → ⊥
       by Pending.Nothing q o z = true≢false (sym o)
@@ -300,7 +292,7 @@ module _ (P : List ℕ) (n : ℕ) (horizon : Float) (w : World) (s : Stays P n h
   steps_number (Ways.fails failed) z = omega arith
   steps_number (Ways.opens p offset len o f r) z = omega arith
   steps_number (Ways.spoils key i r q p) z =
-      let at : ready_at c₁.pages key ≡ Found.At i = rw q at (next_is c₁ key) in
+      let at : ready_at c₁.pages key ≡ Some i = rw q at (next_is c₁ key) in
       let passed = kept_passes P h₁ n key c₁ w.arena (given P n (parsed r) s.fit.shared.cache) (parsed_rules P n (parsed r)) s.long i at in
       true≢false (sym passed ∙ p)
   steps_number (Ways.arrives key k r q f) z = omega arith

@@ -1,4 +1,6 @@
 -- With no premise: the cache's own invariant holds along every list of calls, and each call is safe. By the ways that a call goes.
+use Rattle.refusal.specs.declared.Refusal.{Refusal}
+use Rattle.std.specs.Prelude.{Result}
 use Prim.Native.Nat.{ℕ, ◌+◌, ◌≤◌}
 use mathlib.Core.Path.{◌≡◌, refl, sym, ap, ◌∙◌}
 use mathlib.Core.Bool.{Bool, true, false, ◌&&◌, cond, true≢false}
@@ -7,9 +9,9 @@ use mathlib.Core.Logic.{inl}
 use native.Mathlib.Omega.{arith}
 use lib.Dec.{eqb, ltb, leb}
 use lib.ListN.{length}
+use Rattle.std.specs.Prelude.{Ok, Err}
 use Rattle.pack.specs.Grid as Grid
 use Rattle.pack.specs.Grid.{is_point}
-use Rattle.pack.specs.declared.Range.TheVariants as Range
 use Rattle.pack.specs.declared.TileKey.{TileKey}
 use Rattle.cache.specs.Lookups.{touched}
 use Rattle.cache.specs.State.{pending_fits, cleared}
@@ -19,7 +21,6 @@ use Rattle.cache.specs.declared.Slot.{Slot}
 use Rattle.cache.specs.Runs.{slot_at}
 use Rattle.cache.specs.Loads.{forgot}
 use Rattle.cache.specs.declared.Progress.{Progress}
-use Rattle.cache.specs.declared.Progress.TheVariants as Progress
 use Rattle.cache_lists.specs.Claims.{SameAt, OfChunk, MayWrite, Written}
 use Rattle.cache_lists.proofs.Steps.{load_is}
 use Rattle.cache_lists.proofs.Inv.{Inv, inv_short, inv_ok, inv_apart, inv_cleared, inv_touched, inv_forgot}
@@ -35,7 +36,6 @@ use Rattle.engine.specs.Calls as Engines
 use Rattle.engine.specs.declared.Changed.{Changed}
 use Rattle.engine.specs.declared.Engine.{Engine}
 use Rattle.engine.specs.declared.Status.{Status}
-use Rattle.engine.specs.declared.Status.TheVariants as Status
 use Rattle.engine.specs.declared.Stepped.{Stepped}
 use Rattle.engine_states.proofs.CacheKept.{ok_parts, pending_ok_lem}
 use Rattle.direct.specs.Lists.{World, Call, fix, lost, reset, step, deliver, step_from, read, on_cache, nearby, current, update, predict, delivered, cache_of, number_of_status, number, exec, Along}
@@ -154,12 +154,12 @@ either_none : (t : Bool) (x y : Stepped) → is_fetch x.answer ≡ false → is_
 either_none true x y p q = p
 either_none false x y p q = q
 
-loaded_none : (p : Progress) (e : Engine) (c : Cache) → is_fetch (loaded_by p e c).answer ≡ false
+loaded_none : (p : Result Progress Refusal) (e : Engine) (c : Cache) → is_fetch (loaded_by p e c).answer ≡ false
 unfolding arrived load_failed
-loaded_none Progress.Done e c = refl
-loaded_none Progress.More e c = refl
-loaded_none (Progress.Failed number) e c = either_none (ltb e.follower.failures 7) _ _ refl refl
-loaded_none (Progress.Refused number) e c = refl
+loaded_none (Ok Progress.Done) e c = refl
+loaded_none (Ok Progress.More) e c = refl
+loaded_none (Ok (Progress.Failed number)) e c = either_none (ltb e.follower.failures 7) _ _ refl refl
+loaded_none (Err number) e c = refl
 
 delivers_none : {e : Engine} {arena : List ℕ} {failure : ℕ} {bs : List ℕ} {r : After} → Delivers e arena failure bs r → is_fetch r.answer ≡ false
 unfolding header_failed
@@ -220,8 +220,8 @@ module _ (arena Q R : List ℕ) where
   unfolding Engines.answered_from Grid.read
   answered_only e offset len s = rw s.fits (by (leb (offset + len) (length Q)))
     where
-      by : (t : Bool) → Engines.answered_by (cond t (Range.At offset) (Range.Refused 2)) e arena len R
-          ≡ Engines.answered_by (cond t (Range.At offset) (Range.Refused 2)) e arena len Q
+      by : (t : Bool) → Engines.answered_by (cond t (Ok offset) (Err Refusal.PastPack)) e arena len R
+          ≡ Engines.answered_by (cond t (Ok offset) (Err Refusal.PastPack)) e arena len Q
       by true = ap (λ (bs : List ℕ). Engines.deliver e arena 0 bs) s.bytes
       by false = refl
 

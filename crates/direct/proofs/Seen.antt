@@ -10,16 +10,14 @@ use lib.Dec.{eqb}
 use lib.Ieee.{Float}
 use lib.IntN.{pos}
 use lib.ListN.{replicate}
+use Rattle.std.specs.Prelude.{Option, Some, None}
 use Rattle.num.specs.Order.{min}
 use Rattle.pack.specs.Grid.{key_of}
 use Rattle.pack.specs.declared.Header.{Header}
-use Rattle.pack.specs.declared.Keyed.{Keyed}
-use Rattle.pack.specs.declared.Keyed.TheVariants as Keyed
 use Rattle.pack.specs.declared.TileKey.{TileKey}
 use Rattle.geo.specs.Flat.{whole}
 use Rattle.cache.specs.Direct.{Agree, look}
 use Rattle.matcher.specs.declared.Current.{Current}
-use Rattle.matcher.specs.declared.Current.TheVariants as Current
 use Rattle.matcher.specs.declared.Heading.{Heading}
 use Rattle.matcher.specs.declared.Kept.{Kept}
 use Rattle.matcher.specs.declared.Matched.{Matched}
@@ -30,7 +28,6 @@ use Rattle.matcher.specs.declared.Matcher.{Matcher}
 use Rattle.matcher.specs.declared.Outcome as MatchOutcome
 use Rattle.matcher.specs.declared.Outcome.TheVariants as Match
 use Rattle.matcher.specs.declared.gather.Ending.{Ending}
-use Rattle.matcher.specs.declared.gather.Ending.TheVariants as Ending
 use Rattle.matcher.proofs.AgreeLaws.{update_agrees}
 use Rattle.predict.specs.Predict as Predict
 use Rattle.predict.specs.Relied as RoadRelied
@@ -44,7 +41,6 @@ use Rattle.engine.specs.Follow.{is_matched}
 use Rattle.engine.specs.declared.Ahead.{Ahead}
 use Rattle.engine.specs.declared.Fix.{Fix}
 use Rattle.engine.specs.declared.MaybeFix.{MaybeFix}
-use Rattle.engine.specs.declared.MaybeFix.TheVariants as MaybeFix
 use Rattle.engine.specs.State as States
 use Rattle.engine.specs.Work as Work
 use Rattle.engine.specs.Work.{counted, match_ended_by, road_ended_by, published}
@@ -130,10 +126,9 @@ module _ (at : Lookup) (n : ℕ) (horizon : Float) (P : List ℕ) where
     off_grid f t w o m r =
         at_fix t held f w.fix ∙ rw (m, r) (by (key_of (header_of P) f.lat f.lon) (rw header at o))
       where
-        by : (x : Keyed) → OffGrid x → key_worked at made P x held f ≡ empty_worked held f
-        by (Keyed.In key) o = absurd o
-        by Keyed.Outside o = refl
-        by (Keyed.Refused number) o = refl
+        by : (x : Option TileKey) → OffGrid x → key_worked at made P x held f ≡ empty_worked held f
+        by (Some key) o = absurd o
+        by None o = refl
 
     leaves_agrees : (f : Fix) → Works e f → OffGrid (key_of e.shared.header f.lat f.lon)
         → Agrees (task_shown (Shows.off_map f) e arena (record { shared = e.shared; follower = Work.off_map (counted e.follower) f }))
@@ -225,18 +220,18 @@ module _ (at : Lookup) (n : ℕ) (horizon : Float) (P : List ℕ) where
         e.follower.horizon_m (replicate 501 (pos 0)) (replicate 11 (pos 0)) fin)
 
     road_worked_lem : (f : Fix) (key : TileKey) (found : Matched) (t : Told) (x : RoadOutcome.Outcome) → Works e f
-        → key_of e.shared.header f.lat f.lon ≡ Keyed.In key
+        → key_of e.shared.header f.lat f.lon ≡ Some key
         → e.follower.matcher.current ≡ Current.Is found → (road_over found).answer ≡ x → RoadRelied.is_finished x ≡ true → t.match ≡ false → t.road ≡ true
         → step_worked at made P t held ≡ road_worked x held f found (road_over found).samples (road_over found).behind
     road_worked_lem f key found t x w k c a fin m r =
         at_fix t held f w.fix
-        ∙ rw (m, r) (ap (λ (y : Keyed). key_worked at made P y held f) (ap (λ (h : Header). key_of h f.lat f.lon) (sym header) ∙ k))
+        ∙ rw (m, r) (ap (λ (y : Option TileKey). key_worked at made P y held f) (ap (λ (h : Header). key_of h f.lat f.lon) (sym header) ∙ k))
         ∙ ap (λ (y : Current). current_worked at made P y held f) c
         ∙ ap (λ (y : Predict.Forecast (List TileKey)). road_worked y.answer held f found y.samples y.behind) (road_is found (rw a fin))
         ∙ ap (λ (y : RoadOutcome.Outcome). road_worked y held f found (road_over found).samples (road_over found).behind) a
 
     -- 10 clears the matcher; any other number is the late 12
-    refused_agrees : (f : Fix) (key : TileKey) (found : Matched) (number : ℕ) → Works e f → key_of e.shared.header f.lat f.lon ≡ Keyed.In key
+    refused_agrees : (f : Fix) (key : TileKey) (found : Matched) (number : ℕ) → Works e f → key_of e.shared.header f.lat f.lon ≡ Some key
         → e.follower.matcher.current ≡ Current.Is found → (road_over found).answer ≡ Roads.Refused number → (t : Bool) → eqb number 10 ≡ t
         → let s : Stepped = cond t (Work.ended e (road_at e arena found).predicted.cache (Work.rematch (counted e.follower)) Status.Working)
         (States.refused e number) in
@@ -248,7 +243,7 @@ module _ (at : Lookup) (n : ℕ) (horizon : Float) (P : List ℕ) where
         (road_worked_lem f key found t (Roads.Refused number) w k c a (rw ten) refl refl ∙ rw q) refl refl refl
     refused_agrees f key found number w k c a false q = nothing_agrees refl
 
-    follows_by : (f : Fix) (key : TileKey) (found : Matched) (x : RoadOutcome.Outcome) → Works e f → key_of e.shared.header f.lat f.lon ≡ Keyed.In key
+    follows_by : (f : Fix) (key : TileKey) (found : Matched) (x : RoadOutcome.Outcome) → Works e f → key_of e.shared.header f.lat f.lon ≡ Some key
         → e.follower.matcher.current ≡ Current.Is found → (road_over found).answer ≡ x
         → let s = road_ended_by x e (counted e.follower) f found (road_at e arena found) in Agrees (road_shown x s.engine) s.engine.follower.matcher
     unfolding Predict.predicted_in published with_match

@@ -1,7 +1,7 @@
 -- Two lists that settle before each fix. The idea: the story can be told again without saying where a match was cleared, since it goes with the first fix
 -- that is off the map (`resettled`). The engine's matcher is then the one told, but for a match that the next step off the map will clear
 -- (`Recounts`); a pack that has failed finishes nothing before the next reset.
-use Prim.Native.Nat.{ℕ, ◌+◌, ◌*◌, ◌≤◌}
+use Prim.Native.Nat.{ℕ, ◌*◌, ◌≤◌}
 use mathlib.Core.Path.{◌≡◌, refl, sym, ap, subst, ◌∙◌}
 use mathlib.Core.Bool.{Bool, true, false, ◌&&◌, not, cond, true≢false}
 use mathlib.Core.List.{List, [], ◌∷◌, ◌++◌}
@@ -9,16 +9,14 @@ use borrow.Author.Tests.{leb-true}
 use lib.Dec.{eqb}
 use lib.Ieee.{Float}
 use lib.ListN.{length}
+use Rattle.std.specs.Prelude.{Option, Some, None}
+use Rattle.pack.specs.declared.TileKey.{TileKey}
 use Rattle.pack.specs.Grid.{is_point, key_of}
 use Rattle.pack.specs.declared.Header.{Header}
-use Rattle.pack.specs.declared.Keyed.{Keyed}
-use Rattle.pack.specs.declared.Keyed.TheVariants as Keyed
 use Rattle.cache.specs.State.{state_ok, arena_ok}
 use Rattle.cache.proofs.Below.{and_left, and_right}
 use Rattle.cache.specs.declared.Pending.{Pending}
-use Rattle.cache.specs.declared.Pending.TheVariants as Pending
 use Rattle.matcher.specs.declared.Current.{Current}
-use Rattle.matcher.specs.declared.Current.TheVariants as Current
 use Rattle.matcher.specs.Calls as Matching
 use Rattle.matcher.specs.declared.Matcher.{Matcher}
 use Rattle.predict.specs.declared.End.TheVariants as End
@@ -28,23 +26,22 @@ use Rattle.engine.specs.Follow.{is_matched}
 use Rattle.engine.specs.declared.Fix.{Fix}
 use Rattle.engine.specs.declared.Follower.{Follower}
 use Rattle.engine.specs.declared.MaybeFix.{MaybeFix}
-use Rattle.engine.specs.declared.MaybeFix.TheVariants as MaybeFix
 use Rattle.engine.specs.State as States
 use Rattle.engine.specs.State.{unchanged, followed, is_failed, header_ok, shared_ok, engine_ok}
-use Rattle.engine.specs.Work.{matched, published}
 use Rattle.engine.specs.Deliver.{After}
 use Rattle.engine.specs.Calls as Engines
 use Rattle.engine.specs.declared.Changed.{Changed}
 use Rattle.engine.specs.declared.Engine.{Engine}
 use Rattle.engine.specs.declared.Phase.{Phase}
-use Rattle.engine.specs.declared.Phase.TheVariants as Phase
 use Rattle.engine.specs.declared.Sight.{Sight}
-use Rattle.engine_states.proofs.KeptParts.{Ok, apart}
+use Rattle.engine_states.proofs.KeptParts.{EngineOk, apart}
 use Rattle.direct.specs.Lists as Calls
 use Rattle.direct.specs.Lists.{World, Call, number_of_taken, exec, start, Along}
 use Rattle.direct.specs.Finished as Shows
 use Rattle.direct.specs.Finished.{Shown, Road, is_match, is_road, open_task, phase_task, task_of, task_shown, step_shown, shown}
 use Rattle.direct.specs.Direct.{Made, Told, Lookup, header_of, directly, Held, new_held, lost_held, forgotten, Worked, Direct, step_worked_by, step_worked, key_worked, no_road, pack_after}
+use Rattle.cache_lists.specs.Claims.{Parsed}
+use Rattle.cache_lists.proofs.Same.{header_is}
 use Rattle.direct.specs.Claims.{is_fetching, told_of, Fair, AllFair, made_of, Answers}
 use Rattle.direct.specs.Story as Story
 use Rattle.direct.specs.Story.{Event, taken, events_of, events, story, after, SameFinish}
@@ -157,7 +154,7 @@ module _ (P : List ℕ) (n : ℕ) (horizon : Float) (w : World) (fit : Fit P n h
   unfolding shared_ok
   long_of ok =
       let s = w.engine.shared in
-      let parts : Ok s w.engine.follower (length w.arena) = apart w.engine (length w.arena) ok in
+      let parts : EngineOk s w.engine.follower (length w.arena) = apart w.engine (length w.arena) ok in
       let both : (arena_ok s.cache (length w.arena) && header_ok s) ≡ true = and_right (state_ok s.cache) _ parts.shared in
       rw fit.shared.cache.count at (leb-true (s.cache.pages.count * 8192) (length w.arena) (and_left _ (header_ok s) both))
 
@@ -191,8 +188,8 @@ module _ (at : Lookup) (n : ℕ) (horizon : Float) (answers : Answers n at) wher
     abbrev h₁ : Header
     h₁ = header_of P
 
-    header_is : e₁.shared.phase ≡ Phase.Ready → e₁.shared.header ≡ h₁
-    header_is r = let q = rw r at fit.shared.header in sym q.header
+    header_same : e₁.shared.phase ≡ Phase.Ready → e₁.shared.header ≡ h₁
+    header_same r = let parsed : Parsed P e₁.shared.header = rw r at fit.shared.header in sym (header_is parsed)
 
     beside : Beside e₁ n₁
     beside = step_beside e₁ w.arena
@@ -201,7 +198,7 @@ module _ (at : Lookup) (n : ℕ) (horizon : Float) (answers : Answers n at) wher
     stepped_clears = step_clears e₁ w.arena t.clears
 
     stepped_rested : Rested P n₁
-    stepped_rested = step_rests P e₁ w.arena header_is t.clears t.rested
+    stepped_rested = step_rests P e₁ w.arena header_same t.clears t.rested
 
     -- the phase is the one before
     open_before : is_failed n₁.shared.phase ≡ false → is_failed e₁.shared.phase ≡ false
@@ -247,7 +244,7 @@ module _ (at : Lookup) (n : ℕ) (horizon : Float) (answers : Answers n at) wher
 
     step_tells : Recounts (told (events_of s₁) p) P n₁
     unfolding resettled
-    step_tells = by (step_sorts P e₁ w.arena header_is)
+    step_tells = by (step_sorts P e₁ w.arena header_same)
       where
         by : Sorts (is_off h₁ e₁.follower.sight.fix) e₁ n₁ s₁ → Recounts (told (events_of s₁) p) P n₁
         by (quiet q m) =
@@ -460,10 +457,9 @@ module _ (at : Lookup) (n : ℕ) (horizon : Float) (answers : Answers n at) wher
   unfolding step_worked
   off_worked P x d o m = by d.sight.fix o
     where
-      outside : (f : Fix) (k : Keyed) → is_outside k ≡ true → (key_worked at (made_of n horizon) P k d f).shown ≡ Shows.emptied Matching.reset (no_road f End.MapEdge)
-      outside f (Keyed.In key) q = absurd (true≢false (sym q))
-      outside f Keyed.Outside q = refl
-      outside f (Keyed.Refused number) q = refl
+      outside : (f : Fix) (k : Option TileKey) → is_outside k ≡ true → (key_worked at (made_of n horizon) P k d f).shown ≡ Shows.emptied Matching.reset (no_road f End.MapEdge)
+      outside f (Some key) q = absurd (true≢false (sym q))
+      outside f None q = refl
 
       road : (f : Fix) (t : Bool) → is_outside (key_of (header_of P) f.lat f.lon) ≡ true
           → (cond t (key_worked at (made_of n horizon) P (key_of (header_of P) f.lat f.lon) d f) (record { held = d; shown = Shows.nothing })).shown
@@ -478,7 +474,7 @@ module _ (at : Lookup) (n : ℕ) (horizon : Float) (answers : Answers n at) wher
   off_shows : (P : List ℕ) (w : World) (p : Past) → Ends p P w → is_off (header_of P) w.engine.follower.sight.fix ≡ true
       → let s = step_shown w.engine w.arena in s ≡ cond (is_road s) (off_shown w.engine.follower.sight.fix) Shows.nothing
   off_shows P w p e o =
-      sym (shown_by P w e.fit) ∙ off_worked P _ (seen_by w) o (by (step_sorts P w.engine w.arena (header_is P w p e.fit e.able e.tells)))
+      sym (shown_by P w e.fit) ∙ off_worked P _ (seen_by w) o (by (step_sorts P w.engine w.arena (header_same P w p e.fit e.able e.tells)))
     where
       either : (t : Bool) (m : Matcher) (r : Road) → is_match (cond t (Shows.emptied m r) Shows.nothing) ≡ false
       either true m r = refl
@@ -550,4 +546,4 @@ all_rested n few horizon arena P cs fair settled =
     let w = after cs (start n horizon arena) in
     let e = list_told (directly n) n horizon answers cs P (start n horizon arena) past (start_ends (directly n) n horizon answers P arena few) fair settled in
     step_settles w.engine w.arena e.idles (pack_of P cs (start n horizon arena))
-    (header_is (directly n) n horizon answers _ w _ e.fit e.able e.tells) e.tells.rested
+    (header_same (directly n) n horizon answers _ w _ e.fit e.able e.tells) e.tells.rested

@@ -1,5 +1,6 @@
 -- No call of a list leaves an engine in a state that 12 names: for the engine's own calls by crate engine_states, here for the direct calls on its cache,
 -- which change nothing else and withdraw an open fetch that they do the work of.
+use Rattle.std.specs.Prelude.{Option}
 use Prim.Native.Nat.{ℕ, ◌*◌, ◌≤◌}
 use mathlib.Core.Path.{◌≡◌, refl, sym, ap, ◌∙◌}
 use mathlib.Core.Bool.{true}
@@ -10,14 +11,12 @@ use lib.Ieee.{Float}
 use lib.ListN.{length}
 use Rattle.pack.specs.declared.Header.{Header}
 use Rattle.pack.specs.declared.TileKey.{TileKey}
-use Rattle.cache.specs.declared.MaybeKey.{MaybeKey}
 use Rattle.cache.specs.Lookups.{touched}
 use Rattle.cache.specs.State as Caches
 use Rattle.cache.specs.State.{cleared}
 use Rattle.cache.specs.declared.Cache.{Cache}
 use Rattle.cache.specs.declared.Got.{Got}
 use Rattle.cache.specs.declared.Pending.{Pending}
-use Rattle.cache.specs.declared.Pending.TheVariants as Pending
 use Rattle.cache.specs.Search.{lowest}
 use Rattle.cache.specs.Loads as Loads
 use Rattle.cache.specs.Loads.{withdrawn, forgot, dropped, moved, further, readied}
@@ -30,7 +29,7 @@ use Rattle.engine.specs.Follow as Followers
 use Rattle.engine.specs.State.{pending_by, pending_ok, reload_limit, places_ok, shared_ok, engine_ok}
 use Rattle.engine.specs.declared.Engine.{Engine}
 use Rattle.engine.specs.declared.Shared.{Shared}
-use Rattle.engine_states.proofs.KeptParts.{Ok, apart, together, cache_ok}
+use Rattle.engine_states.proofs.KeptParts.{EngineOk, apart, together, cache_ok}
 use Rattle.direct.specs.Lists.{World, with_cache, cache_of, start}
 
 -- ---- what a direct call leaves of the open fetch and the load
@@ -92,7 +91,7 @@ call_leaves w Cached.clear f = clear_leaves (Leaves w.cache) w.cache w.arena (en
 
 -- ---- the engine over another state of its cache
 
-module _ (s : Shared) (need : MaybeKey) (d : Cache) (ok : pending_ok s need ≡ true) where
+module _ (s : Shared) (need : Option TileKey) (d : Cache) (ok : pending_ok s need ≡ true) where
   abbrev s₁ : Shared
   s₁ = record { phase = s.phase; header = s.header; cache = d }
 
@@ -116,7 +115,7 @@ pub cache_sound : (e : Engine) (d : Cache) (size : ℕ) → engine_ok e size ≡
     → Leaves e.shared.cache d
     → engine_ok (with_cache e d) size ≡ true
 cache_sound e d size ok inv count l =
-    let parts : Ok e.shared e.follower size = apart e size ok in
+    let parts : EngineOk e.shared e.follower size = apart e size ok in
     together (with_cache e d) size
     (cache_ok e.shared d e.follower size parts (inv_ok d inv) count
     (pending_leaves e.shared e.follower.due.need d parts.pending l))

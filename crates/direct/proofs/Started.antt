@@ -1,5 +1,6 @@
 -- A road from a start that lies within the tile looked up for it ends neither with 6 nor with 10 (`road_started`). The idea: the tile's id is the
 -- start's own, and what number 10 asks of a start is what a match within its tile has; beyond these two tests a road is one, or Need or 12.
+use Rattle.std.proofs.Common.{Option, Some, None}
 use Prim.Native.Nat.{ℕ}
 use mathlib.Core.Path.{◌≡◌, refl, subst}
 use mathlib.Core.Bool.{Bool, true}
@@ -17,8 +18,6 @@ use Rattle.cache.specs.Direct.{Look, ready, missing, absent, stale}
 use Rattle.cache.specs.Reader.{plain}
 use Rattle.matcher.specs.Score.{same_id}
 use Rattle.matcher.specs.Within.{Within}
-use Rattle.matcher.specs.declared.Forward.{Forward}
-use Rattle.matcher.specs.declared.Forward.TheVariants as Forward
 use Rattle.matcher.specs.declared.Matched.{Matched}
 use Rattle.predict.specs.Samples.{pushed}
 use Rattle.predict.specs.Start.{start_ok, place}
@@ -26,13 +25,11 @@ use Rattle.predict.specs.declared.Trip.{Trip}
 use Rattle.predict.specs.declared.ridden.Behind.{Behind}
 use Rattle.predict.specs.Meets.{budget}
 use Rattle.predict.specs.declared.Ending.{Ending}
-use Rattle.predict.specs.declared.Ending.TheVariants as Ending
 use Rattle.predict.specs.Walk.{Run, walk_over}
 use Rattle.predict.specs.declared.Track.{Track}
 use Rattle.predict.specs.declared.Walk.{Walk}
 use Rattle.predict.specs.Predict.{leg_of, no_mark, track_from, walk_from, outcome_by, road_over, tile_over, trip_of, start_look, directed_over, forecast_over, predict_over}
 use Rattle.predict.specs.declared.Outcome.{Outcome}
-use Rattle.predict.specs.declared.Outcome.TheVariants as Outcome
 
 -- ---- the two tests of a start
 
@@ -98,9 +95,9 @@ module _ (at : TileKey → Look) (n : ℕ) (h : Header) (m : Matched) (horizon :
   look_started stale present same forward = λ e. omega (arith, e)
 
   module _ (present : at m.tile.key ≡ missing → ⊥) (same : (cs : List ℕ) → at m.tile.key ≡ ready cs → cs ≡ bs) where
-    directed_started : (forward : Forward) → Started (directed_over (plain at) n forward h m horizon [] samples behind).answer
-    directed_started Forward.Unknown = tt
-    directed_started (Forward.Is forward) = look_started (at m.tile.key) present same forward
+    directed_started : (forward : Option Bool) → Started (directed_over (plain at) n forward h m horizon [] samples behind).answer
+    directed_started None = tt
+    directed_started (Some forward) = look_started (at m.tile.key) present same forward
 
     pub road_started : Started (predict_over at n h m horizon samples behind).answer
     unfolding forecast_over

@@ -8,11 +8,10 @@ use lib.Dec.{eqb}
 use lib.Ieee.{Float}
 use lib.IntN.{ℤ}
 use lib.ListN.{length}
+use Rattle.std.specs.Prelude.{Option, Some, None}
+use Rattle.pack.specs.declared.TileKey.{TileKey}
 use Rattle.pack.specs.Grid.{is_point, key_of}
-use Rattle.pack.specs.declared.Keyed.{Keyed}
-use Rattle.pack.specs.declared.Keyed.TheVariants as Keyed
 use Rattle.matcher.specs.declared.Current.{Current}
-use Rattle.matcher.specs.declared.Current.TheVariants as Current
 use Rattle.matcher.specs.declared.Matched.{Matched}
 use Rattle.matcher.specs.Calls as Matching
 use Rattle.matcher.specs.declared.Matcher.{Matcher}
@@ -24,7 +23,6 @@ use Rattle.engine.specs.Follow as Followers
 use Rattle.engine.specs.declared.Fix.{Fix}
 use Rattle.engine.specs.declared.Follower.{Follower}
 use Rattle.engine.specs.declared.MaybeFix.{MaybeFix}
-use Rattle.engine.specs.declared.MaybeFix.TheVariants as MaybeFix
 use Rattle.engine.specs.State as States
 use Rattle.engine.specs.State.{unchanged, followed, engine_ok}
 use Rattle.engine.specs.Calls as Engines
@@ -142,10 +140,9 @@ module _ (at : Lookup) (made : Made) where
       current_by s (Current.Is found) r e =
           let x = road_held at made P found in road_by s x.answer found x.samples x.behind r e
 
-      key_by : (s : Shown) (x : Keyed) → is_road s ≡ true → (key_worked at made P x d f).shown ≡ s → Retold (events_of s) (key_worked at made P x d f)
-      key_by s (Keyed.In key) r e = current_by s d.matcher.current r e
-      key_by s Keyed.Outside r e = showing (empty_worked d f) s e (clear_retold (empty_worked d f) refl refl)
-      key_by s (Keyed.Refused k) r e = showing (empty_worked d f) s e (clear_retold (empty_worked d f) refl refl)
+      key_by : (s : Shown) (x : Option TileKey) → is_road s ≡ true → (key_worked at made P x d f).shown ≡ s → Retold (events_of s) (key_worked at made P x d f)
+      key_by s (Some key) r e = current_by s d.matcher.current r e
+      key_by s None r e = showing (empty_worked d f) s e (clear_retold (empty_worked d f) refl refl)
 
       fix_by : (s : Shown) (t : Told) (m r : Bool) → is_match s ≡ m → is_road s ≡ r → t.match ≡ m → t.road ≡ r → (fix_worked at made P t d f).shown ≡ s
           → Retold (events_of s) (fix_worked at made P t d f)

@@ -21,7 +21,6 @@ use Rattle.engine.specs.Fixes.{place_of}
 use Rattle.engine.specs.Calls as Engines
 use Rattle.engine.specs.declared.Engine.{Engine}
 use Rattle.engine.specs.declared.Status.{Status}
-use Rattle.engine.specs.declared.Status.TheVariants as Status
 pub use Rattle.engine_states.specs.Tasks.{is_open, open_read}
 use Rattle.direct.specs.Lists.{World, Call, fix, lost, reset, step, deliver, step_from, read, on_cache, nearby, current, update, predict, cache_of, number, exec, start, Along}
 use Rattle.direct.specs.Finished.{Shown, again, is_match, is_road, shown, Task, none, off_map, match, road, task_of}

@@ -1,6 +1,8 @@
 -- The public cores that take the cache's state, as data: what each does to a world, and what is claimed of them. A core is its public call less number
 -- 12's test; in every world that a fair list leaves, with the pack's header, it does and answers what the public call does. A lookup of a key outside the
 -- grid is 9 as a public call; the core leaves all as it was and hands out no run.
+use Rattle.refusal.specs.declared.Refusal.{Refusal}
+use Rattle.std.specs.Prelude.{Result, Ok, Err}
 use Rattle.std.specs.Prelude.{ℕ, ◌*◌, ◌≤◌, ◌≡◌, true, false, ◌&&◌, List, [], ◌∷◌, Float, ℤ, length}
 use Rattle.pack.specs.Grid.{in_grid}
 use Rattle.pack.specs.declared.Header.{Header}
@@ -9,9 +11,7 @@ use Rattle.geo.specs.declared.Point.{Point}
 use Rattle.cache.specs.declared.Cache.{Cache}
 use Rattle.cache.specs.Uses as Uses
 use Rattle.cache.specs.declared.Aging.{Aging}
-use Rattle.cache.specs.declared.Clearing.TheVariants as Clearing
 use Rattle.cache.specs.declared.Lookup.{Lookup}
-use Rattle.cache.specs.declared.Lookup.TheVariants as Lookup
 use Rattle.cache.specs.Ages as Ages
 use Rattle.cache.specs.Calls as CacheCalls
 use Rattle.cache.specs.Direct.{Aged}
@@ -50,7 +50,7 @@ does h (loaded key failure bs) w =
     Calls.in_cache w (Cached.loaded (CacheCalls.load_tested w.engine.shared.cache w.arena h key failure bs))
 does h (settled key) w =
     let r = CacheCalls.load_tested w.engine.shared.cache w.arena h key 0 [] in leaves w r.cache (Cached.stepped r.answer)
-does h cleared w = leaves w (State.cleared w.engine.shared.cache) (Cached.cleared Clearing.Done)
+does h cleared w = leaves w (State.cleared w.engine.shared.cache) (Cached.cleared (Ok tt))
 does h (updated m p heading) w =
     let u = Matching.update_tested m w.engine.shared.cache w.arena h p heading in
     Calls.aged w u.cache (Calls.matched u.answer u.matcher)
@@ -61,11 +61,11 @@ does h (predicted m reach samples behind) w =
 -- ---- what is claimed
 
 -- a lookup that hands out no run
-abbrev pub NoRun : Lookup → Type 0
-NoRun (Lookup.Ready first len) = ⊥
-NoRun Lookup.Missing = Unit
-NoRun Lookup.Absent = Unit
-NoRun (Lookup.Refused number) = Unit
+abbrev pub NoRun : Result Lookup Refusal → Type 0
+NoRun (Ok (Lookup.Ready first len)) = ⊥
+NoRun (Ok Lookup.Missing) = Unit
+NoRun (Ok Lookup.Absent) = Unit
+NoRun (Err number) = Unit
 
 pub record Outside (w : World) (h : Header) (key : TileKey) : Type 0 where
   pub cache : (Lookups.got w.engine.shared.cache w.arena h.tile key).cache ≡ w.engine.shared.cache

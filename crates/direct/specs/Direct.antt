@@ -2,19 +2,17 @@
 -- pack, the state's page count, whatever else the engine was made with and the calls with their arguments, and is told which were refused, left a
 -- fetch open, or finished a match or road." It is written over `at`, which says how a tile of a pack is looked up; `directly` is document 01's
 -- direct lookup.
+use Rattle.std.specs.Prelude.{Option, Some, None}
 use Rattle.std.specs.Prelude.{ℕ, Bool, ◌&&◌, cond, List, [], ◌∷◌, ◌++◌, eqb, Float, ℤ, pos, take, replicate}
 use Rattle.num.specs.Order.{min}
-use Rattle.pack.specs.Sector.{parse}
+use Rattle.pack.specs.Sector.{parse, header_in}
 use Rattle.pack.specs.Grid.{is_point, in_grid, key_of}
 use Rattle.pack.specs.declared.Header.{Header}
-use Rattle.pack.specs.declared.Keyed.{Keyed}
-use Rattle.pack.specs.declared.Keyed.TheVariants as Keyed
 use Rattle.pack.specs.declared.TileKey.{TileKey}
 use Rattle.geo.specs.Flat.{whole}
 use Rattle.geo.specs.declared.Point.{Point}
 use Rattle.cache.specs.Direct.{Look, direct}
 use Rattle.matcher.specs.declared.Current.{Current}
-use Rattle.matcher.specs.declared.Current.TheVariants as Current
 use Rattle.matcher.specs.declared.Heading.{Heading}
 use Rattle.matcher.specs.declared.Matched.{Matched}
 use Rattle.matcher.specs.Calls as Matching
@@ -24,7 +22,6 @@ use Rattle.matcher.specs.declared.Matcher.{Matcher}
 use Rattle.matcher.specs.declared.Outcome as MatchOutcome
 use Rattle.matcher.specs.declared.Outcome.TheVariants as Match
 use Rattle.predict.specs.declared.End.{End}
-use Rattle.predict.specs.declared.End.TheVariants as End
 use Rattle.predict.specs.Predict as Predict
 use Rattle.predict.specs.declared.Outcome as RoadOutcome
 use Rattle.predict.specs.declared.Outcome.TheVariants as Roads
@@ -32,7 +29,6 @@ use Rattle.engine.specs.Fixes as Fixes
 use Rattle.engine.specs.Publish.{nothing_ahead, with_match, without_match}
 use Rattle.engine.specs.declared.Fix.{Fix}
 use Rattle.engine.specs.declared.MaybeFix.{MaybeFix}
-use Rattle.engine.specs.declared.MaybeFix.TheVariants as MaybeFix
 use Rattle.engine.specs.declared.Sight.{Sight}
 use Rattle.engine.specs.Work.{with_heights}
 use Rattle.direct.specs.Lists.{Call, fix, lost, reset, step, deliver, step_from, read, on_cache, nearby, current, update, predict}
@@ -52,9 +48,9 @@ pub record Told : Type 0 where
   pub match : Bool
   pub road : Bool
 
--- the header of a pack, its first 512 bytes parsed
+-- the header of a pack, its first 512 bytes parsed; all 0 where they are refused
 abbrev pub header_of : List ℕ → Header
-header_of P = (parse (take 512 P)).header
+header_of P = header_in (parse (take 512 P))
 
 -- how a tile of a pack is looked up
 abbrev pub Lookup : Type 0
@@ -155,10 +151,9 @@ module _ (at : Lookup) (made : Made) (P : List ℕ) where
   current_worked Current.Nothing d f = stuck d
   current_worked (Current.Is found) d f = let r = road_held found in road_worked r.answer d f found r.samples r.behind
 
-  abbrev pub key_worked : Keyed → Held → Fix → Worked
-  key_worked (Keyed.In key) d f = current_worked d.matcher.current d f
-  key_worked Keyed.Outside d f = empty_worked d f
-  key_worked (Keyed.Refused number) d f = empty_worked d f
+  abbrev pub key_worked : Option TileKey → Held → Fix → Worked
+  key_worked (Some key) d f = current_worked d.matcher.current d f
+  key_worked None d f = empty_worked d f
 
   abbrev pub fix_worked : Told → Held → Fix → Worked
   fix_worked t d f =

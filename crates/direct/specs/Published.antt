@@ -5,7 +5,6 @@
 -- demand 3's.
 use Rattle.std.specs.Prelude.{ℕ, ◌≤◌, ◌≡◌, false, List, [], ◌∷◌, ◌⊎◌, Float}
 use Rattle.matcher.specs.declared.Current.{Current}
-use Rattle.matcher.specs.declared.Current.TheVariants as Current
 use Rattle.matcher.specs.declared.Matched.{Matched}
 use Rattle.engine.specs.Publish.{nothing_ahead, forgotten, with_match}
 use Rattle.engine.specs.declared.Ahead.{Ahead}

@@ -5,14 +5,11 @@
 -- Memory answer, which takes nineteen loads, are left out as too long to compute.
 use mathlib.Core.Path.{◌≡◌, refl, sym, ◌∙◌}
 use mathlib.Core.Bool.{true}
-use mathlib.Core.List.{List, [], ◌∷◌, ◌++◌}
+use mathlib.Core.List.{[], ◌∷◌, ◌++◌}
 use native.Mathlib.Omega.{arith}
-use lib.IntN.{pos, negsuc}
 use lib.ListN.{replicate}
 use Rattle.cache.specs.State as Caches
 use Rattle.cache.specs.Calls as CacheCalls
-use Rattle.cache_lists.specs.Lists as Cached
-use Rattle.matcher.specs.declared.Heading.TheVariants as Heading
 use Rattle.matcher.specs.Calls as Matching
 use Rattle.matcher.specs.State as Matchers
 use Rattle.matcher.specs.Settle as Settle
@@ -22,8 +19,7 @@ use Rattle.engine.specs.Follow as Followers
 use Rattle.engine.specs.State as Engines
 use Rattle.engine.specs.Work as Work
 use Rattle.engine.specs.Calls as Calls
-use Rattle.engine.specs.declared.Fix.{Fix}
-use Rattle.direct.specs.Lists.{Call, fix, reset, step, deliver, step_from, on_cache, update}
+use Rattle.direct.specs.Lists.{step}
 use Rattle.direct.specs.Finished.{is_match, shown}
 use Rattle.direct.specs.Claims.{AllFair}
 use Rattle.direct.specs.Story as Story

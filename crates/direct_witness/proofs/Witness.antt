@@ -1,28 +1,18 @@
 -- Demand 3's theorem is not empty: a list of calls, computed from the definitions, in which its premises hold (`fair`), reads fail (`header_missed`,
 -- `entry_missed`), a tile is evicted and loaded again (`answered`, `ready`, `evicted`), fixes come while a fetch is open, and a match and a road are
 -- finished (`finished`) and read (`read`): so they are the direct engine's (`direct_finished`).
+use Rattle.std.specs.Prelude.{Ok}
 use Prim.Native.Nat.{ℕ, ◌+◌, ◌≤◌}
 use mathlib.Core.Path.{◌≡◌, refl, ◌∙◌}
-use mathlib.Core.Bool.{true, false}
-use mathlib.Core.List.{List, [], ◌∷◌, ◌++◌}
+use mathlib.Core.List.{[], ◌∷◌}
 use native.Mathlib.Omega.{arith}
 use lib.Ieee as Ieee
 use lib.Ieee.{Float, fin}
-use lib.IntN.{ℤ, pos, negsuc}
-use lib.ListN.{length, take, replicate}
-use Rattle.pack.specs.declared.Header.{Header}
-use Rattle.pack.specs.declared.TileKey.{TileKey}
+use lib.ListN.{length, replicate}
 use Rattle.cache.specs.declared.Lookup.TheVariants as Lookup
 use Rattle.cache.specs.declared.look.Landing.TheVariants as Landing
 use Rattle.cache_lists.specs.Claims.{Parsed}
 use Rattle.cache.specs.declared.Progress.TheVariants as Progress
-use Rattle.matcher.specs.declared.Current.TheVariants as Current
-use Rattle.matcher.specs.declared.Forward.TheVariants as Forward
-use Rattle.matcher.specs.declared.Matched.{Matched}
-use Rattle.matcher.specs.declared.Challenger.TheVariants as Challenger
-use Rattle.matcher.specs.declared.Matcher.{Matcher}
-use Rattle.predict.specs.declared.End.TheVariants as End
-use Rattle.engine.specs.declared.Fix.{Fix}
 use Rattle.engine.specs.declared.Status.TheVariants as Status
 use Rattle.engine.specs.declared.Taken.TheVariants as Taken
 use Rattle.crc.specs.Fcs as Fcs
@@ -75,8 +65,8 @@ use Rattle.engine.specs.Work as Work
 use Rattle.engine.specs.Deliver as Deliver
 use Rattle.engine.specs.Steps as Steps
 use Rattle.engine.specs.Calls as Calls
-use Rattle.direct.specs.Lists.{World, Call, fix, step, deliver, step_from, on_cache, Answer, taken, status, cached, exec, start}
-use Rattle.direct.specs.Finished.{Shown, nothing, matched, published, Road, shown, step_shown, task_of}
+use Rattle.direct.specs.Lists.{taken, status, cached, exec}
+use Rattle.direct.specs.Finished.{shown, step_shown, task_of}
 use Rattle.direct.specs.Direct.{directly, new_direct, direct_shows}
 use Rattle.direct.specs.Claims.{tolds, shows, AllFair, made_of}
 use Rattle.direct.specs.Story as Story
@@ -142,8 +132,8 @@ lists = tt
 pub answered : answers calls begin
     ≡ status (Status.Fetch 0 512) ∷ status Status.Working ∷ status (Status.Fetch 0 512) ∷ taken Taken.Done ∷ status Status.Working
     ∷ status Status.Working ∷ status (Status.Fetch 512 8) ∷ status Status.Working ∷ status Status.Working ∷ status (Status.Fetch 528 68) ∷ taken Taken.Done ∷ status Status.Working
-    ∷ cached (Cached.found (Lookup.Ready 0 68)) ∷ cached (Cached.stepped Progress.More) ∷ cached (Cached.stepped Progress.Done)
-    ∷ cached (Cached.found Lookup.Absent)
+    ∷ cached (Cached.found (Ok (Lookup.Ready 0 68))) ∷ cached (Cached.stepped (Ok Progress.More)) ∷ cached (Cached.stepped (Ok Progress.Done))
+    ∷ cached (Cached.found (Ok Lookup.Absent))
     ∷ status Status.Working ∷ status Status.Working ∷ status Status.Working ∷ status Status.Working ∷ status Status.Working ∷ status Status.Idle
     ∷ []
 unfolding lists answers
@@ -185,7 +175,7 @@ read = refl
 
 pub parsed : Parsed pack header
 unfolding lists
-parsed = record { whole = omega arith; accepted = refl; header = refl }
+parsed = record { whole = omega arith; parses = refl }
 
 pub sector_inside : 0 + 512 ≤ length pack
 sector_inside = omega arith

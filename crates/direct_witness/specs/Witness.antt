@@ -1,7 +1,8 @@
 -- Demand 3's theorem is not empty: a list of calls, computed from the definitions, in which its premises hold (`fair`), reads fail (`header_missed`,
 -- `entry_missed`), a tile is evicted and loaded again (`answered`, `ready`, `evicted`), fixes come while a fetch is open, and a match and a road are
 -- finished (`finished`) and read (`read`): so they are the direct engine's (`direct_finished`).
-use Rattle.std.specs.Prelude.{ℕ, ◌≡◌, true, false, List, [], ◌∷◌, ◌++◌, ℤ, pos, negsuc, Float, take, replicate}
+use Rattle.std.specs.Prelude.{Ok}
+use Rattle.std.specs.Prelude.{ℕ, ◌≡◌, true, false, List, [], ◌∷◌, ◌++◌, ℤ, pos, negsuc, Float, take, replicate, Some}
 use Rattle.std.specs.Float.{fin}
 use Rattle.pack.specs.declared.Header.{Header}
 use Rattle.pack.specs.declared.TileKey.{TileKey}
@@ -13,7 +14,6 @@ use Rattle.cache.specs.declared.look.Landing.TheVariants as Landing
 use Rattle.cache_lists.specs.Lists as Cached
 use Rattle.matcher.specs.declared.Challenger.TheVariants as Challenger
 use Rattle.matcher.specs.declared.Current.TheVariants as Current
-use Rattle.matcher.specs.declared.Forward.TheVariants as Forward
 use Rattle.matcher.specs.declared.Matched.{Matched}
 use Rattle.matcher.specs.declared.Matcher.{Matcher}
 use Rattle.predict.specs.declared.End.TheVariants as End
@@ -101,7 +101,7 @@ found = record {
   edge = 0;
   segment = 0;
   fraction = fin false 1 (negsuc 0);
-  forward = Forward.Is true;
+  forward = Some true;
   offset_m = zero;
   z_dm = pos 1050;
   class = 3;
@@ -171,8 +171,8 @@ pub record Witness : Type 0 where
   pub answered : answers calls begin
       ≡ status (Status.Fetch 0 512) ∷ status Status.Working ∷ status (Status.Fetch 0 512) ∷ taken Taken.Done ∷ status Status.Working
       ∷ status Status.Working ∷ status (Status.Fetch 512 8) ∷ status Status.Working ∷ status Status.Working ∷ status (Status.Fetch 528 68) ∷ taken Taken.Done ∷ status Status.Working
-      ∷ cached (Cached.found (Lookup.Ready 0 68)) ∷ cached (Cached.stepped Progress.More) ∷ cached (Cached.stepped Progress.Done)
-      ∷ cached (Cached.found Lookup.Absent)
+      ∷ cached (Cached.found (Ok (Lookup.Ready 0 68))) ∷ cached (Cached.stepped (Ok Progress.More)) ∷ cached (Cached.stepped (Ok Progress.Done))
+      ∷ cached (Cached.found (Ok Lookup.Absent))
       ∷ status Status.Working ∷ status Status.Working ∷ status Status.Working ∷ status Status.Working ∷ status Status.Working ∷ status Status.Idle
       ∷ []
   pub finished : shows calls begin ≡ finishes

@@ -1,9 +1,9 @@
 // What is printed: a line for each fix, the heights of the last road, and why a drive stops.
 ghost use Rattle.std.specs.Prelude.{◌≡◌, ◌≤◌, length};
 
-use engine::{Ahead, Current, Forward, Status};
+use engine::{Ahead, Current, Status};
 use profile_text::ROOM;
-use profile_text::drive::{FixLine, MaybePlace, Place, Way};
+use profile_text::drive::{FixLine, Place};
 use ride::host::{Ride, Turned};
 use std::io;
 
@@ -18,18 +18,6 @@ fn status_of(status: Status) -> profile_text::drive::Status {
         Status::NoPack => profile_text::drive::Status::NoPack,
         Status::OffMap => profile_text::drive::Status::OffMap,
         Status::Refused(_) => profile_text::drive::Status::Refused,
-    }
-}
-
-fn way_of(forward: Forward) -> Way {
-    match forward {
-        Forward::Unknown => Way::Unknown,
-        Forward::Is(ahead) => {
-            if ahead {
-                return Way::Forward;
-            }
-            Way::Back
-        }
     }
 }
 
@@ -57,18 +45,17 @@ fn decimetres(m: f32) -> u16 {
     short(num::cast::u32_of_f32(m * 10.0) as u64)
 }
 
-fn place_of(matched: Current) -> MaybePlace {
+fn place_of(matched: Current) -> Option<Place> {
     match matched {
-        Current::Nothing => MaybePlace::Nothing,
+        Current::Nothing => None,
         Current::Is(m) => {
             let tile = m.tile;
             let key = tile.key;
-            let forward = m.forward;
-            MaybePlace::At(Place {
+            Some(Place {
                 row: key.row,
                 col: key.col,
                 edge: m.edge,
-                way: way_of(forward),
+                forward: m.forward,
                 offset_dm: decimetres(m.offset_m),
             })
         }
@@ -108,12 +95,10 @@ fn heights(a: Ahead) -> [u8; 1002]
     ensures { 1002 ≡ length result }
 {
     let mut out = [0u8; 1002];
-    let mut i = 0;
-    while i < 501 {
+    for i in 0..501 {
         let n = num::cast::u16_of_i16(a.samples[i]);
         out[i * 2] = (n % 256) as u8;
         out[i * 2 + 1] = (n / 256) as u8;
-        i += 1;
     }
     out
 }

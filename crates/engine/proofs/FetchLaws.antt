@@ -2,31 +2,24 @@
 -- (`opening_is_pending`), so that reset withdraws it (`reset_withdraws`), and a fix or a loss of fixes acts the same before its delivery as
 -- after it (`fix_commutes`, `lost_commutes`). The idea: of all that a step does only two branches answer Fetch, and both say what they open;
 -- what a fix changes in a follower and what a delivery changes lie side by side (`Aside`).
+use Rattle.cache.specs.declared.Loading.{Loading}
+use Rattle.refusal.specs.Refusal.{number_of}
+use Rattle.refusal.specs.declared.Refusal.{Refusal}
+use Rattle.std.specs.Prelude.{Result, Ok, Err, Option, Some, None}
 use Rattle.std.proofs.Common.{◌≡◌, ℕ, Bool, true, false, cond, ◌&&◌, eqb, ltb, List, [], length, replicate, pos, sym, refl, ap, ◌∙◌, true≢false}
 use Rattle.pack.specs.Grid.{key_of}
 use Rattle.pack.specs.Sector.{parse}
-use Rattle.pack.specs.declared.Answer.{Answer}
-use Rattle.pack.specs.declared.Answer.TheVariants as Answer
 use Rattle.pack.specs.declared.Header.{Header}
-use Rattle.pack.specs.declared.Keyed.{Keyed}
-use Rattle.pack.specs.declared.Keyed.TheVariants as Keyed
 use Rattle.pack.specs.declared.TileKey.{TileKey}
-use Rattle.cache.specs.declared.MaybeKey.{MaybeKey}
-use Rattle.cache.specs.declared.MaybeKey.TheVariants as MaybeKey
 use Rattle.cache.specs.Keys.{same_key}
 use Rattle.cache.specs.State.{cleared}
 use Rattle.cache.specs.declared.Cache.{Cache}
-use Rattle.cache.specs.declared.MaybeLoading.{MaybeLoading}
-use Rattle.cache.specs.declared.MaybeLoading.TheVariants as MaybeLoading
 use Rattle.cache.specs.declared.Pending.{Pending}
-use Rattle.cache.specs.declared.Pending.TheVariants as Pending
 use Rattle.cache.specs.declared.Loaded.{Loaded}
 use Rattle.cache.specs.Loads as Loads
 use Rattle.cache.specs.Calls.{load_tested}
 use Rattle.cache.specs.declared.Progress.{Progress}
-use Rattle.cache.specs.declared.Progress.TheVariants as Progress
 use Rattle.matcher.specs.declared.Current.{Current}
-use Rattle.matcher.specs.declared.Current.TheVariants as Current
 use Rattle.matcher.specs.declared.Matched.{Matched}
 use Rattle.matcher.specs.Gather.{updated}
 use Rattle.matcher.specs.declared.Outcome as MatchOutcome
@@ -40,13 +33,10 @@ use Rattle.engine.specs.Follow.{fixed, lost}
 use Rattle.engine.specs.declared.Fix.{Fix}
 use Rattle.engine.specs.declared.Follower.{Follower}
 use Rattle.engine.specs.declared.MaybeFix.{MaybeFix}
-use Rattle.engine.specs.declared.MaybeFix.TheVariants as MaybeFix
 use Rattle.engine.specs.declared.Engine.{Engine}
 use Rattle.engine.specs.declared.Phase.{Phase}
-use Rattle.engine.specs.declared.Phase.TheVariants as Phase
 use Rattle.engine.specs.declared.Shared.{Shared}
 use Rattle.engine.specs.declared.Status.{Status}
-use Rattle.engine.specs.declared.Status.TheVariants as Status
 use Rattle.engine.specs.declared.Stepped.{Stepped}
 use Rattle.engine.specs.State.{forgotten}
 use Rattle.engine.specs.Work.{may_ask, match_ended_by, match_step, road_ended_by, road_step, road_due_by, in_grid_step, at_fix_by, at_fix, worked_by, worked, counted}
@@ -138,10 +128,9 @@ module _ (e : Engine) (arena : List ℕ) (f : Follower) (fix : Fix) where
       either_none f.due.matching _ _ (match_none u.answer u)
       (either_none f.due.road _ _ (due_none f.matcher.current) refl)
 
-  fix_none : (k : Keyed) → is_fetch (at_fix_by k e arena f fix).answer ≡ false
-  fix_none (Keyed.In key) = grid_none
-  fix_none Keyed.Outside = refl
-  fix_none (Keyed.Refused number) = refl
+  fix_none : (k : Option TileKey) → is_fetch (at_fix_by k e arena f fix).answer ≡ false
+  fix_none (Some key) = grid_none
+  fix_none None = refl
 
 work_none : (m : MaybeFix) (e : Engine) (arena : List ℕ) (f : Follower) → is_fetch (worked_by m e arena f).answer ≡ false
 unfolding at_fix
@@ -161,21 +150,21 @@ request_same e Pending.Header q = refl
 request_same e (Pending.Entry key) q = refl
 request_same e Pending.Chunk q = refl
 
-pending_open : (x : MaybeLoading) (key : TileKey) → is_open (pending_for x key) ≡ true
-pending_open MaybeLoading.Nothing key = refl
-pending_open (MaybeLoading.Tile l) key = by (same_key l.key key)
+pending_open : (x : Option Loading) (key : TileKey) → is_open (pending_for x key) ≡ true
+pending_open None key = refl
+pending_open (Some l) key = by (same_key l.key key)
   where
     by : (t : Bool) → is_open (cond t Pending.Chunk (Pending.Entry key)) ≡ true
     by true = refl
     by false = refl
 
 -- a tile that is settled opens none
-loaded_none : (p : Progress) (e : Engine) (c : Cache) → is_fetch (loaded_by p e c).answer ≡ false
+loaded_none : (p : Result Progress Refusal) (e : Engine) (c : Cache) → is_fetch (loaded_by p e c).answer ≡ false
 unfolding arrived load_failed
-loaded_none Progress.Done e c = refl
-loaded_none Progress.More e c = refl
-loaded_none (Progress.Failed number) e c = either_none (ltb e.follower.failures 7) _ _ refl refl
-loaded_none (Progress.Refused number) e c = refl
+loaded_none (Ok Progress.Done) e c = refl
+loaded_none (Ok Progress.More) e c = refl
+loaded_none (Ok (Progress.Failed number)) e c = either_none (ltb e.follower.failures 7) _ _ refl refl
+loaded_none (Err number) e c = refl
 
 need_opens : (e : Engine) (arena : List ℕ) (key : TileKey) → Opens e (need_step e arena key)
 unfolding need_step
@@ -191,9 +180,9 @@ need_opens e arena key = by (awaits_read l.answer)
     by true o = record { pending = p; opens = pending_open e.shared.cache.loading key; engine = refl; asks = request_same e p p }
     by false o = absurd (true≢false (sym o ∙ loaded_none l.answer e l.cache))
 
-ready_opens : (m : MaybeKey) (e : Engine) (arena : List ℕ) → Opens e (ready_by m e arena)
-ready_opens (MaybeKey.Key key) e arena o = need_opens e arena key o
-ready_opens MaybeKey.Nothing e arena o = worked_opens e arena o
+ready_opens : (m : Option TileKey) (e : Engine) (arena : List ℕ) → Opens e (ready_by m e arena)
+ready_opens (Some key) e arena o = need_opens e arena key o
+ready_opens None e arena o = worked_opens e arena o
 
 started_opens : (p : Phase) (e : Engine) (arena : List ℕ) → Opens e (started_by p e arena)
 started_opens Phase.Failed e arena o = absurd (true≢false (sym o))
@@ -232,7 +221,7 @@ module _ (e : Engine) (arena : List ℕ) {offset len : ℕ}
 -- ---- a change of the follower beside a delivery
 
 -- what a delivery sets in a follower
-abbrev with_parts : Follower → MaybeKey → ℕ → ℕ → Follower
+abbrev with_parts : Follower → Option TileKey → ℕ → ℕ → Follower
 with_parts f need failures steps = record {
   sight = f.sight;
   matcher = f.matcher;
@@ -245,7 +234,7 @@ with_parts f need failures steps = record {
 
 -- a change that neither reads nor sets those parts
 abbrev Aside : (Follower → Follower) → Type 0
-Aside g = (f : Follower) (need : MaybeKey) (failures steps : ℕ) → with_parts (g f) need failures steps ≡ g (with_parts f need failures steps)
+Aside g = (f : Follower) (need : Option TileKey) (failures steps : ℕ) → with_parts (g f) need failures steps ≡ g (with_parts f need failures steps)
 
 -- the engine with its follower changed
 abbrev pub follows : (Follower → Follower) → Engine → Engine
@@ -272,7 +261,7 @@ module _ (g : Follower → Follower) (aside : Aside g) where
       let f = e.follower in
       ap (λ (x : Follower). record { shared = e.shared; follower = x }) (sym (aside f f.due.need f.failures f.steps))
 
-  set_then : (answer : Status) (s : Shared) (f : Follower) (need : MaybeKey) (failures steps : ℕ)
+  set_then : (answer : Status) (s : Shared) (f : Follower) (need : Option TileKey) (failures steps : ℕ)
       → left answer s (with_parts (g f) need failures steps) ≡ then g (left answer s (with_parts f need failures steps))
   set_then answer s f need failures steps = ap (left answer s) (aside f need failures steps)
 
@@ -292,14 +281,14 @@ module _ (g : Follower → Follower) (aside : Aside g) where
       ap (λ (x : Engine). header_failed x failure) (parts e)
       ∙ either_then (eqb failure 1 && ltb e.follower.failures 7) (set_then _ _ e.follower _ _ _) (set_then _ _ e.follower _ _ _)
 
-  parsed_then : (a : Answer) (e : Engine) (h : Header) → header_parsed a (follows g e) h ≡ then g (header_parsed a e h)
-  parsed_then Answer.Accepted e h = ap (λ (x : Engine). header_parsed Answer.Accepted x h) (parts e) ∙ set_then _ _ e.follower _ _ _
-  parsed_then (Answer.Refused number) e h = header_failed-then e number
+  parsed_then : (parsed : Result Header Refusal) (e : Engine) → header_parsed parsed (follows g e) ≡ then g (header_parsed parsed e)
+  parsed_then (Ok h) e = ap (λ (x : Engine). header_parsed (Ok h) x) (parts e) ∙ set_then _ _ e.follower _ _ _
+  parsed_then (Err refusal) e = header_failed-then e (number_of refusal)
 
   header_then : (e : Engine) (failure : ℕ) (bs : List ℕ) → header_came (follows g e) failure bs ≡ then g (header_came e failure bs)
   unfolding header_came
   header_then e failure bs =
-      let p = parse (sector_of bs) in either_then (eqb failure 0) (parsed_then p.answer e p.header) (header_failed-then e failure)
+      either_then (eqb failure 0) (parsed_then (parse (sector_of bs)) e) (header_failed-then e failure)
 
   -- ---- a part of a tile
 
@@ -309,12 +298,12 @@ module _ (g : Follower → Follower) (aside : Aside g) where
       ap (λ (x : Engine). load_failed x c) (parts e)
       ∙ either_then (ltb e.follower.failures 7) (set_then _ _ e.follower _ _ _) (set_then _ _ e.follower _ _ _)
 
-  loaded_then : (p : Progress) (e : Engine) (c : Cache) → loaded_by p (follows g e) c ≡ then g (loaded_by p e c)
+  loaded_then : (p : Result Progress Refusal) (e : Engine) (c : Cache) → loaded_by p (follows g e) c ≡ then g (loaded_by p e c)
   unfolding arrived
-  loaded_then Progress.Done e c = ap (λ (x : Engine). arrived x c) (parts e) ∙ set_then _ _ e.follower _ _ _
-  loaded_then Progress.More e c = ap (λ (x : Engine). loaded_by Progress.More x c) (parts e) ∙ set_then _ _ e.follower _ _ _
-  loaded_then (Progress.Failed number) e c = load_failed-then e c
-  loaded_then (Progress.Refused number) e c = refl
+  loaded_then (Ok Progress.Done) e c = ap (λ (x : Engine). arrived x c) (parts e) ∙ set_then _ _ e.follower _ _ _
+  loaded_then (Ok Progress.More) e c = ap (λ (x : Engine). loaded_by (Ok Progress.More) x c) (parts e) ∙ set_then _ _ e.follower _ _ _
+  loaded_then (Ok (Progress.Failed number)) e c = load_failed-then e c
+  loaded_then (Err number) e c = refl
 
   part_after : (e : Engine) (arena : List ℕ) (key : TileKey) (failure : ℕ) (bs : List ℕ)
       → part_came (follows g e) arena key failure bs ≡ after g (part_came e arena key failure bs)
@@ -323,10 +312,10 @@ module _ (g : Follower → Follower) (aside : Aside g) where
       let x = load_tested e.shared.cache arena e.shared.header key failure bs in
       ap (λ (s : Stepped). over s x.arena) (loaded_then x.answer e x.cache)
 
-  need_after : (m : MaybeKey) (e : Engine) (arena : List ℕ) (failure : ℕ) (bs : List ℕ)
+  need_after : (m : Option TileKey) (e : Engine) (arena : List ℕ) (failure : ℕ) (bs : List ℕ)
       → need_came_by m (follows g e) arena failure bs ≡ after g (need_came_by m e arena failure bs)
-  need_after MaybeKey.Nothing e arena failure bs = refl
-  need_after (MaybeKey.Key key) e arena failure bs = part_after e arena key failure bs
+  need_after None e arena failure bs = refl
+  need_after (Some key) e arena failure bs = part_after e arena key failure bs
 
   came_after : (e : Engine) (arena : List ℕ) (failure : ℕ) (bs : List ℕ)
       → need_came (follows g e) arena failure bs ≡ after g (need_came e arena failure bs)

@@ -1,6 +1,9 @@
 -- The tile that is needed, by the next step towards it: a step of the engine goes by the read that this makes (`need_is`), in a state that number 12
 -- does not name and towards a key in the grid; and the part that came is the step of a load that it answers (`part_cases`, `part_is`). The code goes by
 -- what the cache answers (`need_reads`, `need_settles`).
+use Rattle.refusal.specs.Refusal.{number_of}
+use Rattle.refusal.specs.declared.Refusal.{Refusal}
+use Rattle.std.specs.Prelude.{Option, Some, None, Result, Ok, Err}
 use Rattle.std.proofs.Common.{◌≡◌, ℕ, Bool, true, false, cond, eqb, List, [], length, sym, refl, ap, ◌∙◌, arith}
 use borrow.Author.Tests.{lt-leb}
 use Rattle.pack.specs.Grid.{in_grid}
@@ -12,16 +15,9 @@ use Rattle.cache.specs.State.{state_ok}
 use Rattle.cache.specs.declared.Cache.{Cache}
 use Rattle.cache.specs.declared.Loaded.{Loaded}
 use Rattle.cache.specs.declared.Loading.{Loading}
-use Rattle.cache.specs.declared.MaybeLoading.{MaybeLoading}
-use Rattle.cache.specs.declared.MaybeLoading.TheVariants as MaybeLoading
 use Rattle.cache.specs.declared.Pending.{Pending}
-use Rattle.cache.specs.declared.Pending.TheVariants as Pending
 use Rattle.cache.specs.declared.look.Landing.{Landing}
-use Rattle.cache.specs.declared.look.Landing.TheVariants as Landing
 use Rattle.cache.specs.declared.next.Next.{Next}
-use Rattle.cache.specs.declared.next.Next.TheVariants as Next
-use Rattle.cache.specs.declared.Request.{Request}
-use Rattle.cache.specs.declared.Request.TheVariants as Request
 use Rattle.cache.specs.Loads as Loads
 use Rattle.cache.specs.Loads.{fetched, unread_step}
 use Rattle.cache.specs.Calls.{load_tested}
@@ -38,17 +34,17 @@ use Rattle.engine.specs.Steps.{opened, awaits_read, pending_for, need_step}
 -- ---- the fetch that is opened, by the load under way
 
 module _ (key : TileKey) where
-  entry_read : (m : MaybeLoading) → next_read m key ≡ Next.Entry → pending_for m key ≡ Pending.Entry key
-  entry_read MaybeLoading.Nothing q = refl
-  entry_read (MaybeLoading.Tile l) q = by (same_key l.key key) q
+  entry_read : (m : Option Loading) → next_read m key ≡ Next.Entry → pending_for m key ≡ Pending.Entry key
+  entry_read None q = refl
+  entry_read (Some l) q = by (same_key l.key key) q
     where
       by : (t : Bool) → cond t (Next.Chunk l) Next.Entry ≡ Next.Entry → cond t Pending.Chunk (Pending.Entry key) ≡ Pending.Entry key
       by true q = let z : ◌≡◌ {A = ℕ} 0 1 = cc in absurd (omega arith)
       by false q = refl
 
-  chunk_read : (m : MaybeLoading) (l : Loading) → next_read m key ≡ Next.Chunk l → pending_for m key ≡ Pending.Chunk
-  chunk_read MaybeLoading.Nothing l q = let z : ◌≡◌ {A = ℕ} 0 1 = cc in absurd (omega arith)
-  chunk_read (MaybeLoading.Tile k) l q = by (same_key k.key key) q
+  chunk_read : (m : Option Loading) (l : Loading) → next_read m key ≡ Next.Chunk l → pending_for m key ≡ Pending.Chunk
+  chunk_read None l q = let z : ◌≡◌ {A = ℕ} 0 1 = cc in absurd (omega arith)
+  chunk_read (Some k) l q = by (same_key k.key key) q
     where
       by : (t : Bool) → cond t (Next.Chunk k) Next.Entry ≡ Next.Chunk l → cond t Pending.Chunk (Pending.Entry key) ≡ Pending.Chunk
       by true q = refl
@@ -100,10 +96,10 @@ pending_of Next.NoPages key = Pending.Nothing
 abbrev pub opened_at : Engine → Pending → ℕ → ℕ → Stepped
 opened_at e pending offset len = record { answer = Status.Fetch offset len; engine = (opened e pending).engine }
 
-abbrev pub need_by : Request → Next → Engine → TileKey → Stepped
-need_by (Request.Read offset len) n e key = opened_at e (pending_of n key) offset len
-need_by (Request.Refused number) n e key = refused e number
-need_by Request.Settled n e key = Deliver.arrived e (settled e.shared.cache n key)
+abbrev pub need_by : Result (Option (ℕ × ℕ)) Refusal → Next → Engine → TileKey → Stepped
+need_by (Ok (Some (offset, len))) n e key = opened_at e (pending_of n key) offset len
+need_by (Err refusal) n e key = refused e (number_of refusal)
+need_by (Ok None) n e key = Deliver.arrived e (settled e.shared.cache n key)
 
 module _ (e : Engine) (arena : List ℕ) (key : TileKey) where
   abbrev c₁ : Cache
@@ -126,8 +122,8 @@ module _ (e : Engine) (arena : List ℕ) (key : TileKey) where
   unfolding need_step
   need_settles l q r = sym (ap (λ (t : Bool). cond t (opened e (pending_for c₁.loading key)) (Deliver.loaded e l)) r) ∙ ap turned q
 
-  ready_by : (i : ℕ) (t : Bool) → turned (cond t (Loads.done (touched c₁ i)) (Loads.refused c₁ 12))
-      ≡ need_by (cond t Request.Settled (Request.Refused 12)) (Next.Ready i) e key
+  ready_by : (i : ℕ) (t : Bool) → turned (cond t (Loads.done (touched c₁ i)) (Loads.refused c₁ Refusal.BadState))
+      ≡ need_by (cond t (Ok None) (Err Refusal.BadState)) (Next.Ready i) e key
   ready_by i true = refl
   ready_by i false = refl
 
@@ -138,7 +134,7 @@ module _ (e : Engine) (arena : List ℕ) (key : TileKey) where
     by_next Next.NoPages q = refl
     by_next Next.Entry q = ap (opened e) (entry_for key c₁ q)
     by_next (Next.Chunk l) q =
-        let loads : c₁.loading ≡ MaybeLoading.Tile l = next_chunk key l c₁ q in
+        let loads : c₁.loading ≡ Some l = next_chunk key l c₁ q in
         rw (lt-leb l.len l.done (bytes_left c₁ l ok loads), chunk_for key c₁ l q, loads)
 
     -- in a state that number 12 does not name, towards a key in the grid
@@ -158,7 +154,7 @@ module _ (e : Engine) (arena : List ℕ) (key : TileKey) (failure : ℕ) (bs : L
 
   abbrev left : Bool → Bool → Loads.After
   left t g =
-      cond t (cond g answered (Loads.over (Loads.refused e.shared.cache 9) arena)) (Loads.over (Loads.refused e.shared.cache 11) arena)
+      cond t (cond g answered (Loads.over (Loads.refused e.shared.cache Refusal.OutsideGrid) arena)) (Loads.over (Loads.refused e.shared.cache Refusal.NotAsked) arena)
 
   pub part_cases : part_came e arena key failure bs
       ≡ cond taken (cond (in_grid e.shared.header key) (over (Deliver.loaded e (Loads.told answered)) answered.arena) (over (refused e 9) arena))

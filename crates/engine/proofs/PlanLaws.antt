@@ -1,16 +1,12 @@
 -- A step where no fetch is open does what its plan says (`plan_step`): by whether the pack is read and a tile is needed, whether there is a fix, where it lies, and what is due.
+use Rattle.std.specs.Prelude.{Option, Some, None}
 use Rattle.std.proofs.Common.{◌≡◌, ℕ, Bool, true, false, cond, List, refl, ap, ◌∙◌}
+use Rattle.pack.specs.declared.TileKey.{TileKey}
 use Rattle.pack.specs.Grid.{key_of, in_grid}
 use Rattle.pack.specs.declared.Header.{Header}
-use Rattle.pack.specs.declared.Keyed.{Keyed}
-use Rattle.pack.specs.declared.Keyed.TheVariants as Keyed
-use Rattle.cache.specs.declared.MaybeKey.{MaybeKey}
-use Rattle.cache.specs.declared.MaybeKey.TheVariants as MaybeKey
 use Rattle.cache.specs.declared.Pending.{Pending}
-use Rattle.cache.specs.declared.Pending.TheVariants as Pending
 use Rattle.matcher.specs.State.{key_ok}
 use Rattle.matcher.specs.declared.Current.{Current}
-use Rattle.matcher.specs.declared.Current.TheVariants as Current
 use Rattle.engine.specs.Plans.{of_road, of_fix, of_sight, of_need, of_state, done_by, plan_of}
 use Rattle.engine.specs.State.{engine_ok}
 use Rattle.engine.specs.Steps.{ready_by, started_by, started, stepped_by, stepped}
@@ -20,11 +16,8 @@ use Rattle.engine.specs.declared.Engine.{Engine}
 use Rattle.engine.specs.declared.Fix.{Fix}
 use Rattle.engine.specs.declared.Follower.{Follower}
 use Rattle.engine.specs.declared.MaybeFix.{MaybeFix}
-use Rattle.engine.specs.declared.MaybeFix.TheVariants as MaybeFix
 use Rattle.engine.specs.declared.Phase.{Phase}
-use Rattle.engine.specs.declared.Phase.TheVariants as Phase
 use Rattle.engine.specs.declared.plan.Plan.{Plan}
-use Rattle.engine.specs.declared.plan.Plan.TheVariants as Plan
 use Rattle.engine.specs.declared.Status.TheVariants as Status
 use Rattle.engine.proofs.TestedLaws.{current_in}
 
@@ -49,20 +42,19 @@ module _ (e : Engine) (arena : List ℕ) where
   due_by fix false true = road_by found₁ fix
   due_by fix false false = refl
 
-  fix_by : (k : Keyed) (fix : Fix) → at_fix_by k e arena f₁ fix ≡ done_by (of_fix k fix due₁ found₁) e arena
-  fix_by (Keyed.In key) fix = due_by fix due₁.matching due₁.road
-  fix_by Keyed.Outside fix = refl
-  fix_by (Keyed.Refused number) fix = refl
+  fix_by : (k : Option TileKey) (fix : Fix) → at_fix_by k e arena f₁ fix ≡ done_by (of_fix k fix due₁ found₁) e arena
+  fix_by (Some key) fix = due_by fix due₁.matching due₁.road
+  fix_by None fix = refl
 
   sight_by : (m : MaybeFix) → worked_by m e arena f₁ ≡ done_by (of_sight m e.shared.header due₁ found₁) e arena
   unfolding at_fix
   sight_by MaybeFix.Nothing = refl
   sight_by (MaybeFix.Is fix) = fix_by (key_of e.shared.header fix.lat fix.lon) fix
 
-  need_by : (k : MaybeKey) → ready_by k e arena ≡ done_by (of_need k e.shared.header e.follower.sight.fix due₁ found₁) e arena
+  need_by : (k : Option TileKey) → ready_by k e arena ≡ done_by (of_need k e.shared.header e.follower.sight.fix due₁ found₁) e arena
   unfolding worked
-  need_by (MaybeKey.Key key) = refl
-  need_by MaybeKey.Nothing = sight_by e.follower.sight.fix
+  need_by (Some key) = refl
+  need_by None = sight_by e.follower.sight.fix
 
   phase_by : (p : Phase) → started_by p e arena ≡ done_by (of_state p e.shared.header e.follower.sight.fix due₁ found₁) e arena
   phase_by Phase.Failed = refl
@@ -96,18 +88,17 @@ module _ (h : Header) (due : Due) where
   due_in m fix false true ok = road_in_lem m fix ok
   due_in m fix false false ok = refl
 
-  fix_in : (k : Keyed) (m : Current) (fix : Fix) → key_ok m h ≡ true → road_in (of_fix k fix due m) h ≡ true
-  fix_in (Keyed.In key) m fix ok = due_in m fix due.matching due.road ok
-  fix_in Keyed.Outside m fix ok = refl
-  fix_in (Keyed.Refused number) m fix ok = refl
+  fix_in : (k : Option TileKey) (m : Current) (fix : Fix) → key_ok m h ≡ true → road_in (of_fix k fix due m) h ≡ true
+  fix_in (Some key) m fix ok = due_in m fix due.matching due.road ok
+  fix_in None m fix ok = refl
 
   sight_in : (x : MaybeFix) (m : Current) → key_ok m h ≡ true → road_in (of_sight x h due m) h ≡ true
   sight_in MaybeFix.Nothing m ok = refl
   sight_in (MaybeFix.Is fix) m ok = fix_in (key_of h fix.lat fix.lon) m fix ok
 
-  need_in : (k : MaybeKey) (x : MaybeFix) (m : Current) → key_ok m h ≡ true → road_in (of_need k h x due m) h ≡ true
-  need_in (MaybeKey.Key key) x m ok = refl
-  need_in MaybeKey.Nothing x m ok = sight_in x m ok
+  need_in : (k : Option TileKey) (x : MaybeFix) (m : Current) → key_ok m h ≡ true → road_in (of_need k h x due m) h ≡ true
+  need_in (Some key) x m ok = refl
+  need_in None x m ok = sight_in x m ok
 
 pub plan_in : (e : Engine) (n : ℕ) → engine_ok e n ≡ true → road_in (plan_of e) e.shared.header ≡ true
 plan_in e n ok = by e.shared.phase refl

@@ -4,7 +4,6 @@ use Rattle.std.proofs.Common.{◌≡◌, ℕ, ◌*◌, ◌/◌, ◌<◌, ◌≤�
 use borrow.Author.Tests.{lt-leb}
 use denote.Enum.Declared.{tag_of}
 use Rattle.engine.specs.declared.Phase.{Phase}
-use Rattle.engine.specs.declared.Phase.TheVariants as Phase
 use Rattle.engine.specs.State.{is_ready, is_unread, is_failed}
 use Rattle.engine.specs.contracts.Phase as Phases
 

@@ -1,23 +1,16 @@
 -- What an arm of a `match` on several variants knows: the value is one of them, so that what the definition makes of each of them is what the
 -- arm does. The idea: the number of the variant tells it. And the limit on asked tiles is a small number (`limit_small`).
+use Rattle.std.specs.Prelude.{Ok}
 use Rattle.std.proofs.Common.{◌≡◌, ℕ, ◌+◌, ◌≤◌, Bool, true, false, cond, not, eqb, ltb, leb, ◌⊎◌, List, sym, refl, ⊎_elim, true≢false, arith, ltb-false, ltb-true, le-leb}
 use borrow.Author.Tests.{lt-leb}
 use native.Mathlib.Nat.{min-le_right}
 use denote.Enum.Declared.{tag_of}
-use Rattle.pack.specs.declared.Keyed.{Keyed}
-use Rattle.pack.specs.declared.Keyed.TheVariants as Keyed
-use Rattle.pack.specs.contracts.Keyed as Keyeds
 use Rattle.cache.specs.declared.Cache.{Cache}
 use Rattle.cache.specs.declared.Progress.{Progress}
-use Rattle.cache.specs.declared.Progress.TheVariants as Progress
-use Rattle.cache.specs.contracts.Progress as Progresses
 use Rattle.cache.specs.declared.Pending.{Pending}
-use Rattle.cache.specs.declared.Pending.TheVariants as Pending
 use Rattle.cache.specs.contracts.Pending as Pendings
 use Rattle.matcher.specs.declared.Outcome.{Outcome}
-use Rattle.matcher.specs.declared.Outcome.TheVariants as Outcome
 use Rattle.matcher.specs.declared.Updated.{Updated}
-use Rattle.matcher.specs.declared.Current.{Current}
 use Rattle.matcher.specs.declared.Matched.{Matched}
 use Rattle.matcher.specs.declared.Matcher.{Matcher}
 use Rattle.matcher.specs.contracts.Outcome as Outcomes
@@ -30,26 +23,18 @@ use Rattle.engine.specs.declared.Due.{Due}
 use Rattle.engine.specs.declared.Fix.{Fix}
 use Rattle.engine.specs.declared.Follower.{Follower}
 use Rattle.engine.specs.declared.Engine.{Engine}
-use Rattle.engine.specs.declared.plan.Plan.TheVariants as Plan
 use Rattle.engine.specs.declared.Status.{Status}
-use Rattle.engine.specs.declared.Status.TheVariants as Status
 use Rattle.engine.specs.declared.Stepped.{Stepped}
 use Rattle.engine.specs.State.{reload_limit, refused}
 use Rattle.engine.specs.Work.{counted, ended, matched, match_ended_by, rematch, with_heights, road_ended_by}
 use Rattle.engine.specs.Deliver.{over, failing, failed_pack, arrived, load_failed, loaded_by, need_came, delivered_by}
-use Rattle.engine.specs.Plans.{of_fix, match_leaves, match_tells, road_leaves, road_fails, road_number, load_leaves, fails_pack, load_phase, load_tells}
+use Rattle.engine.specs.Plans.{match_leaves, match_tells, road_leaves, road_fails, road_number, load_leaves, fails_pack, load_phase, load_tells}
 use Rattle.engine.specs.Steps.{repeated, stepped_by}
 use Rattle.engine.specs.Calls.{step_from_by}
 use Rattle.engine.specs.contracts.Status as Statuses
 
-abbrev keyed_tag : Keyed → ℕ
-keyed_tag k = tag_of Keyeds.the_type k
-
 abbrev road_tag : RoadOutcome.Outcome → ℕ
 road_tag o = tag_of RoadOutcomes.the_type o
-
-abbrev progress_tag : Progress → ℕ
-progress_tag p = tag_of Progresses.the_type p
 
 abbrev pending_tag : Pending → ℕ
 pending_tag p = tag_of Pendings.the_type p
@@ -134,8 +119,8 @@ road_left (Road.Refused number) h f a pages fix found = refl
 
 -- ---- a step of a load that ended
 
-pub load_ended : (p : Progress) → (progress_tag p ≡ 0) ⊎ ((progress_tag p ≡ 1) ⊎ (progress_tag p ≡ 2)) → (e : Engine) (c : Cache)
-    → loaded_by p e c
+pub load_ended : (p : Progress) (e : Engine) (c : Cache)
+    → loaded_by (Ok p) e c
     ≡ record {
       answer = load_tells (fails_pack p e.follower.failures);
       engine = record {
@@ -144,9 +129,9 @@ pub load_ended : (p : Progress) → (progress_tag p ≡ 0) ⊎ ((progress_tag p 
       };
     }
 unfolding arrived load_failed
-load_ended Progress.Done h e c = refl
-load_ended Progress.More h e c = refl
-load_ended (Progress.Failed number) h e c = by e.follower.failures (ltb e.follower.failures 7) refl
+load_ended Progress.Done e c = refl
+load_ended Progress.More e c = refl
+load_ended (Progress.Failed refusal) e c = by e.follower.failures (ltb e.follower.failures 7) refl
   where
     by : (n : ℕ) (t : Bool) → ltb n 7 ≡ t
         → cond t (ended e c (failing (counted e.follower) (n + 1)) Status.Working) (failed_pack e c (failing (counted e.follower) 8))
@@ -159,28 +144,6 @@ load_ended (Progress.Failed number) h e c = by e.follower.failures (ltb e.follow
         }
     by n true q = rw (lt-leb 7 n (ltb-true n 7 q))
     by n false q = rw (le-leb 7 n (ltb-false n 7 q))
-load_ended (Progress.Refused number) h e c =
-    absurd (⊎_elim (λ z. omega arith) (λ t. ⊎_elim (λ z. omega arith) (λ z. omega arith) t) h)
-
-pub load_stays : (p : Progress) → (progress_tag p ≡ 0) ⊎ ((progress_tag p ≡ 1) ⊎ (progress_tag p ≡ 3)) → (failures : ℕ) → fails_pack p failures ≡ false
-load_stays Progress.Done h failures = refl
-load_stays Progress.More h failures = refl
-load_stays (Progress.Failed number) h failures =
-    absurd (⊎_elim (λ z. omega arith) (λ t. ⊎_elim (λ z. omega arith) (λ z. omega arith) t) h)
-load_stays (Progress.Refused number) h failures = refl
-
-pub load_counted : (p : Progress) → (progress_tag p ≡ 1) ⊎ (progress_tag p ≡ 3) → (f : Follower) → load_leaves p f ≡ counted f
-load_counted Progress.Done h f = absurd (⊎_elim (λ z. omega arith) (λ z. omega arith) h)
-load_counted Progress.More h f = refl
-load_counted (Progress.Failed number) h f = absurd (⊎_elim (λ z. omega arith) (λ z. omega arith) h)
-load_counted (Progress.Refused number) h f = refl
-
--- ---- a fix outside the grid
-
-pub fix_off : (k : Keyed) → (keyed_tag k ≡ 1) ⊎ (keyed_tag k ≡ 2) → (fix : Fix) (due : Due) (current : Current) → of_fix k fix due current ≡ Plan.Off fix
-fix_off (Keyed.In key) h fix due current = absurd (⊎_elim (λ z. omega arith) (λ z. omega arith) h)
-fix_off Keyed.Outside h fix due current = refl
-fix_off (Keyed.Refused number) h fix due current = refl
 
 -- ---- an open fetch
 

@@ -2,22 +2,17 @@
 -- What a caller that holds the state in a form of its own goes by: a step towards the needed tile opens a fetch where the cache would read
 -- (`need_waits_entry`, `need_waits_chunk`), the needed tile lies in the grid (`need_in`), and a chunk that leaves more to come moves the load on and
 -- writes its bytes (`chunk_more`).
+use Rattle.std.specs.Prelude.{Option, Some, None}
 use Rattle.std.proofs.Common.{◌≡◌, ℕ, ◌+◌, ◌<◌, Bool, true, false, cond, ◌&&◌, eqb, List, [], ◌∷◌, length, sym, refl, ap, ◌∙◌, true≢false, lt-ltb, eq-eqb, eqb-true}
 use borrow.Author.Tests.{lt-leb}
 use Rattle.pack.specs.Grid.{in_grid}
 use Rattle.pack.specs.declared.Header.{Header}
 use Rattle.pack.specs.declared.TileKey.{TileKey}
 use Rattle.pack.proofs.Laws.{and_left, and_right, clause}
-use Rattle.cache.specs.declared.MaybeKey.{MaybeKey}
-use Rattle.cache.specs.declared.MaybeKey.TheVariants as MaybeKey
 use Rattle.cache.specs.declared.Cache.{Cache}
 use Rattle.cache.specs.declared.Loading.{Loading}
-use Rattle.cache.specs.declared.MaybeLoading.{MaybeLoading}
-use Rattle.cache.specs.declared.MaybeLoading.TheVariants as MaybeLoading
 use Rattle.cache.specs.declared.Pending.{Pending}
-use Rattle.cache.specs.declared.Pending.TheVariants as Pending
 use Rattle.cache.specs.declared.next.Next.{Next}
-use Rattle.cache.specs.declared.next.Next.TheVariants as Next
 use Rattle.cache.specs.Keys.{same_key, holds}
 use Rattle.cache.specs.Lookups.{next_step}
 use Rattle.cache.specs.State.{state_ok, runs_ok, ring_ok, load_ok, is_chunk, wants_chunk_of, pending_fits}
@@ -28,7 +23,6 @@ use Rattle.cache.proofs.FromLaws.{next_chunk}
 use Rattle.cache.proofs.UnreadLaws.{unread_steps}
 use Rattle.engine.specs.declared.Engine.{Engine}
 use Rattle.engine.specs.declared.Phase.{Phase}
-use Rattle.engine.specs.declared.Phase.TheVariants as Phase
 use Rattle.engine.specs.declared.Status.TheVariants as Status
 use Rattle.engine.specs.Deliver.{After, over, loaded, need_came_by, delivered_by, delivered}
 use Rattle.engine.specs.Plans.{plan_of}
@@ -90,9 +84,9 @@ same_key_lem a b e =
     let col : a.col ≡ b.col = eqb-true a.col b.col (and_right (eqb a.row b.row) _ e) in
     λ i. record { row = row i; col = col i }
 
-holds_is : (need : MaybeKey) (key : TileKey) → holds need key ≡ true → need ≡ MaybeKey.Key key
-holds_is (MaybeKey.Key k) key q = ap MaybeKey.Key (same_key_lem k key q)
-holds_is MaybeKey.Nothing key q = absurd (true≢false (sym q))
+holds_is : (need : Option TileKey) (key : TileKey) → holds need key ≡ true → need ≡ Some key
+holds_is (Some k) key q = ap Some (same_key_lem k key q)
+holds_is None key q = absurd (true≢false (sym q))
 
 ready_is : (p : Phase) → is_ready p ≡ true → p ≡ Phase.Ready
 ready_is Phase.Ready q = refl
@@ -100,11 +94,11 @@ ready_is Phase.Unread q = absurd (true≢false (sym q))
 ready_is Phase.Failed q = absurd (true≢false (sym q))
 
 -- the next step towards a key that is a chunk is one of the load under way
-chunk_next : (c : Cache) (key : TileKey) (l : Loading) → c.loading ≡ MaybeLoading.Tile l → is_chunk (next_step c key) ≡ true → next_step c key ≡ Next.Chunk l
+chunk_next : (c : Cache) (key : TileKey) (l : Loading) → c.loading ≡ Some l → is_chunk (next_step c key) ≡ true → next_step c key ≡ Next.Chunk l
 chunk_next c key l q t = by (next_step c key) refl t
   where
     by : (n : Next) → next_step c key ≡ n → is_chunk n ≡ true → n ≡ Next.Chunk l
-    by (Next.Chunk m) r t = let s : c.loading ≡ MaybeLoading.Tile m = next_chunk key m c r in let same : m ≡ l = cc in ap Next.Chunk same
+    by (Next.Chunk m) r t = let s : c.loading ≡ Some m = next_chunk key m c r in let same : m ≡ l = cc in ap Next.Chunk same
     by Next.Entry r t = absurd (true≢false (sym t))
     by (Next.Ready i) r t = absurd (true≢false (sym t))
     by Next.Missing r t = absurd (true≢false (sym t))
@@ -112,7 +106,7 @@ chunk_next c key l q t = by (next_step c key) refl t
 
 -- the fetch of a chunk is open, of a load that number 12 does not name
 module _ (e : Engine) (size : ℕ) (ok : engine_ok e size ≡ true) (l : Loading)
-    (waits : e.shared.cache.pending ≡ Pending.Chunk) (loads : e.shared.cache.loading ≡ MaybeLoading.Tile l) where
+    (waits : e.shared.cache.pending ≡ Pending.Chunk) (loads : e.shared.cache.loading ≡ Some l) where
   chunk_open : (is_ready e.shared.phase && holds e.follower.due.need l.key) ≡ true
   unfolding engine_ok
   chunk_open = rw (waits, loads) at (clause 6 (causes e size ok) ok)
@@ -120,7 +114,7 @@ module _ (e : Engine) (size : ℕ) (ok : engine_ok e size ≡ true) (l : Loading
   pub chunk_ready : e.shared.phase ≡ Phase.Ready
   chunk_ready = ready_is e.shared.phase (and_left (is_ready e.shared.phase) _ chunk_open)
 
-  pub chunk_need : e.follower.due.need ≡ MaybeKey.Key l.key
+  pub chunk_need : e.follower.due.need ≡ Some l.key
   chunk_need = holds_is e.follower.due.need l.key (and_right (is_ready e.shared.phase) _ chunk_open)
 
   pub chunk_inside : in_grid e.shared.header l.key ≡ true
@@ -130,7 +124,7 @@ module _ (e : Engine) (size : ℕ) (ok : engine_ok e size ≡ true) (l : Loading
   unfolding state_ok
   chunk_wanted =
       let c = e.shared.cache in
-      sym (ap (λ (m : MaybeLoading). wants_chunk_of m c) loads)
+      sym (ap (λ (m : Option Loading). wants_chunk_of m c) loads)
       ∙ sym (ap (λ (p : Pending). pending_fits p c) waits)
       ∙ clause 3 (runs_ok c ∷ ring_ok c ∷ load_ok c ∷ Caches.pending_ok c ∷ []) (state_in e size ok)
 
@@ -145,11 +139,11 @@ load_at l come = record { key = l.key; slot = l.slot; offset = l.offset; len = l
 abbrev pub more_came : Engine → Loading → List ℕ → List ℕ → After
 more_came e l arena bs =
     let c = e.shared.cache in
-    over (ended e (moved c c.pages (MaybeLoading.Tile (load_at l (l.done + chunk_len l)))) (counted e.follower) Status.Working)
+    over (ended e (moved c c.pages (Some (load_at l (l.done + chunk_len l)))) (counted e.follower) Status.Working)
     (put arena l.slot l.done bs)
 
 module _ (e : Engine) (arena bs : List ℕ) (ok : engine_ok e (length arena) ≡ true) (l : Loading)
-    (waits : e.shared.cache.pending ≡ Pending.Chunk) (loads : e.shared.cache.loading ≡ MaybeLoading.Tile l)
+    (waits : e.shared.cache.pending ≡ Pending.Chunk) (loads : e.shared.cache.loading ≡ Some l)
     (fits : length bs ≡ chunk_len l) (left : l.done + chunk_len l < l.len) where
   abbrev c₁ : Cache
   c₁ = e.shared.cache
@@ -172,7 +166,7 @@ module _ (e : Engine) (arena bs : List ℕ) (ok : engine_ok e (length arena) ≡
   unfolding delivered
   chunk_more =
       ap (λ (p : Pending). delivered_by p e arena 0 bs) waits
-      ∙ ap (λ (k : MaybeKey). need_came_by k e arena 0 bs) (chunk_need e (length arena) ok l waits loads)
+      ∙ ap (λ (k : Option TileKey). need_came_by k e arena 0 bs) (chunk_need e (length arena) ok l waits loads)
       ∙ part_is e arena l.key 0 bs (chunk_inside e (length arena) ok l waits loads)
       ∙ ap made (chunk_is_next e (length arena) ok l waits loads)
       ∙ chunk_made

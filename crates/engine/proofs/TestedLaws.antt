@@ -1,14 +1,13 @@
 -- What number 12's test of the engine tells the functions behind it: the cache's state is a good one, the tile needed and the match lie in the grid
 -- of the header that was read, the fix is a point and the heading one that number 8 accepts.
+use Rattle.std.specs.Prelude.{Some}
 use Rattle.std.proofs.Common.{◌≡◌, ℕ, Bool, true, ◌&&◌, leb, List, [], ◌∷◌, refl}
 use Rattle.pack.specs.Grid.{is_point, in_grid}
 use Rattle.pack.specs.declared.TileKey.{TileKey}
 use Rattle.pack.proofs.Laws.{and_left, and_right, clause}
 use Rattle.cache.specs.State.{state_ok}
-use Rattle.cache.specs.declared.MaybeKey.TheVariants as MaybeKey
 use Rattle.matcher.specs.State.{key_ok, counts_ok, heading_ok}
 use Rattle.matcher.specs.declared.Current.{Current}
-use Rattle.matcher.specs.declared.Current.TheVariants as Current
 use Rattle.engine.specs.declared.Engine.{Engine}
 use Rattle.engine.specs.declared.Fix.{Fix}
 use Rattle.engine.specs.declared.MaybeFix.TheVariants as MaybeFix
@@ -30,7 +29,7 @@ module _ (e : Engine) (n : ℕ) (ok : engine_ok e n ≡ true) where
   unfolding engine_ok
   due_in = and_right (leb e.follower.due.reloads (reload_limit e.shared.cache.pages.count)) _ (clause 1 causes ok)
 
-  pub need_in : (key : TileKey) → e.shared.phase ≡ Phase.Ready → e.follower.due.need ≡ MaybeKey.Key key → in_grid e.shared.header key ≡ true
+  pub need_in : (key : TileKey) → e.shared.phase ≡ Phase.Ready → e.follower.due.need ≡ Some key → in_grid e.shared.header key ≡ true
   need_in key ready need = rw (ready, need) at due_in
 
   sight_in : sight_ok e.follower.sight ≡ true

@@ -1,27 +1,23 @@
 -- The public functions, each with its refusals: document 01, "Refused". 12 first; then 8 for a fix, 11 for a delivery; the late 12 of a lookup
 -- inside a step. A refused call leaves engine and arena as they were.
+use Rattle.std.specs.Prelude.{Result, Ok, Err}
+use Rattle.refusal.specs.declared.Refusal.{Refusal}
 use Rattle.std.specs.Prelude.{ℕ, cond, List, [], length, Float}
 use Rattle.pack.specs.Grid.{is_point, read}
-use Rattle.pack.specs.declared.Range.{Range}
-use Rattle.pack.specs.declared.Range.TheVariants as Range
 use Rattle.cache.specs.State as Caches
 use Rattle.cache.specs.Loads.{pack_bytes}
 use Rattle.engine.specs.Follow as Followers
 use Rattle.engine.specs.declared.Fix.{Fix}
 use Rattle.matcher.specs.declared.Heading.{Heading}
-use Rattle.matcher.specs.declared.Heading.TheVariants as Heading
 use Rattle.engine.specs.Publish.{nothing_ahead}
 use Rattle.engine.specs.declared.AheadRead.{AheadRead}
 use Rattle.engine.specs.declared.Changed.{Changed}
 use Rattle.engine.specs.declared.Count.{Count}
-use Rattle.engine.specs.declared.Count.TheVariants as Count
 use Rattle.engine.specs.declared.HeaderRead.{HeaderRead}
 use Rattle.engine.specs.declared.HeadingRead.{HeadingRead}
-use Rattle.engine.specs.declared.HeadingRead.TheVariants as HeadingRead
 use Rattle.engine.specs.declared.Known.TheVariants as Known
 use Rattle.engine.specs.declared.Engine.{Engine}
 use Rattle.engine.specs.declared.Status.{Status}
-use Rattle.engine.specs.declared.Status.TheVariants as Status
 use Rattle.engine.specs.declared.Stepped.{Stepped}
 use Rattle.engine.specs.State.{no_header, unread, refused, unchanged, followed, forgotten, is_ready, engine_ok}
 use Rattle.engine.specs.Deliver as Deliver
@@ -82,9 +78,9 @@ unfoldable pub deliver : Engine → List ℕ → ℕ → List ℕ → After
 deliver e arena failure bs = cond (engine_ok e (length arena)) (delivered e arena failure bs) (over (refused e 12) arena)
 
 -- the pack's bytes, or 2 where they pass its end
-abbrev pub answered_by : Range → Engine → List ℕ → ℕ → List ℕ → After
-answered_by (Range.At at) e arena len pack = deliver e arena 0 (pack_bytes pack at len)
-answered_by (Range.Refused number) e arena len pack = deliver e arena 2 []
+abbrev pub answered_by : Result ℕ Refusal → Engine → List ℕ → ℕ → List ℕ → After
+answered_by (Ok at) e arena len pack = deliver e arena 0 (pack_bytes pack at len)
+answered_by (Err number) e arena len pack = deliver e arena 2 []
 
 unfoldable pub answered_from : Engine → List ℕ → ℕ → ℕ → List ℕ → After
 answered_from e arena offset len pack = answered_by (read pack offset len) e arena len pack

@@ -1,33 +1,28 @@
 -- The open fetch answered: `engine.rs`, `step`, after its read. All that a step that reads changes, changes here. The header: a missed read is
 -- tried again up to the eighth, which fails the pack with the count at 7; 2, 3 and 4 fail it at once. A part of the needed tile: 1, 2 and 4
 -- count, and the eighth fails the pack. Number 11: no fetch is open, or the answer doesn't fit it (document 01, "Refused").
-use Rattle.std.specs.Prelude.{ℕ, ◌+◌, Bool, cond, ◌&&◌, List, length, replicate, ◌==◌, nat_le, nat_lt, slice_set}
+use Rattle.std.specs.Prelude.{Option, Some, None}
+use Rattle.std.specs.Prelude.{Result, Ok, Err, ℕ, ◌+◌, Bool, cond, ◌&&◌, List, length, replicate, ◌==◌, nat_le, nat_lt, slice_set}
 use Rattle.pack.specs.Bytes.{byte_at}
 use Rattle.pack.specs.Sector.{parse}
-use Rattle.pack.specs.declared.Answer.{Answer}
-use Rattle.pack.specs.declared.Answer.TheVariants as Answer
+use Rattle.refusal.specs.Refusal.{number_of}
+use Rattle.refusal.specs.declared.Refusal.{Refusal}
 use Rattle.pack.specs.declared.Header.{Header}
 use Rattle.pack.specs.declared.TileKey.{TileKey}
-use Rattle.cache.specs.declared.MaybeKey.{MaybeKey}
-use Rattle.cache.specs.declared.MaybeKey.TheVariants as MaybeKey
 use Rattle.cache.specs.declared.Cache.{Cache}
 use Rattle.cache.specs.declared.Pending.{Pending}
-use Rattle.cache.specs.declared.Pending.TheVariants as Pending
 use Rattle.cache.specs.Loads as Loads
 use Rattle.cache.specs.Calls.{load_tested}
 use Rattle.cache.specs.declared.Loaded.{Loaded}
 use Rattle.cache.specs.declared.Progress.{Progress}
-use Rattle.cache.specs.declared.Progress.TheVariants as Progress
 use Rattle.num.specs.Fold.{up_to}
 use Rattle.engine.specs.Setters as Setters
 use Rattle.engine.specs.declared.Due.{Due}
 use Rattle.engine.specs.declared.Follower.{Follower}
 use Rattle.engine.specs.declared.Engine.{Engine}
 use Rattle.engine.specs.declared.Phase.{Phase}
-use Rattle.engine.specs.declared.Phase.TheVariants as Phase
 use Rattle.engine.specs.declared.Shared.{Shared}
 use Rattle.engine.specs.declared.Status.{Status}
-use Rattle.engine.specs.declared.Status.TheVariants as Status
 use Rattle.engine.specs.declared.Stepped.{Stepped}
 use Rattle.engine.specs.State.{refused}
 use Rattle.engine.specs.Work.{with_due, counted, ended}
@@ -69,18 +64,18 @@ header_failed e failure =
     (with_failures e (with_phase e.shared Phase.Unread e.shared.header) (e.follower.failures + 1) Status.Working)
     (with_failures e (with_phase e.shared Phase.Failed e.shared.header) e.follower.failures Status.NoPack)
 
-abbrev pub header_parsed : Answer → Engine → Header → Stepped
-header_parsed Answer.Accepted e h = with_failures e (with_phase e.shared Phase.Ready h) 0 Status.Working
-header_parsed (Answer.Refused number) e h = header_failed e number
+abbrev pub header_parsed : Result Header Refusal → Engine → Stepped
+header_parsed (Ok h) e = with_failures e (with_phase e.shared Phase.Ready h) 0 Status.Working
+header_parsed (Err refusal) e = header_failed e (number_of refusal)
 
 unfoldable pub header_came : Engine → ℕ → List ℕ → Stepped
 header_came e failure bs =
-    cond (failure == 0) (let p = parse (sector_of bs) in header_parsed p.answer e p.header) (header_failed e failure)
+    cond (failure == 0) (header_parsed (parse (sector_of bs)) e) (header_failed e failure)
 
 -- ---- a part of the tile that is needed
 
 abbrev pub needless : Due → Due
-needless d = Setters.with_need d MaybeKey.Nothing
+needless d = Setters.with_need d None
 
 -- the tile is settled
 unfoldable pub arrived : Engine → Cache → Stepped
@@ -97,11 +92,11 @@ load_failed e c =
     let f = counted e.follower in
     cond (nat_lt f.failures 7) (ended e c (failing f (f.failures + 1)) Status.Working) (failed_pack e c (failing f 8))
 
-abbrev pub loaded_by : Progress → Engine → Cache → Stepped
-loaded_by Progress.Done e c = arrived e c
-loaded_by Progress.More e c = ended e c (counted e.follower) Status.Working
-loaded_by (Progress.Failed number) e c = load_failed e c
-loaded_by (Progress.Refused number) e c = refused e number
+abbrev pub loaded_by : Result Progress Refusal → Engine → Cache → Stepped
+loaded_by (Ok Progress.Done) e c = arrived e c
+loaded_by (Ok Progress.More) e c = ended e c (counted e.follower) Status.Working
+loaded_by (Ok (Progress.Failed refusal)) e c = load_failed e c
+loaded_by (Err refusal) e c = refused e (number_of refusal)
 
 abbrev pub loaded : Engine → Loaded → Stepped
 loaded e l = loaded_by l.answer e l.cache
@@ -117,9 +112,9 @@ part_came e arena key failure bs =
 abbrev pub fits_header : ℕ → ℕ → Bool
 fits_header failure len = cond (failure == 0) (len == 512) (nat_le failure 2)
 
-abbrev pub need_came_by : MaybeKey → Engine → List ℕ → ℕ → List ℕ → After
-need_came_by MaybeKey.Nothing e arena failure bs = over (refused e 11) arena
-need_came_by (MaybeKey.Key key) e arena failure bs = part_came e arena key failure bs
+abbrev pub need_came_by : Option TileKey → Engine → List ℕ → ℕ → List ℕ → After
+need_came_by None e arena failure bs = over (refused e 11) arena
+need_came_by (Some key) e arena failure bs = part_came e arena key failure bs
 
 abbrev pub need_came : Engine → List ℕ → ℕ → List ℕ → After
 need_came e arena failure bs = need_came_by e.follower.due.need e arena failure bs

@@ -1,18 +1,15 @@
 -- The fixes, and the heading of travel that they give: `engine.rs`, `Fix::from_e7`, `fix` and `lost`: "from the newest earlier fix at least
 -- HEADING_MOVE_M away". Each float operation is rounded once, in the Rust's order.
+use Rattle.std.specs.Prelude.{Option, Some, None}
 use Rattle.std.specs.Prelude.{ℕ, ◌+◌, ◌-◌, Bool, false, cond, ◌&&◌, ◌++◌, take, drop, replicate, ℤ, pos, int_div, int_le, nat_lt, slice_index_or, slice_set}
 use Rattle.std.specs.Float.Ieee.{le}
-use Rattle.cache.specs.declared.victim.Found.{Found}
-use Rattle.cache.specs.declared.victim.Found.TheVariants as Found
 use Rattle.geo.specs.declared.Point.{Point}
 use Rattle.geo.specs.Flat.{whole, metres_of, length_of, bearing_of}
 use Rattle.angle.specs.Cosine.{lon_scale_um}
 use Rattle.matcher.specs.declared.Heading.{Heading}
-use Rattle.matcher.specs.declared.Heading.TheVariants as Heading
 use Rattle.predict.specs.Incoming.{highest}
 use Rattle.engine.specs.declared.Fix.{Fix}
 use Rattle.engine.specs.declared.MaybeFix.{MaybeFix}
-use Rattle.engine.specs.declared.MaybeFix.TheVariants as MaybeFix
 use Rattle.engine.specs.declared.Places.{Places}
 use Rattle.engine.specs.declared.Sight.{Sight}
 use Rattle.engine.specs.declared.fixes.Course.{Course}
@@ -61,15 +58,15 @@ abbrev pub is_move : Places → Point → ℕ → ℕ → Bool
 is_move h here lon_um i = let m = metres_of here (place_at h i) lon_um in le (whole 15) (length_of m.east m.north)
 
 -- the newest place that lies that far away
-unfoldable pub moved_from : Places → Point → ℕ → Found
+unfoldable pub moved_from : Places → Point → ℕ → Option ℕ
 moved_from h here lon_um = highest (λ (i : ℕ). is_move h here lon_um i) h.len
 
 abbrev pub place_of : Fix → Point
 place_of fix = record { lat = fix.lat; lon = fix.lon }
 
-abbrev pub course_by : Found → Sight → Fix → ℕ → Course
-course_by Found.Nothing s fix lon_um = record { heading = s.heading; at_ms = s.heading_at }
-course_by (Found.At i) s fix lon_um =
+abbrev pub course_by : Option ℕ → Sight → Fix → ℕ → Course
+course_by None s fix lon_um = record { heading = s.heading; at_ms = s.heading_at }
+course_by (Some i) s fix lon_um =
     let m = metres_of (place_of fix) (place_at s.history i) lon_um in
     record { heading = Heading.Degrees (bearing_of m.east m.north); at_ms = fix.at_ms }
 

@@ -1,17 +1,15 @@
 -- A follower from its start, and what a fix, the loss of fixes and a reset do to it: `engine.rs`, `new`, `fix`, `lost` and `reset`: "`reset`
 -- keeps fix, history and heading" (document 01).
+use Rattle.std.specs.Prelude.{None}
 use Rattle.std.specs.Prelude.{Bool, true, false, cond, Float}
 use Rattle.num.specs.Order.{min}
 use Rattle.geo.specs.Flat.{whole}
-use Rattle.cache.specs.declared.MaybeKey.TheVariants as MaybeKey
 use Rattle.matcher.specs.declared.Current.{Current}
-use Rattle.matcher.specs.declared.Current.TheVariants as Current
 use Rattle.matcher.specs.Calls as Matching
 use Rattle.engine.specs.declared.Due.{Due}
 use Rattle.engine.specs.declared.Fix.{Fix}
 use Rattle.engine.specs.declared.Follower.{Follower}
 use Rattle.engine.specs.declared.MaybeFix.{MaybeFix}
-use Rattle.engine.specs.declared.MaybeFix.TheVariants as MaybeFix
 use Rattle.engine.specs.declared.MaybeTime.TheVariants as MaybeTime
 use Rattle.engine.specs.declared.Ahead.{Ahead}
 use Rattle.engine.specs.Fixes as Fixes
@@ -19,7 +17,7 @@ use Rattle.engine.specs.Publish.{nothing_ahead, forgotten}
 use Rattle.engine.specs.Setters.{with_sight, with_matcher, with_due, with_ahead, with_failures, with_matching, with_road}
 
 abbrev pub nothing_done : Bool → Due
-nothing_done matching = record { matching = matching; road = false; last_road = MaybeTime.Nothing; need = MaybeKey.Nothing; reloads = 0 }
+nothing_done matching = record { matching = matching; road = false; last_road = MaybeTime.Nothing; need = None; reloads = 0 }
 
 -- `horizon_m.min(10,000)`: not-a-number becomes 10,000
 unfoldable pub fresh : Float → Follower

@@ -1,15 +1,10 @@
 -- Document 01's number of each answer of `engine`, 0 where it is no refusal. Inside a step 5 and 6 are not handed out, and 1 to 4 show as Working or NoPack.
 use Rattle.std.specs.Prelude.{ℕ}
 use Rattle.engine.specs.declared.Status.{Status}
-use Rattle.engine.specs.declared.Status.TheVariants as Status
 use Rattle.engine.specs.declared.Taken.{Taken}
-use Rattle.engine.specs.declared.Taken.TheVariants as Taken
 use Rattle.engine.specs.declared.Known.{Known}
-use Rattle.engine.specs.declared.Known.TheVariants as Known
 use Rattle.engine.specs.declared.HeadingRead.{HeadingRead}
-use Rattle.engine.specs.declared.HeadingRead.TheVariants as HeadingRead
 use Rattle.engine.specs.declared.Count.{Count}
-use Rattle.engine.specs.declared.Count.TheVariants as Count
 
 abbrev pub number_of_status : Status → ℕ
 number_of_status Status.Idle = 0

@@ -1,20 +1,14 @@
 -- What a step is to do where no fetch is open: this restates code (`plan.rt`, and what `work.rt` and `deliver.rt` make of an answer). `Steps` has the step itself, and
 -- `PlanLaws` says that both are one.
+use Rattle.std.specs.Prelude.{Option, Some, None}
 use Rattle.std.specs.Prelude.{ℕ, ◌+◌, Bool, true, false, cond, not, ◌||◌, List, ◌==◌, nat_le, nat_lt}
 use Rattle.pack.specs.Grid.{key_of}
 use Rattle.pack.specs.declared.Header.{Header}
 use Rattle.pack.specs.declared.TileKey.{TileKey}
-use Rattle.pack.specs.declared.Keyed.{Keyed}
-use Rattle.pack.specs.declared.Keyed.TheVariants as Keyed
-use Rattle.cache.specs.declared.MaybeKey.{MaybeKey}
-use Rattle.cache.specs.declared.MaybeKey.TheVariants as MaybeKey
 use Rattle.cache.specs.Uses.{with_uses}
 use Rattle.cache.specs.declared.Pending.{Pending}
-use Rattle.cache.specs.declared.Pending.TheVariants as Pending
 use Rattle.cache.specs.declared.Progress.{Progress}
-use Rattle.cache.specs.declared.Progress.TheVariants as Progress
 use Rattle.matcher.specs.declared.Current.{Current}
-use Rattle.matcher.specs.declared.Current.TheVariants as Current
 use Rattle.matcher.specs.declared.Made.{Made}
 use Rattle.matcher.specs.declared.Matched.{Matched}
 use Rattle.matcher.specs.declared.Matcher.{Matcher}
@@ -28,13 +22,9 @@ use Rattle.engine.specs.declared.Engine.{Engine}
 use Rattle.engine.specs.declared.Fix.{Fix}
 use Rattle.engine.specs.declared.Follower.{Follower}
 use Rattle.engine.specs.declared.MaybeFix.{MaybeFix}
-use Rattle.engine.specs.declared.MaybeFix.TheVariants as MaybeFix
 use Rattle.engine.specs.declared.Phase.{Phase}
-use Rattle.engine.specs.declared.Phase.TheVariants as Phase
 use Rattle.engine.specs.declared.plan.Plan.{Plan}
-use Rattle.engine.specs.declared.plan.Plan.TheVariants as Plan
 use Rattle.engine.specs.declared.Status.{Status}
-use Rattle.engine.specs.declared.Status.TheVariants as Status
 use Rattle.engine.specs.declared.Stepped.{Stepped}
 use Rattle.engine.specs.Deliver.{failing, needless}
 use Rattle.engine.specs.Steps.{opened, need_step}
@@ -47,18 +37,17 @@ of_road Current.Nothing fix = Plan.Roadless
 abbrev pub of_due : Fix → Due → Current → Plan
 of_due fix due current = cond due.matching (Plan.Match fix) (cond due.road (of_road current fix) Plan.Rest)
 
-abbrev pub of_fix : Keyed → Fix → Due → Current → Plan
-of_fix (Keyed.In key) fix due current = of_due fix due current
-of_fix Keyed.Outside fix due current = Plan.Off fix
-of_fix (Keyed.Refused number) fix due current = Plan.Off fix
+abbrev pub of_fix : Option TileKey → Fix → Due → Current → Plan
+of_fix (Some key) fix due current = of_due fix due current
+of_fix None fix due current = Plan.Off fix
 
 abbrev pub of_sight : MaybeFix → Header → Due → Current → Plan
 of_sight MaybeFix.Nothing h due current = Plan.Rest
 of_sight (MaybeFix.Is fix) h due current = of_fix (key_of h fix.lat fix.lon) fix due current
 
-abbrev pub of_need : MaybeKey → Header → MaybeFix → Due → Current → Plan
-of_need (MaybeKey.Key key) h fix due current = Plan.Need key
-of_need MaybeKey.Nothing h fix due current = of_sight fix h due current
+abbrev pub of_need : Option TileKey → Header → MaybeFix → Due → Current → Plan
+of_need (Some key) h fix due current = Plan.Need key
+of_need None h fix due current = of_sight fix h due current
 
 abbrev pub of_state : Phase → Header → MaybeFix → Due → Current → Plan
 of_state Phase.Failed h fix due current = Plan.NoPack
@@ -138,14 +127,12 @@ road_number (Road.Refused number) = number
 abbrev pub load_leaves : Progress → Follower → Follower
 load_leaves Progress.Done f = failing (with_due (counted f) (needless f.due)) 0
 load_leaves Progress.More f = counted f
-load_leaves (Progress.Failed number) f = failing (counted f) (cond (nat_lt f.failures 7) (f.failures + 1) 8)
-load_leaves (Progress.Refused number) f = counted f
+load_leaves (Progress.Failed refusal) f = failing (counted f) (cond (nat_lt f.failures 7) (f.failures + 1) 8)
 
 abbrev pub fails_pack : Progress → ℕ → Bool
 fails_pack Progress.Done failures = false
 fails_pack Progress.More failures = false
-fails_pack (Progress.Failed number) failures = nat_le 7 failures
-fails_pack (Progress.Refused number) failures = false
+fails_pack (Progress.Failed refusal) failures = nat_le 7 failures
 
 abbrev pub load_phase : Phase → Bool → Phase
 load_phase phase failed = cond failed Phase.Failed phase

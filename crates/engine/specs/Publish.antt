@@ -3,10 +3,8 @@ use Rattle.std.specs.Prelude.{ℕ, Bool, false, replicate, pos, nat_lt}
 use Rattle.geo.specs.Flat.{whole}
 use Rattle.cache.specs.Lookups.{after}
 use Rattle.matcher.specs.declared.Current.{Current}
-use Rattle.matcher.specs.declared.Current.TheVariants as Current
 use Rattle.matcher.specs.declared.Matched.{Matched}
 use Rattle.predict.specs.declared.End.{End}
-use Rattle.predict.specs.declared.End.TheVariants as End
 use Rattle.predict.specs.declared.Prediction.{Prediction}
 use Rattle.engine.specs.declared.Ahead.{Ahead}
 

@@ -1,6 +1,7 @@
 -- A follower, and what is due of it, with one field changed: one setter a field.
+use Rattle.std.specs.Prelude.{Option}
+use Rattle.pack.specs.declared.TileKey.{TileKey}
 use Rattle.std.specs.Prelude.{ℕ, Bool}
-use Rattle.cache.specs.declared.MaybeKey.{MaybeKey}
 use Rattle.matcher.specs.declared.Matcher.{Matcher}
 use Rattle.engine.specs.declared.Ahead.{Ahead}
 use Rattle.engine.specs.declared.Due.{Due}
@@ -87,7 +88,7 @@ with_road d b = record { matching = d.matching; road = b; last_road = d.last_roa
 abbrev pub with_last_road : Due → MaybeTime → Due
 with_last_road d at = record { matching = d.matching; road = d.road; last_road = at; need = d.need; reloads = d.reloads }
 
-abbrev pub with_need : Due → MaybeKey → Due
+abbrev pub with_need : Due → Option TileKey → Due
 with_need d key = record { matching = d.matching; road = d.road; last_road = d.last_road; need = key; reloads = d.reloads }
 
 abbrev pub with_reloads : Due → ℕ → Due

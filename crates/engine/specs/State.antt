@@ -3,24 +3,21 @@
 -- heading that 8 would refuse (`sight_ok`), a needed or matched key outside the read header's grid or held while the header is unread
 -- (`held_ok`), reloads above their limit (`due_ok`), an open fetch that the state would not make (`pending_ok`), a header that `Header::parse`
 -- would refuse, an arena shorter than its pages (`shared_ok`). A pack that failed keeps what is needed and matched.
+use Rattle.std.specs.Prelude.{Option, Some, None}
+use Rattle.std.specs.Prelude.{is_some}
+use Rattle.cache.specs.declared.Loading.{Loading}
 use Rattle.std.specs.Prelude.{ℕ, ◌+◌, ◌*◌, min, Bool, true, false, cond, not, ◌&&◌, [], ◌∷◌, ◌==◌, nat_le, nat_lt}
 use Rattle.pack.specs.Sector.{all_of, rules}
 use Rattle.pack.specs.Sector as Sector
 use Rattle.pack.specs.Grid.{in_grid, is_point}
 use Rattle.pack.specs.declared.Header.{Header}
 use Rattle.pack.specs.declared.TileKey.{TileKey}
-use Rattle.cache.specs.declared.MaybeKey.{MaybeKey}
-use Rattle.cache.specs.declared.MaybeKey.TheVariants as MaybeKey
 use Rattle.cache.specs.Keys.{holds}
-use Rattle.cache.specs.Search.{lowest, is_found}
+use Rattle.cache.specs.Search.{lowest}
 use Rattle.cache.specs.State.{state_ok, arena_ok, cleared}
 use Rattle.cache.specs.declared.Cache.{Cache}
-use Rattle.cache.specs.declared.MaybeLoading.{MaybeLoading}
-use Rattle.cache.specs.declared.MaybeLoading.TheVariants as MaybeLoading
 use Rattle.cache.specs.declared.Pending.{Pending}
-use Rattle.cache.specs.declared.Pending.TheVariants as Pending
 use Rattle.matcher.specs.declared.Current.{Current}
-use Rattle.matcher.specs.declared.Current.TheVariants as Current
 use Rattle.matcher.specs.State.{counts_ok, heading_ok}
 use Rattle.matcher.specs.declared.Matcher.{Matcher}
 use Rattle.engine.specs.Fixes.{place_at}
@@ -29,13 +26,11 @@ use Rattle.engine.specs.declared.Ahead.{Ahead}
 use Rattle.engine.specs.declared.Due.{Due}
 use Rattle.engine.specs.declared.Follower.{Follower}
 use Rattle.engine.specs.declared.MaybeFix.{MaybeFix}
-use Rattle.engine.specs.declared.MaybeFix.TheVariants as MaybeFix
 use Rattle.engine.specs.declared.Places.{Places}
 use Rattle.engine.specs.declared.Sight.{Sight}
 use Rattle.engine.specs.declared.Changed.{Changed}
 use Rattle.engine.specs.declared.Engine.{Engine}
 use Rattle.engine.specs.declared.Phase.{Phase}
-use Rattle.engine.specs.declared.Phase.TheVariants as Phase
 use Rattle.engine.specs.declared.Shared.{Shared}
 use Rattle.engine.specs.declared.Status.TheVariants as Status
 use Rattle.engine.specs.declared.Stepped.{Stepped}
@@ -44,7 +39,7 @@ use Rattle.engine.specs.declared.Taken.TheVariants as Taken
 -- ---- before the header is read
 
 abbrev pub no_header : Header
-no_header = Sector.empty
+no_header = Sector.no_header
 
 abbrev pub unread : Cache → Shared
 unread c = record { phase = Phase.Unread; header = no_header; cache = c }
@@ -95,11 +90,11 @@ held_by Phase.Ready h key = in_grid h key
 abbrev pub held_ok : Shared → TileKey → Bool
 held_ok s key = held_by s.phase s.header key
 
-abbrev pub need_by : Phase → Header → MaybeKey → Bool
-need_by phase h MaybeKey.Nothing = true
-need_by phase h (MaybeKey.Key key) = held_by phase h key
+abbrev pub need_by : Phase → Header → Option TileKey → Bool
+need_by phase h None = true
+need_by phase h (Some key) = held_by phase h key
 
-abbrev pub need_ok : Shared → MaybeKey → Bool
+abbrev pub need_ok : Shared → Option TileKey → Bool
 need_ok s need = need_by s.phase s.header need
 
 abbrev pub matched_by : Phase → Header → Current → Bool
@@ -119,21 +114,21 @@ header_ok s = header_by s.phase s.header
 unfoldable pub shared_ok : Shared → ℕ → Bool
 shared_ok s size = state_ok s.cache && (arena_ok s.cache size && header_ok s)
 
-abbrev pub loads_needed : MaybeLoading → MaybeKey → Bool
-loads_needed MaybeLoading.Nothing need = false
-loads_needed (MaybeLoading.Tile l) need = holds need l.key
+abbrev pub loads_needed : Option Loading → Option TileKey → Bool
+loads_needed None need = false
+loads_needed (Some l) need = holds need l.key
 
 -- beside what the cache asks of an open fetch: the header's is open while it is unread, any other in phase Ready and for the tile needed
-abbrev pub pending_in : Pending → Phase → MaybeLoading → MaybeKey → Bool
+abbrev pub pending_in : Pending → Phase → Option Loading → Option TileKey → Bool
 pending_in Pending.Nothing phase loading need = true
 pending_in Pending.Header phase loading need = is_unread phase
 pending_in (Pending.Entry key) phase loading need = is_ready phase && holds need key
 pending_in Pending.Chunk phase loading need = is_ready phase && loads_needed loading need
 
-abbrev pub pending_by : Pending → Shared → MaybeKey → Bool
+abbrev pub pending_by : Pending → Shared → Option TileKey → Bool
 pending_by pending s need = pending_in pending s.phase s.cache.loading need
 
-abbrev pub pending_ok : Shared → MaybeKey → Bool
+abbrev pub pending_ok : Shared → Option TileKey → Bool
 pending_ok s need = pending_by s.cache.pending s need
 
 abbrev pub fix_ok : MaybeFix → Bool
@@ -142,7 +137,7 @@ fix_ok (MaybeFix.Is f) = is_point f.lat f.lon
 
 -- at most sixteen places, each a point
 unfoldable pub places_ok : Places → Bool
-places_ok h = nat_le h.len 16 && not (is_found (lowest (λ (i : ℕ). not (is_point (place_at h i).lat (place_at h i).lon)) h.len))
+places_ok h = nat_le h.len 16 && not (is_some (lowest (λ (i : ℕ). not (is_point (place_at h i).lat (place_at h i).lon)) h.len))
 
 abbrev pub sight_ok : Sight → Bool
 sight_ok s = fix_ok s.fix && (places_ok s.history && heading_ok s.heading)

@@ -1,26 +1,22 @@
 -- A step: `engine.rs`, `step`, with its read in the host's hands. While a fetch is open a step repeats it and changes nothing; opening one
 -- changes nothing but that it is open.
+use Rattle.refusal.specs.Refusal.{number_of}
+use Rattle.refusal.specs.declared.Refusal.{Refusal}
+use Rattle.std.specs.Prelude.{Option, Some, None, Result, Ok, Err}
+use Rattle.cache.specs.declared.Loading.{Loading}
 use Rattle.std.specs.Prelude.{ℕ, Bool, false, cond, List, [], ◌==◌}
 use Rattle.pack.specs.Grid.{entry_of}
 use Rattle.pack.specs.declared.Header.{Header}
 use Rattle.pack.specs.declared.TileKey.{TileKey}
-use Rattle.cache.specs.declared.MaybeKey.{MaybeKey}
-use Rattle.cache.specs.declared.MaybeKey.TheVariants as MaybeKey
-use Rattle.cache.specs.declared.MaybeLoading.{MaybeLoading}
-use Rattle.cache.specs.declared.MaybeLoading.TheVariants as MaybeLoading
 use Rattle.cache.specs.declared.Pending.{Pending}
-use Rattle.cache.specs.declared.Pending.TheVariants as Pending
 use Rattle.cache.specs.Keys.{same_key}
 use Rattle.cache.specs.Loads.{chunk_len, chunk_offset, told}
 use Rattle.cache.specs.Calls.{load_tested}
 use Rattle.cache.specs.declared.Progress.{Progress}
-use Rattle.cache.specs.declared.Progress.TheVariants as Progress
 use Rattle.engine.specs.declared.Engine.{Engine}
 use Rattle.engine.specs.declared.Phase.{Phase}
-use Rattle.engine.specs.declared.Phase.TheVariants as Phase
 use Rattle.engine.specs.declared.Shared.{Shared}
 use Rattle.engine.specs.declared.Status.{Status}
-use Rattle.engine.specs.declared.Status.TheVariants as Status
 use Rattle.engine.specs.declared.Stepped.{Stepped}
 use Rattle.engine.specs.Work.{worked}
 use Rattle.engine.specs.Deliver as Deliver
@@ -28,12 +24,12 @@ pub use Rattle.engine.specs.Deliver.{with_pending}
 
 -- ---- a fetch
 
-abbrev pub chunk_request : MaybeLoading → Status
-chunk_request MaybeLoading.Nothing = Status.Refused 12
-chunk_request (MaybeLoading.Tile l) = Status.Fetch (chunk_offset l) (chunk_len l)
+abbrev pub chunk_request : Option Loading → Status
+chunk_request None = Status.Refused 12
+chunk_request (Some l) = Status.Fetch (chunk_offset l) (chunk_len l)
 
 -- the read that an open fetch asks for, worked out from it, the header and the load; the header is the pack's first 512 bytes
-abbrev pub request_by : Header → MaybeLoading → Pending → Status
+abbrev pub request_by : Header → Option Loading → Pending → Status
 request_by h loading Pending.Nothing = Status.Refused 12
 request_by h loading Pending.Header = Status.Fetch 0 512
 request_by h loading (Pending.Entry key) = Status.Fetch (entry_of h key) 8
@@ -55,16 +51,16 @@ opened e pending = record {
 -- ---- the tile that is needed
 
 -- the cache can't settle it without a read: 11
-abbrev pub awaits_read : Progress → Bool
-awaits_read Progress.Done = false
-awaits_read Progress.More = false
-awaits_read (Progress.Failed number) = false
-awaits_read (Progress.Refused number) = number == 11
+abbrev pub awaits_read : Result Progress Refusal → Bool
+awaits_read (Ok Progress.Done) = false
+awaits_read (Ok Progress.More) = false
+awaits_read (Ok (Progress.Failed refusal)) = false
+awaits_read (Err refusal) = number_of refusal == 11
 
 -- the read towards it: a chunk where the load under way is of that tile, else its entry
-abbrev pub pending_for : MaybeLoading → TileKey → Pending
-pending_for MaybeLoading.Nothing key = Pending.Entry key
-pending_for (MaybeLoading.Tile l) key = cond (same_key l.key key) Pending.Chunk (Pending.Entry key)
+abbrev pub pending_for : Option Loading → TileKey → Pending
+pending_for None key = Pending.Entry key
+pending_for (Some l) key = cond (same_key l.key key) Pending.Chunk (Pending.Entry key)
 
 -- settled without a read, or the fetch opened
 unfoldable pub need_step : Engine → List ℕ → TileKey → Stepped
@@ -72,9 +68,9 @@ need_step e arena key =
     let l = told (load_tested e.shared.cache arena e.shared.header key 0 []) in
     cond (awaits_read l.answer) (opened e (pending_for e.shared.cache.loading key)) (Deliver.loaded e l)
 
-abbrev pub ready_by : MaybeKey → Engine → List ℕ → Stepped
-ready_by (MaybeKey.Key key) e arena = need_step e arena key
-ready_by MaybeKey.Nothing e arena = worked e arena
+abbrev pub ready_by : Option TileKey → Engine → List ℕ → Stepped
+ready_by (Some key) e arena = need_step e arena key
+ready_by None e arena = worked e arena
 
 abbrev pub ready_step : Engine → List ℕ → Stepped
 ready_step e arena = ready_by e.follower.due.need e arena

@@ -1,18 +1,15 @@
 -- The work of a step that needs no read: `engine.rs`, `step` from `self.fix` on, `reload` and `publish`. Off the map, a match, a road, or nothing.
 -- Inside a step 5 asks for the tile, and 6 and 10 have the fix matched again; the late 12 leaves the engine as it was (document 01,
 -- "Refused").
+use Rattle.std.specs.Prelude.{Option, Some, None}
 use Rattle.std.specs.Prelude.{ℕ, ◌+◌, ◌-◌, Bool, true, false, cond, not, ◌||◌, List, replicate, ℤ, pos, ◌==◌, nat_le, nat_lt}
 use Rattle.pack.specs.Grid.{key_of}
-use Rattle.pack.specs.declared.Keyed.{Keyed}
-use Rattle.pack.specs.declared.Keyed.TheVariants as Keyed
 use Rattle.pack.specs.declared.TileKey.{TileKey}
-use Rattle.cache.specs.declared.MaybeKey.TheVariants as MaybeKey
 use Rattle.geo.specs.Flat.{whole}
 use Rattle.cache.specs.Lookups.{after}
 use Rattle.cache.specs.declared.Cache.{Cache}
 use Rattle.matcher.specs.Score.{is_on}
 use Rattle.matcher.specs.declared.Current.{Current}
-use Rattle.matcher.specs.declared.Current.TheVariants as Current
 use Rattle.matcher.specs.declared.Matched.{Matched}
 use Rattle.matcher.specs.Calls as Matching
 use Rattle.matcher.specs.Gather.{updated}
@@ -21,7 +18,6 @@ use Rattle.matcher.specs.declared.Outcome as MatchOutcome
 use Rattle.matcher.specs.declared.Outcome.TheVariants as Found
 use Rattle.matcher.specs.declared.Updated.{Updated}
 use Rattle.predict.specs.declared.End.{End}
-use Rattle.predict.specs.declared.End.TheVariants as End
 use Rattle.predict.specs.Predict.{After, predicted_in}
 use Rattle.predict.specs.declared.Outcome as RoadOutcome
 use Rattle.predict.specs.declared.Outcome.TheVariants as Road
@@ -34,12 +30,9 @@ use Rattle.engine.specs.declared.Due.{Due}
 use Rattle.engine.specs.declared.Fix.{Fix}
 use Rattle.engine.specs.declared.Follower.{Follower}
 use Rattle.engine.specs.declared.MaybeFix.{MaybeFix}
-use Rattle.engine.specs.declared.MaybeFix.TheVariants as MaybeFix
 use Rattle.engine.specs.declared.MaybeTime.{MaybeTime}
-use Rattle.engine.specs.declared.MaybeTime.TheVariants as MaybeTime
 use Rattle.engine.specs.declared.Engine.{Engine}
 use Rattle.engine.specs.declared.Status.{Status}
-use Rattle.engine.specs.declared.Status.TheVariants as Status
 use Rattle.engine.specs.declared.Stepped.{Stepped}
 pub use Rattle.engine.specs.Setters.{with_matcher, with_due, with_ahead, with_steps, with_matching, with_road, with_last_road, with_need, with_reloads}
 use Rattle.engine.specs.State.{refused, reload_limit}
@@ -74,7 +67,7 @@ off_map f fix =
 -- ---- a tile is needed first
 
 abbrev pub asking : Due → TileKey → ℕ → Due
-asking d key reloads = with_reloads (with_need d (MaybeKey.Key key)) reloads
+asking d key reloads = with_reloads (with_need d (Some key)) reloads
 
 abbrev pub may_ask : Due → ℕ → Bool
 may_ask d pages = nat_lt d.reloads (reload_limit pages)
@@ -193,10 +186,9 @@ abbrev pub in_grid_step : Engine → List ℕ → Follower → Fix → Stepped
 in_grid_step e arena f fix =
     cond f.due.matching (match_step e arena f fix) (cond f.due.road (road_due e arena f fix) (ended e e.shared.cache f Status.Idle))
 
-abbrev pub at_fix_by : Keyed → Engine → List ℕ → Follower → Fix → Stepped
-at_fix_by (Keyed.In key) e arena f fix = in_grid_step e arena f fix
-at_fix_by Keyed.Outside e arena f fix = ended e e.shared.cache (off_map f fix) Status.OffMap
-at_fix_by (Keyed.Refused number) e arena f fix = ended e e.shared.cache (off_map f fix) Status.OffMap
+abbrev pub at_fix_by : Option TileKey → Engine → List ℕ → Follower → Fix → Stepped
+at_fix_by (Some key) e arena f fix = in_grid_step e arena f fix
+at_fix_by None e arena f fix = ended e e.shared.cache (off_map f fix) Status.OffMap
 
 unfoldable pub at_fix : Engine → List ℕ → Follower → Fix → Stepped
 at_fix e arena f fix = at_fix_by (key_of e.shared.header fix.lat fix.lon) e arena f fix

@@ -5,8 +5,9 @@ ghost use Rattle.engine.specs.Deliver as Deliver;
 ghost use Rattle.engine.specs.Plans as Plans;
 
 use crate::{Due, Engine, Follower, Phase, Shared, Status, Stepped};
-use cache::{Loaded, MaybeKey, Pending, Progress};
+use cache::{Loaded, Pending, Progress};
 use pack::{Header, TileKey};
+use refusal::Refusal;
 
 // ---- the header
 
@@ -58,10 +59,8 @@ fn whole_sector(bytes: &[u8]) -> [u8; 512]
     ensures { result ≡ Deliver.sector_of bytes.now }
 {
     let mut out = [0u8; 512];
-    let mut i = 0;
-    while i < 512 {
+    for i in 0..512 {
         out[i] = bytes[i];
-        i += 1;
     }
     out
 }
@@ -71,10 +70,8 @@ fn short_sector(bytes: &[u8]) -> [u8; 512]
     ensures { result ≡ Deliver.sector_of bytes.now }
 {
     let mut out = [0u8; 512];
-    let mut i = 0;
-    while i < 512 {
+    for i in 0..512 {
         out[i] = pack::bytes::byte_at(bytes, i);
-        i += 1;
     }
     out
 }
@@ -97,16 +94,13 @@ fn header_came(e: Engine, failure: u32, bytes: &[u8]) -> Stepped
         return header_failed(e, failure);
     }
     let sector = sector_of(bytes);
-    let parsed = Header::parse(&sector);
-    let answer = parsed.answer;
-    match answer {
-        pack::Answer::Accepted => {
+    match Header::parse(&sector) {
+        Ok(header) => {
             let s = e.shared;
-            let header = parsed.header;
             let d = with_phase(s, Phase::Ready, header);
             with_failures(e, d, 0, Status::Working)
         }
-        pack::Answer::Refused(number) => header_failed(e, number),
+        Err(refusal) => header_failed(e, refusal.number()),
     }
 }
 
@@ -121,17 +115,17 @@ fn needless(d: Due) -> Due
         matching: d.matching,
         road: d.road,
         last_road,
-        need: MaybeKey::Nothing,
+        need: None,
         reloads: d.reloads,
     }
 }
 
 // The follower that a step of a load leaves.
-fn load_leaves(f: Follower, answer: Progress) -> Follower
-    ensures { result ≡ Plans.load_leaves answer f }
+fn load_leaves(f: Follower, progress: Progress) -> Follower
+    ensures { result ≡ Plans.load_leaves progress f }
 {
     let mut d = crate::work::counted(f);
-    match answer {
+    match progress {
         Progress::Done => {
             let due = d.due;
             let rest = needless(due);
@@ -147,17 +141,18 @@ fn load_leaves(f: Follower, answer: Progress) -> Follower
             d.failures = 8;
             d
         }
-        Progress::More | Progress::Refused(_) => d,
+        Progress::More => d,
     }
 }
 
 // Whether a step of a load fails the pack: the eighth failure does.
-fn fails_pack(answer: Progress, failures: u8) -> bool
-    ensures { result ≡ Plans.fails_pack answer failures }
+fn fails_pack(progress: Progress, failures: u8) -> bool
+    ensures { result ≡ Plans.fails_pack progress failures }
 {
-    match answer {
+    match progress {
         Progress::Failed(_) => 7 <= failures,
-        Progress::Done | Progress::More | Progress::Refused(_) => false,
+        Progress::Done => false,
+        Progress::More => false,
     }
 }
 
@@ -183,13 +178,13 @@ fn load_tells(is_failed: bool) -> Status
 pub(crate) fn loaded(mut e: Engine, l: Loaded) -> Stepped
     ensures { result ≡ Deliver.loaded e l }
 {
-    let answer = l.answer;
-    if let Progress::Refused(number) = answer {
-        return crate::state::refused(e, number);
-    }
+    let progress = match l.answer {
+        Ok(progress) => progress,
+        Err(refusal) => return crate::state::refused(e, refusal.number()),
+    };
     let before = e.follower;
-    let is_failed = fails_pack(answer, before.failures);
-    let after = load_leaves(before, answer);
+    let is_failed = fails_pack(progress, before.failures);
+    let after = load_leaves(before, progress);
     e.follower = after;
     let s = e.shared;
     let old = s.phase;
@@ -242,8 +237,8 @@ fn need_came(e: Engine, arena: &mut [u8], failure: u32, bytes: &[u8]) -> Stepped
     let due = f.due;
     let need = due.need;
     match need {
-        MaybeKey::Nothing => crate::state::refused(e, 11),
-        MaybeKey::Key(key) => part_came(e, arena, key, failure, bytes),
+        None => crate::state::refused(e, 11),
+        Some(key) => part_came(e, arena, key, failure, bytes),
     }
 }
 

@@ -5,8 +5,9 @@ ghost use Rattle.engine.specs.Steps as Steps;
 
 use crate::plan::Plan;
 use crate::{Engine, Shared, Status, Stepped};
-use cache::{Cache, MaybeKey, MaybeLoading, Pending, Progress};
+use cache::{Cache, Loading, Pending, Progress};
 use pack::{Header, TileKey};
+use refusal::Refusal;
 
 pub fn with_pending(c: Cache, pending: Pending) -> Cache
     ensures { result ≡ Steps.with_pending c pending }
@@ -24,12 +25,12 @@ pub fn with_pending(c: Cache, pending: Pending) -> Cache
 }
 
 // The read of a chunk.
-fn chunk_request(loading: MaybeLoading) -> Status
+fn chunk_request(loading: Option<Loading>) -> Status
     ensures { result ≡ Steps.chunk_request loading }
 {
     match loading {
-        MaybeLoading::Nothing => Status::Refused(12),
-        MaybeLoading::Tile(l) => Status::Fetch(
+        None => Status::Refused(12),
+        Some(l) => Status::Fetch(
             (l.offset as u64) + (l.done as u64),
             cache::step::chunk_len(l) as usize,
         ),
@@ -37,7 +38,7 @@ fn chunk_request(loading: MaybeLoading) -> Status
 }
 
 // The read that an open fetch asks for, worked out from it, the header and the load.
-pub fn request(header: Header, loading: MaybeLoading, pending: Pending) -> Status
+pub fn request(header: Header, loading: Option<Loading>, pending: Pending) -> Status
     ensures { result ≡ Steps.request_by header loading pending }
 {
     match pending {
@@ -72,24 +73,24 @@ fn opened(e: Engine, pending: Pending) -> Stepped
 }
 
 // Whether a tile can't be settled without a read: the cache answers 11.
-fn awaits_read(answer: Progress) -> bool
+fn awaits_read(answer: Result<Progress, Refusal>) -> bool
     ensures { result ≡ Steps.awaits_read answer }
 {
     match answer {
-        Progress::Done => false,
-        Progress::More => false,
-        Progress::Failed(_) => false,
-        Progress::Refused(number) => number == 11,
+        Ok(Progress::Done) => false,
+        Ok(Progress::More) => false,
+        Ok(Progress::Failed(_)) => false,
+        Err(refusal) => refusal.number() == 11,
     }
 }
 
 // The fetch that the read towards a tile opens: a chunk where the load under way is of that tile, else its entry.
-fn pending_for(loading: MaybeLoading, key: TileKey) -> Pending
+fn pending_for(loading: Option<Loading>, key: TileKey) -> Pending
     ensures { result ≡ Steps.pending_for loading key }
 {
     match loading {
-        MaybeLoading::Nothing => Pending::Entry(key),
-        MaybeLoading::Tile(l) => {
+        None => Pending::Entry(key),
+        Some(l) => {
             if cache::keys::same_key(l.key, key) {
                 return Pending::Chunk;
             }

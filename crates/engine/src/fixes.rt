@@ -3,7 +3,6 @@ ghost use Rattle.std.specs.Prelude.{◌≡◌};
 ghost use Rattle.engine.specs.Fixes as Fixes;
 
 use crate::{Fix, MaybeFix, Places, Sight};
-use cache::victim::Found;
 use geo::{Metres, Point};
 use matcher::Heading;
 
@@ -56,17 +55,17 @@ fn is_move(h: Places, i: usize, here: Point, lon_um: u32) -> bool
 }
 
 // The newest place that lies 15 m or more away.
-fn moved_from(h: Places, here: Point, lon_um: u32) -> Found
+fn moved_from(h: Places, here: Point, lon_um: u32) -> Option<usize>
     ensures { result ≡ Fixes.moved_from h here lon_um }
 {
     let mut i = h.len;
     while 0 < i {
         i -= 1;
         if is_move(h, i, here, lon_um) {
-            return Found::At(i);
+            return Some(i);
         }
     }
-    Found::Nothing
+    None
 }
 
 // Each place takes the next one's, and the last keeps its own.
@@ -74,11 +73,9 @@ fn shift(h: Places) -> Places
     ensures { result ≡ Fixes.shifted h }
 {
     let mut d = h;
-    let mut i = 0;
-    while i < 15 {
+    for i in 0..15 {
         let p = d.v[i + 1];
         d.v[i] = p;
-        i += 1;
     }
     d
 }
@@ -119,11 +116,11 @@ fn course_of(s: Sight, fix: Fix) -> Course
     let history = s.history;
     let heading = s.heading;
     match moved_from(history, here, lon_um) {
-        Found::Nothing => Course {
+        None => Course {
             heading,
             at_ms: s.heading_at,
         },
-        Found::At(i) => {
+        Some(i) => {
             let old = place_at(history, i);
             let m = geo::flat::metres(here, old, lon_um);
             Course {

@@ -3,7 +3,6 @@ ghost use Rattle.std.specs.Prelude.{◌≡◌};
 ghost use Rattle.engine.specs.Follow as State;
 
 use crate::{Due, Fix, Follower, MaybeFix, MaybeTime};
-use cache::MaybeKey;
 use matcher::{Current, Matcher};
 
 // Nothing done yet but, where `matching` says so, a match due.
@@ -14,7 +13,7 @@ fn nothing_done(matching: bool) -> Due
         matching,
         road: false,
         last_road: MaybeTime::Nothing,
-        need: MaybeKey::Nothing,
+        need: None,
         reloads: 0,
     }
 }

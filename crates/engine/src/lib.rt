@@ -26,10 +26,9 @@ ghost use Rattle.engine.specs.Publish as Publish;
 ghost use Rattle.std.specs.Prelude.{◌≡◌};
 
 use cache::Cache;
-pub use cache::MaybeKey;
 pub use geo::Point;
 use matcher::Matcher;
-pub use matcher::{Current, Forward, Heading, Matched};
+pub use matcher::{Current, Heading, Matched};
 pub use pack::{Header, TileKey};
 pub use predict::{BEHIND_SAMPLES, End, MAX_SAMPLES};
 pub use tile::TileId;
@@ -77,7 +76,7 @@ pub struct Due {
     pub matching: bool,
     pub road: bool,
     pub last_road: MaybeTime,
-    pub need: MaybeKey,
+    pub need: Option<TileKey>,
     pub reloads: u16,
 }
 
@@ -399,7 +398,7 @@ fn answered_from(e: Engine, arena: &mut [u8], offset: u64, len: usize, pack: &[u
     ensures arena_after { arena.new ≡ (Calls.answered_from e arena.old offset len pack.now).arena }
 {
     match pack::read(pack, offset, len) {
-        pack::Range::At(at) => e.deliver(arena, 0, &pack[at..at + len]),
-        pack::Range::Refused(_) => e.deliver(arena, 2, &pack[..0]),
+        Ok(at) => e.deliver(arena, 0, &pack[at..at + len]),
+        Err(_) => e.deliver(arena, 2, &pack[..0]),
     }
 }

@@ -4,9 +4,8 @@ ghost use Rattle.pack.specs.Grid.{key_of};
 ghost use Rattle.engine.specs.Plans as Plans;
 
 use crate::{Due, Fix, MaybeFix, Phase};
-use cache::MaybeKey;
 use matcher::{Current, Matched};
-use pack::{Header, Keyed, TileKey};
+use pack::{Header, TileKey};
 
 // Nothing; tell that there is no pack; fetch the header; go on towards a tile; match a fix; work out the road of a match; drop a road that is due without one; leave the map.
 #[derive(Clone, Copy)]
@@ -49,8 +48,8 @@ fn of_fix(header: Header, fix: Fix, due: Due, current: Current) -> Plan
     ensures { result ≡ Plans.of_fix (key_of header fix.lat fix.lon) fix due current }
 {
     match pack::grid::key_of(header, fix.lat, fix.lon) {
-        Keyed::Outside | Keyed::Refused(_) => Plan::Off(fix),
-        Keyed::In(_) => of_due(fix, due, current),
+        None => Plan::Off(fix),
+        Some(_) => of_due(fix, due, current),
     }
 }
 
@@ -70,8 +69,8 @@ fn of_need(header: Header, fix: MaybeFix, due: Due, current: Current) -> Plan
 {
     let need = due.need;
     match need {
-        MaybeKey::Key(key) => Plan::Need(key),
-        MaybeKey::Nothing => of_sight(header, fix, due, current),
+        Some(key) => Plan::Need(key),
+        None => of_sight(header, fix, due, current),
     }
 }
 

@@ -6,7 +6,7 @@ ghost use Rattle.engine.specs.Summaries as Summaries;
 
 use crate::plan::Plan;
 use crate::{Due, Engine, MaybeFix, Phase, Places, Sight};
-use cache::{MaybeKey, MaybeLoading, Pending};
+use cache::{Loading, Pending};
 use matcher::{Current, Matcher};
 use pack::{Header, TileKey};
 
@@ -16,7 +16,7 @@ pub struct Summary {
     pub phase: Phase,
     pub header: Header,
     pub count: usize,
-    pub loading: MaybeLoading,
+    pub loading: Option<Loading>,
     pub pending: Pending,
     pub sight: Sight,
     pub matcher: Matcher,
@@ -89,12 +89,12 @@ fn held_ok(phase: Phase, header: Header, key: TileKey) -> bool
     }
 }
 
-fn need_ok(phase: Phase, header: Header, need: MaybeKey) -> bool
+fn need_ok(phase: Phase, header: Header, need: Option<TileKey>) -> bool
     ensures { result ≡ State.need_by phase header need }
 {
     match need {
-        MaybeKey::Nothing => true,
-        MaybeKey::Key(key) => held_ok(phase, header, key),
+        None => true,
+        Some(key) => held_ok(phase, header, key),
     }
 }
 
@@ -121,12 +121,12 @@ fn header_ok(phase: Phase, header: Header) -> bool
 }
 
 // Whether the load under way is that of the needed tile.
-fn loads_needed(loading: MaybeLoading, need: MaybeKey) -> bool
+fn loads_needed(loading: Option<Loading>, need: Option<TileKey>) -> bool
     ensures { result ≡ State.loads_needed loading need }
 {
     match loading {
-        MaybeLoading::Nothing => false,
-        MaybeLoading::Tile(l) => {
+        None => false,
+        Some(l) => {
             let key = l.key;
             cache::keys::holds(need, key)
         }
@@ -134,7 +134,12 @@ fn loads_needed(loading: MaybeLoading, need: MaybeKey) -> bool
 }
 
 // An open fetch that the state would make: the header's while it is unread, else one of the tile that is needed.
-fn pending_ok(pending: Pending, phase: Phase, loading: MaybeLoading, need: MaybeKey) -> bool
+fn pending_ok(
+    pending: Pending,
+    phase: Phase,
+    loading: Option<Loading>,
+    need: Option<TileKey>,
+) -> bool
     ensures { result ≡ State.pending_in pending phase loading need }
 {
     match pending {
@@ -172,8 +177,7 @@ fn places_ok(h: Places) -> bool
     if 16 < n {
         return false;
     }
-    let mut i = 0;
-    while i < n {
+    for i in 0..n {
         if 16 <= i {
             return true;
         }
@@ -181,7 +185,6 @@ fn places_ok(h: Places) -> bool
         if !pack::grid::is_point(p.lat, p.lon) {
             return false;
         }
-        i += 1;
     }
     true
 }

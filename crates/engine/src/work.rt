@@ -6,7 +6,6 @@ ghost use Rattle.engine.specs.Plans as Plans;
 ghost use Rattle.engine.specs.Work as Work;
 
 use crate::{Ahead, Due, Engine, Fix, Follower, MaybeTime, Status, Stepped};
-use cache::MaybeKey;
 use geo::Point;
 use matcher::{Current, Made, Matched, Matcher};
 use pack::TileKey;
@@ -71,7 +70,7 @@ pub fn asking(d: Due, key: TileKey, reloads: u16) -> Due
         matching: d.matching,
         road: d.road,
         last_road,
-        need: MaybeKey::Key(key),
+        need: Some(key),
         reloads,
     }
 }

@@ -9,16 +9,14 @@ use native.Mathlib.Omega.{arith}
 use borrow.Author.Tests.{eqb-true, ltb-true, lt-ltb}
 use lib.Dec.{eqb, ltb, leb}
 use lib.ListN.{replicate, get_or-replicate}
+use Rattle.std.specs.Prelude.{Option, Some, None, Result, Ok, Err}
+use Rattle.refusal.specs.declared.Refusal.{Refusal}
 use Rattle.pack.specs.Grid.{locate_of}
 use Rattle.pack.specs.declared.TileKey.{TileKey}
 use Rattle.pack.specs.declared.Header.{Header}
-use Rattle.pack.specs.declared.Located.{Located}
-use Rattle.pack.specs.declared.Located.TheVariants as Located
 use Rattle.pack.proofs.Laws as Pack
 use Rattle.pack.proofs.Laws.{and_left, and_right, clause}
 use Rattle.cache.specs.declared.Pages.{Pages}
-use Rattle.cache.specs.declared.victim.Found.{Found}
-use Rattle.cache.specs.declared.victim.Found.TheVariants as Found
 use Rattle.cache.specs.Runs.{span, empty_slot, page_ok}
 use Rattle.cache.specs.Victim.{victim}
 use Rattle.cache.specs.Begin.{replaced, begun_at}
@@ -27,14 +25,9 @@ use Rattle.cache.proofs.EvictLaws.{evicted_count}
 use Rattle.cache.proofs.VictimLaws.{victim_is}
 use Rattle.cache.specs.declared.Cache.{Cache}
 use Rattle.cache.specs.declared.Loading.{Loading}
-use Rattle.cache.specs.declared.MaybeLoading.{MaybeLoading}
-use Rattle.cache.specs.declared.MaybeLoading.TheVariants as MaybeLoading
 use Rattle.cache.specs.declared.Pending.{Pending}
-use Rattle.cache.specs.declared.Pending.TheVariants as Pending
 use Rattle.cache.specs.declared.look.Landing.{Landing}
-use Rattle.cache.specs.declared.look.Landing.TheVariants as Landing
 use Rattle.cache.specs.declared.next.Next.{Next}
-use Rattle.cache.specs.declared.next.Next.TheVariants as Next
 use Rattle.cache.specs.Keys.{same_key, ready_at, forgotten}
 use Rattle.cache.specs.Lookups.{lands_on, passes, len_at, touched, next_read, next_at, next_step}
 use Rattle.cache.specs.State.{cleared, runs_ok, ring_ok, tile_loads, loads_ok, load_ok, is_entry, is_chunk, wants_chunk_of, pending_fits, pending_ok, state_ok}
@@ -47,19 +40,19 @@ use Rattle.engine.specs.Deliver.{with_pending}
 
 -- ---- the four causes, one by one
 
-pub record Ok (c : Cache) : Type 0 where
+pub record CacheOk (c : Cache) : Type 0 where
   pub runs : runs_ok c ≡ true
   pub ring : ring_ok c ≡ true
   pub load : load_ok c ≡ true
   pub pending : pending_ok c ≡ true
 
-pub ok_parts : (c : Cache) → state_ok c ≡ true → Ok c
+pub ok_parts : (c : Cache) → state_ok c ≡ true → CacheOk c
 unfolding state_ok
 ok_parts c e =
     let all = runs_ok c ∷ ring_ok c ∷ load_ok c ∷ pending_ok c ∷ [] in
     record { runs = clause 0 all e; ring = clause 1 all e; load = clause 2 all e; pending = clause 3 all e }
 
-pub ok_whole : (c : Cache) → Ok c → state_ok c ≡ true
+pub ok_whole : (c : Cache) → CacheOk c → state_ok c ≡ true
 unfolding state_ok
 ok_whole c f = rw (f.runs, f.ring, f.load, f.pending)
 
@@ -80,24 +73,24 @@ module _ (c d : Cache) (slots : d.pages.slots ≡ c.pages.slots) (count : d.page
   unfolding next_step
   next_same key = rw (lands_same key) (at_same (lands_on c key) key)
 
-  chunk_same : (x : MaybeLoading) → wants_chunk_of x d ≡ wants_chunk_of x c
-  chunk_same MaybeLoading.Nothing = refl
-  chunk_same (MaybeLoading.Tile l) = ap is_chunk (next_same l.key)
+  chunk_same : (x : Option Loading) → wants_chunk_of x d ≡ wants_chunk_of x c
+  chunk_same None = refl
+  chunk_same (Some l) = ap is_chunk (next_same l.key)
 
   fits_same : (p : Pending) → pending_fits p d ≡ pending_fits p c
   fits_same Pending.Nothing = refl
   fits_same Pending.Header = refl
   fits_same (Pending.Entry key) = ap is_entry (next_same key)
-  fits_same Pending.Chunk = ap (λ (x : MaybeLoading). wants_chunk_of x d) loading ∙ chunk_same c.loading
+  fits_same Pending.Chunk = ap (λ (x : Option Loading). wants_chunk_of x d) loading ∙ chunk_same c.loading
 
-  loads_same : (x : MaybeLoading) → loads_ok d.pages x ≡ loads_ok c.pages x
+  loads_same : (x : Option Loading) → loads_ok d.pages x ≡ loads_ok c.pages x
   unfolding tile_loads
-  loads_same MaybeLoading.Nothing = refl
-  loads_same (MaybeLoading.Tile l) = rw slots
+  loads_same None = refl
+  loads_same (Some l) = rw slots
 
   same_ok : state_ok c ≡ true → pending_fits d.pending c ≡ true → state_ok d ≡ true
   same_ok e p =
-      let f : Ok c = ok_parts c e in
+      let f : CacheOk c = ok_parts c e in
       ok_whole d (record {
         runs = rw (count, slots) f.runs;
         ring = rw missing f.ring;
@@ -144,12 +137,12 @@ module _ (key : TileKey) (l : Loading) where
   read_key true s e = same_key_lem l.key s
   read_key false s e = absurd (true≢false (sym (ap is_chunk e)))
 
-  at_key : (x : Landing) (c : Cache) → c.loading ≡ MaybeLoading.Tile l → next_at x c key ≡ Next.Chunk l → l.key ≡ key
+  at_key : (x : Landing) (c : Cache) → c.loading ≡ Some l → next_at x c key ≡ Next.Chunk l → l.key ≡ key
   at_key (Landing.At i) c q e = absurd (true≢false (sym (ap is_chunk e)))
   at_key Landing.Missing c q e = absurd (true≢false (sym (ap is_chunk e)))
   at_key Landing.Nothing c q e = by (eqb c.pages.count 0) (rw q at e)
     where
-      by : (t : Bool) → cond t Next.NoPages (next_read (MaybeLoading.Tile l) key) ≡ Next.Chunk l → l.key ≡ key
+      by : (t : Bool) → cond t Next.NoPages (next_read (Some l) key) ≡ Next.Chunk l → l.key ≡ key
       by true e = absurd (true≢false (sym (ap is_chunk e)))
       by false e = read_key (same_key l.key key) refl e
 
@@ -160,7 +153,7 @@ module _ (key : TileKey) (l : Loading) where
 pub pending_chunk : (c : Cache) (key : TileKey) (l : Loading) → state_ok c ≡ true → next_step c key ≡ Next.Chunk l → state_ok (with_pending c Pending.Chunk) ≡ true
 pending_chunk c key l e n =
     let own : next_step c l.key ≡ Next.Chunk l = ap (next_step c) (next_key key l c n) ∙ n in
-    pending_ok_lem c Pending.Chunk e (ap (λ (x : MaybeLoading). wants_chunk_of x c) (next_chunk key l c n) ∙ ap is_chunk own)
+    pending_ok_lem c Pending.Chunk e (ap (λ (x : Option Loading). wants_chunk_of x c) (next_chunk key l c n) ∙ ap is_chunk own)
 
 -- ---- clearing
 
@@ -218,9 +211,9 @@ pub forgot_count : (c : Cache) (key : TileKey) → (forgot c key).pages.count �
 unfolding forgot
 forgot_count c key = refl
 
-without_count : (x : MaybeLoading) (g : Pages) → (without_run x g).count ≡ g.count
-without_count MaybeLoading.Nothing g = refl
-without_count (MaybeLoading.Tile l) g = evicted_count 1 l.slot g
+without_count : (x : Option Loading) (g : Pages) → (without_run x g).count ≡ g.count
+without_count None g = refl
+without_count (Some l) g = evicted_count 1 l.slot g
 
 pub dropped_count : (c : Cache) → (dropped c).pages.count ≡ c.pages.count
 unfolding dropped moved
@@ -234,9 +227,9 @@ pub record Changes (Q : Cache → Type 0) : Type 0 where
   pub forget : (c : Cache) (key : TileKey) → Q c → Q (forgot c key)
   pub drop : (c : Cache) → Q c → Q (dropped c)
   pub begin : (c : Cache) (slot : ℕ) (key : TileKey) (offset len : ℕ) → Q c → slot + span len ≤ c.pages.count → 0 < len
-      → Q (moved c (replaced c.pages slot key len) (MaybeLoading.Tile (new_load key slot offset len)))
-  pub go : (c : Cache) (l : Loading) (come : ℕ) → Q c → c.loading ≡ MaybeLoading.Tile l → come < l.len → Q (further c l come)
-  pub ready : (c : Cache) (l : Loading) → Q c → c.loading ≡ MaybeLoading.Tile l → Q (readied c l)
+      → Q (moved c (replaced c.pages slot key len) (Some (new_load key slot offset len)))
+  pub go : (c : Cache) (l : Loading) (come : ℕ) → Q c → c.loading ≡ Some l → come < l.len → Q (further c l come)
+  pub ready : (c : Cache) (l : Loading) → Q c → c.loading ≡ Some l → Q (readied c l)
 
 either : {A : Type 0} (P : A → Type 0) (t : Bool) (a b : A) → P a → P b → P (cond t a b)
 either P true a b p q = p
@@ -247,27 +240,27 @@ module _ (Q : Cache → Type 0) (f : Changes Q) where
   abbrev In : Loaded → Type 0
   In x = Q x.cache
 
-  begun_keeps : (x : Found) (c : Cache) (key : TileKey) (offset len : ℕ) → victim c.pages (span len) ≡ x → Q c → 0 < len
+  begun_keeps : (x : Option ℕ) (c : Cache) (key : TileKey) (offset len : ℕ) → victim c.pages (span len) ≡ x → Q c → 0 < len
       → In (began_at (begun_at c.pages key len x).at c (begun_at c.pages key len x).pages key offset len)
-  begun_keeps Found.Nothing c key offset len e q h = f.forget c key q
-  begun_keeps (Found.At s) c key offset len e q h = f.begin c s key offset len q (victim_is c.pages (span len) s e).within h
+  begun_keeps None c key offset len e q h = f.forget c key q
+  begun_keeps (Some s) c key offset len e q h = f.begin c s key offset len q (victim_is c.pages (span len) s e).within h
 
   began_keeps : (c : Cache) (key : TileKey) (offset len : ℕ) → Q c → 0 < len → In (began c key offset len)
   unfolding began
   began_keeps c key offset len q h =
       either In (ltb 49152 len) _ _ (f.forget c key q) (begun_keeps (victim c.pages (span len)) c key offset len refl q h)
 
-  located_keeps : (x : Located) (c : Cache) (h : Header) (key : TileKey) (bs : List ℕ) → locate_of h bs ≡ x → Q c → In (located x c key)
-  located_keeps Located.NoTile c h key bs e q = f.forget c key q
-  located_keeps (Located.Refused number) c h key bs e q = q
-  located_keeps (Located.Tile offset len) c h key bs e q = began_keeps c key offset len q (Pack.located h bs e).0
+  located_keeps : (x : Result (Option (ℕ × ℕ)) Refusal) (c : Cache) (h : Header) (key : TileKey) (bs : List ℕ) → locate_of h bs ≡ x → Q c → In (located x c key)
+  located_keeps (Ok None) c h key bs e q = f.forget c key q
+  located_keeps (Err number) c h key bs e q = q
+  located_keeps (Ok (Some (offset, len))) c h key bs e q = began_keeps c key offset len q (Pack.located h bs e).0
 
   entry_keeps : (c : Cache) (h : Header) (key : TileKey) (failure : ℕ) (bs : List ℕ) → Q c → In (entry_step c h key failure bs)
   unfolding entry_step
   entry_keeps c h key failure bs q =
       either In (eqb failure 0) _ _ (located_keeps (locate_of h bs) (dropped c) h key bs refl (f.drop c q)) (f.drop c q)
 
-  module _ (c : Cache) (l : Loading) (q : Q c) (e : c.loading ≡ MaybeLoading.Tile l) where
+  module _ (c : Cache) (l : Loading) (q : Q c) (e : c.loading ≡ Some l) where
     ended_keeps : (arena : List ℕ) (size : ℕ) → Q (ended c arena l size)
     unfolding ended
     ended_keeps arena size =
@@ -290,7 +283,7 @@ module _ (Q : Cache → Type 0) (f : Changes Q) where
   step_keeps c arena h key failure bs q = by (next_step c key) refl
     where
       by : (n : Next) → next_step c key ≡ n → Q (stepped c n arena h key failure bs).cache
-      by (Next.Ready i) e = either In (passes arena i (len_at c i) key h.tile) (done (touched c i)) (refused c 12) (f.touch c i q) q
+      by (Next.Ready i) e = either In (passes arena i (len_at c i) key h.tile) (done (touched c i)) (refused c Refusal.BadState) (f.touch c i q) q
       by Next.Missing e = q
       by Next.NoPages e = f.forget c key q
       by Next.Entry e = entry_keeps c h key failure bs q
@@ -304,8 +297,8 @@ counts n = record {
   drop = λ (c : Cache) (q : c.pages.count ≡ n). dropped_count c ∙ q;
   begin = λ (c : Cache) (slot : ℕ) (key : TileKey) (offset len : ℕ) (q : c.pages.count ≡ n) (b : slot + span len ≤ c.pages.count) (h : 0 < len).
       evicted_count (span len) slot c.pages ∙ q;
-  go = λ (c : Cache) (l : Loading) (come : ℕ) (q : c.pages.count ≡ n) (e : c.loading ≡ MaybeLoading.Tile l) (h : come < l.len). q;
-  ready = λ (c : Cache) (l : Loading) (q : c.pages.count ≡ n) (e : c.loading ≡ MaybeLoading.Tile l). q;
+  go = λ (c : Cache) (l : Loading) (come : ℕ) (q : c.pages.count ≡ n) (e : c.loading ≡ Some l) (h : come < l.len). q;
+  ready = λ (c : Cache) (l : Loading) (q : c.pages.count ≡ n) (e : c.loading ≡ Some l). q;
 }
 
 pub stepped_count : (c : Cache) (arena : List ℕ) (h : Header) (key : TileKey) (failure : ℕ) (bs : List ℕ)

@@ -1,6 +1,7 @@
 -- A step of a load keeps number 12's causes of the cache (`state_ok`), from any state that has none and has its 96 slots (`stepped_ok`), and it
 -- keeps the 96 (`stepped_size`). The slots are a list here, and `state_ok` doesn't read how long it is: in a shorter one a run begun past its
 -- end is not written, so that its load has no run (`short_breaks`).
+use Rattle.std.specs.Prelude.{Option, Some, None}
 use Prim.Native.Nat.{ℕ, ◌+◌, ◌<◌, ◌≤◌}
 use mathlib.Core.Path.{◌≡◌, refl, sym}
 use mathlib.Core.Bool.{Bool, true, false, ◌&&◌, not, true≢false}
@@ -25,8 +26,6 @@ use Rattle.cache.proofs.EvictLaws.{sound_evicted, placed_head, sound_set}
 use Rattle.cache.proofs.BeginLaws.{sound_replaced}
 use Rattle.cache.specs.declared.Cache.{Cache}
 use Rattle.cache.specs.declared.Loading.{Loading}
-use Rattle.cache.specs.declared.MaybeLoading.{MaybeLoading}
-use Rattle.cache.specs.declared.MaybeLoading.TheVariants as MaybeLoading
 use Rattle.cache.specs.declared.Pending.TheVariants as Pending
 use Rattle.cache.specs.Search.{lowest}
 use Rattle.cache.specs.Keys.{holds, in_ring, is_ready, ready_at}
@@ -44,7 +43,7 @@ pub record Held (c : Cache) : Type 0 where
 sound_of : (c : Cache) → Held c → Sound c.pages
 sound_of c f = sound c.pages f.size (ok_parts c f.ok).runs
 
-held_moved : (c : Cache) (g : Pages) (x : MaybeLoading) → Held c → Sound g → loads_ok g x ≡ true → Held (moved c g x)
+held_moved : (c : Cache) (g : Pages) (x : Option Loading) → Held c → Sound g → loads_ok g x ≡ true → Held (moved c g x)
 unfolding moved
 held_moved c g x f s l = record {
   ok = ok_whole (moved c g x) (record {
@@ -74,26 +73,26 @@ module _ (g : Pages) (l : Loading) (e : tile_loads g l ≡ true) where
 
 -- ---- each change
 
-sound_without : (x : MaybeLoading) (g : Pages) → Sound g → loads_ok g x ≡ true → Sound (without_run x g)
-sound_without MaybeLoading.Nothing g f e = f
-sound_without (MaybeLoading.Tile l) g f e = sound_evicted 1 l.slot g f (load_within g l e f)
+sound_without : (x : Option Loading) (g : Pages) → Sound g → loads_ok g x ≡ true → Sound (without_run x g)
+sound_without None g f e = f
+sound_without (Some l) g f e = sound_evicted 1 l.slot g f (load_within g l e f)
 
 held_dropped : (c : Cache) → Held c → Held (dropped c)
 unfolding dropped
 held_dropped c f =
-    held_moved c (without_run c.loading c.pages) MaybeLoading.Nothing f
+    held_moved c (without_run c.loading c.pages) None f
     (sound_without c.loading c.pages (sound_of c f) (ok_parts c f.ok).load)
     refl
 
 held_begun : (c : Cache) (slot : ℕ) (key : TileKey) (offset len : ℕ) → Held c → slot + span len ≤ c.pages.count → 0 < len
-    → Held (moved c (replaced c.pages slot key len) (MaybeLoading.Tile (new_load key slot offset len)))
+    → Held (moved c (replaced c.pages slot key len) (Some (new_load key slot offset len)))
 unfolding tile_loads
 held_begun c slot key offset len f b h =
     let s : Sound c.pages = sound_of c f in
     let room : slot < length (evicted (span len) slot c.pages).slots
     = omega (arith, (sound_evicted (span len) slot c.pages s b).size, span_pos len, s.small) in
     let head : slot_at (replaced c.pages slot key len).slots slot ≡ head_slot key len = placed_head (evicted (span len) slot c.pages) slot key len room in
-    held_moved c (replaced c.pages slot key len) (MaybeLoading.Tile (new_load key slot offset len)) f
+    held_moved c (replaced c.pages slot key len) (Some (new_load key slot offset len)) f
     (sound_replaced c.pages slot key len s b)
     (rw (head, eq-eqb key.row key.row refl, eq-eqb key.col key.col refl, eq-eqb len len refl, lt-ltb 0 len h))
 
@@ -105,7 +104,7 @@ last true true false e x y p q = p
 last true false d e x y p q = p
 last false b d e x y p q = p
 
-module _ (c : Cache) (l : Loading) (f : Held c) (e : c.loading ≡ MaybeLoading.Tile l) where
+module _ (c : Cache) (l : Loading) (f : Held c) (e : c.loading ≡ Some l) where
   loads : tile_loads c.pages l ≡ true
   loads = rw e at (ok_parts c f.ok).load
 
@@ -143,7 +142,7 @@ changes = record {
   forget = λ (c : Cache) (key : TileKey) (f : Held c). record { ok = forgot_ok c key f.ok; size = f.size };
   drop = held_dropped;
   begin = held_begun;
-  go = λ (c : Cache) (l : Loading) (come : ℕ) (f : Held c) (e : c.loading ≡ MaybeLoading.Tile l) (h : come < l.len). held_further c l f e come h;
+  go = λ (c : Cache) (l : Loading) (come : ℕ) (f : Held c) (e : c.loading ≡ Some l) (h : come < l.len). held_further c l f e come h;
   ready = held_readied;
 }
 
@@ -165,7 +164,7 @@ abbrev short : Cache
 short = record {
   pages = record { slots = []; used = []; count = 1; clock = 0 };
   missing = record { keys = []; next = 0 };
-  loading = MaybeLoading.Nothing;
+  loading = None;
   pending = Pending.Nothing;
   loads = 0;
 }

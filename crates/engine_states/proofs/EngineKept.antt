@@ -1,7 +1,7 @@
 -- No public call makes a state that number 12 names out of one that it doesn't: a fix and the loss of fixes (`fix_kept`, `lost_kept`), another
 -- pack (`reset_kept`), a step (`step_kept`, by `off_map_kept`, `idle_kept`, `match_kept`, `road_kept`), a delivery (`deliver_kept`, of a cache
 -- with its 96 slots). What is needed of the cache's own state is a parameter of each module. The idea: each cause of 12 is looked at by itself
--- (`Ok`), and a call changes few of the parts that it speaks of. What a change does to one follower is said of that follower alone (`Holds`).
+-- (`EngineOk`), and a call changes few of the parts that it speaks of. What a change does to one follower is said of that follower alone (`Holds`).
 use Prim.Native.Nat.{ℕ, ◌+◌}
 use mathlib.Core.Path.{◌≡◌, refl, sym, ap, subst, ◌∙◌}
 use mathlib.Core.Bool.{Bool, true, false, ◌&&◌, cond, true≢false}
@@ -11,23 +11,16 @@ use lib.Dec.{eqb, ltb, leb}
 use lib.IntN.{ℤ, pos}
 use lib.ListN.{length, replicate, length-replicate}
 use borrow.Author.Tests.{ltb-true, eqb-true, lt-ltb, le-leb, eq-eqb}
+use Rattle.std.specs.Prelude.{Ok, Option, Some, None, Result, Err}
+use Rattle.refusal.specs.Refusal.{number_of}
+use Rattle.refusal.specs.declared.Refusal.{Refusal}
 use Rattle.pack.specs.Grid.{in_grid, is_point, key_of, locate_of}
 use Rattle.pack.specs.Sector.{rules, parse}
-use Rattle.pack.specs.declared.Answer.{Answer}
-use Rattle.pack.specs.declared.Answer.TheVariants as Answer
 use Rattle.pack.specs.declared.Header.{Header}
-use Rattle.pack.specs.declared.Keyed.{Keyed}
-use Rattle.pack.specs.declared.Keyed.TheVariants as Keyed
-use Rattle.pack.specs.declared.Located.{Located}
-use Rattle.pack.specs.declared.Located.TheVariants as Located
 use Rattle.pack.specs.declared.TileKey.{TileKey}
 use Rattle.pack.proofs.Laws.{and_left, and_right, clause, parse_accepted}
 use Rattle.cache.specs.Begin.{begun}
-use Rattle.cache.specs.declared.MaybeKey.{MaybeKey}
-use Rattle.cache.specs.declared.MaybeKey.TheVariants as MaybeKey
 use Rattle.cache.specs.declared.Pages.{Pages}
-use Rattle.cache.specs.declared.victim.Found as PageFound
-use Rattle.cache.specs.declared.victim.Found.TheVariants as PageAt
 use Rattle.cache.specs.Direct.{look, looked, Aged}
 use Rattle.cache.specs.Keys.{same_key}
 use Rattle.cache.specs.Lookups.{lands_on, passes, len_at, touched, next_read, next_at, next_step}
@@ -35,24 +28,16 @@ use Rattle.cache.specs.Search.{lowest}
 use Rattle.cache.specs.State.{state_ok, arena_ok, cleared, is_entry, is_chunk, runs_ok, ring_ok, load_ok, wants_chunk_of, pending_fits}
 use Rattle.cache.specs.declared.Cache.{Cache}
 use Rattle.cache.specs.declared.Loading.{Loading}
-use Rattle.cache.specs.declared.MaybeLoading.{MaybeLoading}
-use Rattle.cache.specs.declared.MaybeLoading.TheVariants as MaybeLoading
 use Rattle.cache.specs.declared.Pending.{Pending}
-use Rattle.cache.specs.declared.Pending.TheVariants as Pending
 use Rattle.cache.specs.declared.look.Landing.{Landing}
-use Rattle.cache.specs.declared.look.Landing.TheVariants as Landing
 use Rattle.cache.specs.declared.next.Next.{Next}
-use Rattle.cache.specs.declared.next.Next.TheVariants as Next
 use Rattle.cache.proofs.LookLaws.{looked_aged}
 use Rattle.cache.specs.Loads as Loads
 use Rattle.cache.specs.Loads.{fetched, takes, withdrawn, moved, forgot, dropped, chunk_len, began_at, began, located, entry_step, readied, further}
 use Rattle.cache.specs.Loads.{chunk_step}
 use Rattle.cache.specs.declared.Loaded.{Loaded}
 use Rattle.cache.specs.declared.Progress.{Progress}
-use Rattle.cache.specs.declared.Progress.TheVariants as Progress
-use Rattle.cache.specs.declared.Request.TheVariants as Request
 use Rattle.matcher.specs.declared.Current.{Current}
-use Rattle.matcher.specs.declared.Current.TheVariants as Current
 use Rattle.matcher.specs.declared.Matched.{Matched}
 use Rattle.matcher.specs.Gather as Gather
 use Rattle.matcher.specs.Gather.{Run, run_over, updated}
@@ -62,7 +47,6 @@ use Rattle.matcher.specs.declared.Outcome as MatchOutcome
 use Rattle.matcher.specs.declared.Outcome.TheVariants as Found
 use Rattle.matcher.specs.declared.Updated.{Updated}
 use Rattle.matcher.specs.declared.gather.Ending.{Ending}
-use Rattle.matcher.specs.declared.gather.Ending.TheVariants as Ending
 use Rattle.predict.specs.Predict as Predict
 use Rattle.predict.specs.Predict.{predict_over, predicted_in}
 use Rattle.predict.specs.declared.Outcome as RoadOutcome
@@ -76,7 +60,6 @@ use Rattle.engine.specs.declared.Ahead.{Ahead}
 use Rattle.engine.specs.declared.Fix.{Fix}
 use Rattle.engine.specs.declared.Follower.{Follower}
 use Rattle.engine.specs.declared.MaybeFix.{MaybeFix}
-use Rattle.engine.specs.declared.MaybeFix.TheVariants as MaybeFix
 use Rattle.engine.specs.Calls as Calls
 use Rattle.engine.specs.Deliver.{After, failing, with_pending, with_phase, with_failures, sector_of, header_failed, header_parsed, header_came, arrived}
 use Rattle.engine.specs.Deliver.{load_failed, loaded_by, part_came, fits_header, need_came_by, delivered_by, delivered}
@@ -88,11 +71,10 @@ use Rattle.engine.specs.Work.{worked}
 use Rattle.engine.specs.declared.Changed.{Changed}
 use Rattle.engine.specs.declared.Engine.{Engine}
 use Rattle.engine.specs.declared.Phase.{Phase}
-use Rattle.engine.specs.declared.Phase.TheVariants as Phase
 use Rattle.engine.specs.declared.Shared.{Shared}
 use Rattle.engine.specs.declared.Status.TheVariants as Status
 use Rattle.engine.specs.declared.Stepped.{Stepped}
-use Rattle.engine_states.proofs.KeptParts.{published_ok, Holds, Ok, same_fetch, no_fetch, apart, together, with_cache, cache_ok, none_pending, off_map_ok, road_off_ok}
+use Rattle.engine_states.proofs.KeptParts.{published_ok, Holds, EngineOk, same_fetch, no_fetch, apart, together, with_cache, cache_ok, none_pending, off_map_ok, road_off_ok}
 use Rattle.engine_states.proofs.KeptParts.{counted_ok, rematch_ok, standing_of, standing_ok, matched_ok_lem, match_asks_ok, road_asks_ok, needless_ok}
 use Rattle.engine_states.proofs.KeptParts.{failing_ok, failed_ok}
 use Rattle.engine.proofs.NeedLaws.{need_by, need_is, part_is}
@@ -146,7 +128,7 @@ fix_kept e arena f n ok =
     by : (t : Bool) → is_point f.lat f.lon ≡ t
         → engine_ok (cond t (followed e (Followers.fixed e.follower f)) (unchanged e 8)).engine n ≡ true
     by true here =
-        let o : Ok e.shared e.follower n = apart e n ok in
+        let o : EngineOk e.shared e.follower n = apart e n ok in
         together (followed e (Followers.fixed e.follower f)).engine n
         (same_fetch e.shared e.follower (Followers.fixed e.follower f) n o (fixed_need e.follower f)
         (fixed_ok e.shared e.follower f here o.holds))
@@ -173,7 +155,7 @@ lost_ok s f ok = record {
 pub lost_kept : (e : Engine) (arena : List ℕ) (n : ℕ) → engine_ok e n ≡ true → engine_ok (Calls.lost e arena).engine n ≡ true
 unfolding Calls.lost Followers.lost
 lost_kept e arena n ok =
-    let o : Ok e.shared e.follower n = apart e n ok in
+    let o : EngineOk e.shared e.follower n = apart e n ok in
     either_ok (engine_ok e (length arena)) _ _ n
     (together (followed e (Followers.lost e.follower)).engine n
     (same_fetch e.shared e.follower (Followers.lost e.follower) n o refl (lost_ok e.shared e.follower o.holds)))
@@ -184,7 +166,7 @@ module _ (clears : (c : Cache) → state_ok c ≡ true → state_ok (cleared c) 
   unfolding forgotten Followers.reset nothing_ahead shared_ok cleared
   forgotten_ok e n ok = together (forgotten e).engine n (by (apart e n ok))
     where
-      by : Ok e.shared e.follower n → Ok (forgotten e).engine.shared (forgotten e).engine.follower n
+      by : EngineOk e.shared e.follower n → EngineOk (forgotten e).engine.shared (forgotten e).engine.follower n
       by o = record {
         shared = both (state_ok (cleared e.shared.cache)) _ (clears e.shared.cache (and_left (state_ok e.shared.cache) _ o.shared))
             (both (arena_ok e.shared.cache n) true
@@ -206,16 +188,16 @@ module _ (clears : (c : Cache) → state_ok c ≡ true → state_ok (cleared c) 
 -- ---- off the map, and idle
 
 -- the follower with its step counted
-counted_in : (e : Engine) (n : ℕ) → engine_ok e n ≡ true → Ok e.shared (counted e.follower) n
+counted_in : (e : Engine) (n : ℕ) → engine_ok e n ≡ true → EngineOk e.shared (counted e.follower) n
 counted_in e n ok =
-    let o : Ok e.shared e.follower n = apart e n ok in
+    let o : EngineOk e.shared e.follower n = apart e n ok in
     same_fetch e.shared e.follower (counted e.follower) n o refl (counted_ok e.shared e.follower o.holds)
 
 pub off_map_kept : (e : Engine) (fix : Fix) (n : ℕ) → engine_ok e n ≡ true
     → engine_ok (ended e e.shared.cache (off_map (counted e.follower) fix) Status.OffMap).engine n ≡ true
 unfolding off_map
 off_map_kept e fix n ok =
-    let o : Ok e.shared (counted e.follower) n = counted_in e n ok in
+    let o : EngineOk e.shared (counted e.follower) n = counted_in e n ok in
     together (ended e e.shared.cache (off_map (counted e.follower) fix) Status.OffMap).engine n
     (same_fetch e.shared (counted e.follower) (off_map (counted e.follower) fix) n o refl
     (off_map_ok e.shared (counted e.follower) o.holds fix))
@@ -255,10 +237,10 @@ module _ (c : Cache) (arena : List ℕ) (size : ℕ) (found : List TileKey) wher
 module _ (aged : (c d : Cache) → Aged c d → state_ok c ≡ true → state_ok d ≡ true) (e : Engine) (arena : List ℕ) (n : ℕ) (ok : engine_ok e n ≡ true)
     (ready : e.shared.phase ≡ Phase.Ready) (idle : e.shared.cache.pending ≡ Pending.Nothing) where
   -- what is shared after lookups
-  looked_ok : (d : Cache) → Aged e.shared.cache d → Ok (with_cache e.shared d) (counted e.follower) n
+  looked_ok : (d : Cache) → Aged e.shared.cache d → EngineOk (with_cache e.shared d) (counted e.follower) n
   unfolding shared_ok
   looked_ok d a =
-      let o : Ok e.shared (counted e.follower) n = counted_in e n ok in
+      let o : EngineOk e.shared (counted e.follower) n = counted_in e n ok in
       cache_ok e.shared d (counted e.follower) n o (aged e.shared.cache d a (and_left (state_ok e.shared.cache) _ o.shared)) a.count
       (none_pending (with_cache e.shared d) e.follower.due.need (a.pending ∙ idle))
 
@@ -345,15 +327,14 @@ module _ (aged : (c d : Cache) → Aged c d → state_ok c ≡ true → state_ok
       → engine_ok (road_due_by x e arena (counted e.follower) fix).engine n ≡ true
   road_due_by_lem (Current.Is found) fix is = road_kept fix found is
   road_due_by_lem Current.Nothing fix is =
-      let o : Ok e.shared (counted e.follower) n = counted_in e n ok in
+      let o : EngineOk e.shared (counted e.follower) n = counted_in e n ok in
       together _ n (same_fetch e.shared (counted e.follower) _ n o refl (road_off_ok e.shared (counted e.follower) o.holds))
 
-  at_fix_by_lem : (x : Keyed) (fix : Fix) → engine_ok (at_fix_by x e arena (counted e.follower) fix).engine n ≡ true
-  at_fix_by_lem (Keyed.In key) fix =
+  at_fix_by_lem : (x : Option TileKey) (fix : Fix) → engine_ok (at_fix_by x e arena (counted e.follower) fix).engine n ≡ true
+  at_fix_by_lem (Some key) fix =
       either_stepped e.follower.due.matching _ _ n (match_kept fix)
       (either_stepped e.follower.due.road _ _ n (road_due_by_lem e.follower.matcher.current fix refl) (idle_kept e n ok))
-  at_fix_by_lem Keyed.Outside fix = off_map_kept e fix n ok
-  at_fix_by_lem (Keyed.Refused number) fix = off_map_kept e fix n ok
+  at_fix_by_lem None fix = off_map_kept e fix n ok
 
   worked_by_lem : (x : MaybeFix) → engine_ok (worked_by x e arena (counted e.follower)).engine n ≡ true
   unfolding at_fix
@@ -376,24 +357,24 @@ same_key_lem a b e =
     λ i. record { row = row i; col = col i }
 
 -- a chunk is read of the load that is under way, which is the key's
-chunk_read : (m : MaybeLoading) (key : TileKey) (l : Loading) → next_read m key ≡ Next.Chunk l → loads_needed m (MaybeKey.Key key) ≡ true
-chunk_read MaybeLoading.Nothing key l e = let z : ◌≡◌ {A = ℕ} 0 1 = cc in absurd (omega arith)
-chunk_read (MaybeLoading.Tile k) key l e = by (same_key k.key key) refl e
+chunk_read : (m : Option Loading) (key : TileKey) (l : Loading) → next_read m key ≡ Next.Chunk l → loads_needed m (Some key) ≡ true
+chunk_read None key l e = let z : ◌≡◌ {A = ℕ} 0 1 = cc in absurd (omega arith)
+chunk_read (Some k) key l e = by (same_key k.key key) refl e
   where
     by : (t : Bool) → same_key k.key key ≡ t → cond t (Next.Chunk k) Next.Entry ≡ Next.Chunk l → same_key key k.key ≡ true
     by true s e = rw (same_key_lem k.key key s) (key_same key)
     by false s e = let z : ◌≡◌ {A = ℕ} 0 1 = cc in absurd (omega arith)
 
-chunk_at : (x : Landing) (c : Cache) (key : TileKey) (l : Loading) → next_at x c key ≡ Next.Chunk l → loads_needed c.loading (MaybeKey.Key key) ≡ true
+chunk_at : (x : Landing) (c : Cache) (key : TileKey) (l : Loading) → next_at x c key ≡ Next.Chunk l → loads_needed c.loading (Some key) ≡ true
 chunk_at (Landing.At i) c key l e = let z : ◌≡◌ {A = ℕ} 0 1 = cc in absurd (omega arith)
 chunk_at Landing.Missing c key l e = let z : ◌≡◌ {A = ℕ} 0 1 = cc in absurd (omega arith)
 chunk_at Landing.Nothing c key l e = by (eqb c.pages.count 0) e
   where
-    by : (t : Bool) → cond t Next.NoPages (next_read c.loading key) ≡ Next.Chunk l → loads_needed c.loading (MaybeKey.Key key) ≡ true
+    by : (t : Bool) → cond t Next.NoPages (next_read c.loading key) ≡ Next.Chunk l → loads_needed c.loading (Some key) ≡ true
     by true e = let z : ◌≡◌ {A = ℕ} 0 1 = cc in absurd (omega arith)
     by false e = chunk_read c.loading key l e
 
-chunk_loads : (c : Cache) (key : TileKey) (l : Loading) → next_step c key ≡ Next.Chunk l → loads_needed c.loading (MaybeKey.Key key) ≡ true
+chunk_loads : (c : Cache) (key : TileKey) (l : Loading) → next_step c key ≡ Next.Chunk l → loads_needed c.loading (Some key) ≡ true
 unfolding next_step
 chunk_loads c key l e = chunk_at (lands_on c key) c key l e
 
@@ -406,7 +387,7 @@ module _ (e : Engine) (n : ℕ) (ok : engine_ok e n ≡ true) where
 
   -- another cache with no fetch open
   other_ok : (d : Cache) → state_ok d ≡ true → d.pages.count ≡ e.shared.cache.pages.count → d.pending ≡ Pending.Nothing
-      → Ok (with_cache e.shared d) (counted e.follower) n
+      → EngineOk (with_cache e.shared d) (counted e.follower) n
   other_ok d good count idle =
       cache_ok e.shared d (counted e.follower) n (counted_in e n ok) good count
       (none_pending (with_cache e.shared d) e.follower.due.need idle)
@@ -415,7 +396,7 @@ module _ (e : Engine) (n : ℕ) (ok : engine_ok e n ≡ true) where
       → engine_ok (arrived e d).engine n ≡ true
   unfolding arrived
   arrived_ok d good count idle =
-      let o : Ok (with_cache e.shared d) (counted e.follower) n = other_ok d good count idle in
+      let o : EngineOk (with_cache e.shared d) (counted e.follower) n = other_ok d good count idle in
       together _ n
       (no_fetch (with_cache e.shared d) (counted e.follower) _ n o idle (needless_ok (with_cache e.shared d) (counted e.follower) o.holds))
 
@@ -440,12 +421,12 @@ module _ (aged : (c d : Cache) → Aged c d → state_ok c ≡ true → state_ok
     (forgets : (c : Cache) (key : TileKey) → state_ok c ≡ true → state_ok (forgot c key) ≡ true) where
   module _ (e : Engine) (arena : List ℕ) (n : ℕ) (ok : engine_ok e n ≡ true) where
     module _ (ready : e.shared.phase ≡ Phase.Ready) (idle : e.shared.cache.pending ≡ Pending.Nothing) where
-      need_by_lem : (x : Next) (key : TileKey) → next_step e.shared.cache key ≡ x → e.follower.due.need ≡ MaybeKey.Key key
+      need_by_lem : (x : Next) (key : TileKey) → next_step e.shared.cache key ≡ x → e.follower.due.need ≡ Some key
           → engine_ok (need_by (fetched e.shared.cache x arena e.shared.header key) x e key).engine n ≡ true
       unfolding forgot
       need_by_lem (Next.Ready i) key q need = by (passes arena i (len_at e.shared.cache i) key e.shared.header.tile)
         where
-          by : (t : Bool) → engine_ok (need_by (cond t Request.Settled (Request.Refused 12)) (Next.Ready i) e key).engine n ≡ true
+          by : (t : Bool) → engine_ok (need_by (cond t (Ok None) (Err Refusal.BadState)) (Next.Ready i) e key).engine n ≡ true
           by true =
               let a : Aged e.shared.cache (touched e.shared.cache i) = touched_aged e.shared.cache i in
               arrived_ok e n ok (touched e.shared.cache i) (aged e.shared.cache _ a (state_is e n ok)) a.count (a.pending ∙ idle)
@@ -459,11 +440,11 @@ module _ (aged : (c d : Cache) → Aged c d → state_ok c ≡ true → state_ok
           opened_ok e n ok Pending.Chunk (opens_chunk e.shared.cache key l (state_is e n ok) q)
           (rw (ready, need) (chunk_loads e.shared.cache key l q))
 
-      ready_by_lem : (x : MaybeKey) → e.follower.due.need ≡ x → engine_ok (ready_by x e arena).engine n ≡ true
-      ready_by_lem (MaybeKey.Key key) need =
+      ready_by_lem : (x : Option TileKey) → e.follower.due.need ≡ x → engine_ok (ready_by x e arena).engine n ≡ true
+      ready_by_lem (Some key) need =
           subst (λ (s : Stepped). engine_ok s.engine n ≡ true) (sym (need_is e arena key (need_in e n ok key ready need) (state_is e n ok)))
           (need_by_lem (next_step e.shared.cache key) key refl need)
-      ready_by_lem MaybeKey.Nothing need = worked_kept aged e arena n ok ready idle
+      ready_by_lem None need = worked_kept aged e arena n ok ready idle
 
     started_by_lem : (x : Phase) → e.shared.phase ≡ x → e.shared.cache.pending ≡ Pending.Nothing → engine_ok (started_by x e arena).engine n ≡ true
     started_by_lem Phase.Failed q idle = ok
@@ -494,9 +475,9 @@ ready_is Phase.Unread e = absurd (true≢false (sym e))
 ready_is Phase.Failed e = absurd (true≢false (sym e))
 
 -- an unread header has nothing needed or matched, so nothing that another would refuse
-need_unread : (s x : Shared) (need : MaybeKey) → s.phase ≡ Phase.Unread → need_ok s need ≡ true → need_ok x need ≡ true
-need_unread s x MaybeKey.Nothing unread ok = refl
-need_unread s x (MaybeKey.Key key) unread ok = absurd (true≢false (sym (rw unread at ok)))
+need_unread : (s x : Shared) (need : Option TileKey) → s.phase ≡ Phase.Unread → need_ok s need ≡ true → need_ok x need ≡ true
+need_unread s x None unread ok = refl
+need_unread s x (Some key) unread ok = absurd (true≢false (sym (rw unread at ok)))
 
 matched_unread : (s x : Shared) (m : Current) → s.phase ≡ Phase.Unread → matched_ok s m ≡ true → matched_ok x m ≡ true
 matched_unread s x Current.Nothing unread ok = refl
@@ -548,7 +529,7 @@ module _ (opens_nothing : (c : Cache) → state_ok c ≡ true → state_ok (with
   renewed_ok x h k good few =
       let s : Shared = e.shared in
       let next : Shared = with_phase s x h in
-      let o : Ok s e.follower n = apart e n ok in
+      let o : EngineOk s e.follower n = apart e n ok in
       let shared : (arena_ok s.cache n && header_ok s) ≡ true = and_right (state_ok s.cache) _ o.shared in
       together _ n
       (record {
@@ -571,15 +552,14 @@ module _ (opens_nothing : (c : Cache) → state_ok c ≡ true → state_ok (with
       (few_failures Phase.Unread (k + 1) (lt-ltb (k + 1) 8 (omega (arith, ltb-true k 7 (and_right (eqb failure 1) _ t))))))
       (renewed_ok Phase.Failed e.shared.header k refl (few_failures Phase.Failed k few))
 
-  parsed_kept : (x : Answer) (h : Header) → (x ≡ Answer.Accepted → rules h ≡ true) → engine_ok (header_parsed x e h).engine n ≡ true
-  parsed_kept Answer.Accepted h good = renewed_ok Phase.Ready h 0 (good refl) refl
-  parsed_kept (Answer.Refused number) h good = header_failed_kept number
+  parsed_kept : (x : Result Header Refusal) → ((h : Header) → x ≡ Ok h → rules h ≡ true) → engine_ok (header_parsed x e).engine n ≡ true
+  parsed_kept (Ok h) good = renewed_ok Phase.Ready h 0 (good h refl) refl
+  parsed_kept (Err refusal) good = header_failed_kept (number_of refusal)
 
   header_kept : (failure : ℕ) (bs : List ℕ) → engine_ok (header_came e failure bs).engine n ≡ true
   unfolding header_came
   header_kept failure bs =
-      let p = parse (sector_of bs) in
-      either_stepped (eqb failure 0) _ _ n (parsed_kept p.answer p.header (λ q. (parse_accepted (sector_of bs) q).0)) (header_failed_kept failure)
+      either_stepped (eqb failure 0) _ _ n (parsed_kept (parse (sector_of bs)) (λ h q. (parse_accepted (sector_of bs) q).0)) (header_failed_kept failure)
 
 -- ---- a part of the needed tile came
 
@@ -621,16 +601,16 @@ module _ (c : Cache) (none : withdrawn c.pending ≡ Pending.Nothing) where
   either_cache true a b p q = p
   either_cache false a b p q = q
 
-  began_closed : (x : PageFound.Found) (g : Pages) (key : TileKey) (offset len : ℕ) → (began_at x (dropped c) g key offset len).cache.pending ≡ Pending.Nothing
+  began_closed : (x : Option ℕ) (g : Pages) (key : TileKey) (offset len : ℕ) → (began_at x (dropped c) g key offset len).cache.pending ≡ Pending.Nothing
   unfolding dropped moved forgot
-  began_closed PageAt.Nothing g key offset len = ap withdrawn none
-  began_closed (PageAt.At slot) g key offset len = ap withdrawn none
+  began_closed None g key offset len = ap withdrawn none
+  began_closed (Some slot) g key offset len = ap withdrawn none
 
-  located_closed : (x : Located) (key : TileKey) → (located x (dropped c) key).cache.pending ≡ Pending.Nothing
+  located_closed : (x : Result (Option (ℕ × ℕ)) Refusal) (key : TileKey) → (located x (dropped c) key).cache.pending ≡ Pending.Nothing
   unfolding dropped moved forgot began
-  located_closed Located.NoTile key = ap withdrawn none
-  located_closed (Located.Refused number) key = none
-  located_closed (Located.Tile offset len) key =
+  located_closed (Ok None) key = ap withdrawn none
+  located_closed (Err number) key = none
+  located_closed (Ok (Some (offset, len))) key =
       let b = begun (dropped c).pages key len in
       either_closed (ltb 49152 len) _ _ (ap withdrawn none) (began_closed b.at b.pages key offset len)
 
@@ -653,18 +633,18 @@ module _ (e : Engine) (n : ℕ) (ok : engine_ok e n ≡ true) (d : Cache) (good 
   unfolding load_failed
   load_failed_kept =
       let k : ℕ = e.follower.failures in
-      let o : Ok (with_cache e.shared d) (counted e.follower) n = other_ok e n ok d good count idle in
+      let o : EngineOk (with_cache e.shared d) (counted e.follower) n = other_ok e n ok d good count idle in
       either_true (ltb k 7) _ _ n
       (λ t. together _ n (no_fetch (with_cache e.shared d) (counted e.follower) _ n o idle
       (failing_ok (with_cache e.shared d) (counted e.follower) (k + 1)
       (few_failures e.shared.phase (k + 1) (lt-ltb (k + 1) 8 (omega (arith, ltb-true k 7 t)))) o.holds)))
       (together _ n (failed_ok (with_cache e.shared d) (counted e.follower) n idle o))
 
-  loaded_kept : (x : Progress) → engine_ok (loaded_by x e d).engine n ≡ true
-  loaded_kept Progress.Done = arrived_ok e n ok d good count idle
-  loaded_kept Progress.More = together _ n (other_ok e n ok d good count idle)
-  loaded_kept (Progress.Failed number) = load_failed_kept
-  loaded_kept (Progress.Refused number) = ok
+  loaded_kept : (x : Result Progress Refusal) → engine_ok (loaded_by x e d).engine n ≡ true
+  loaded_kept (Ok Progress.Done) = arrived_ok e n ok d good count idle
+  loaded_kept (Ok Progress.More) = together _ n (other_ok e n ok d good count idle)
+  loaded_kept (Ok (Progress.Failed number)) = load_failed_kept
+  loaded_kept (Err number) = ok
 
 -- ---- the delivery
 
@@ -678,11 +658,11 @@ module _ (c : Cache) (key : TileKey) (ok : state_ok c ≡ true) where
   entry_open : (k : TileKey) → c.pending ≡ Pending.Entry k → same_key key k ≡ true → is_read (next_step c key) ≡ true
   entry_open k is same = entry_reads (next_step c key) (rw (same_key_lem key k same) (open_fits (Pending.Entry k) is))
 
-  chunk_wanted : (m : MaybeLoading) → wants_chunk_of m c ≡ true → loads_needed m (MaybeKey.Key key) ≡ true → is_read (next_step c key) ≡ true
-  chunk_wanted MaybeLoading.Nothing w l = absurd (true≢false (sym w))
-  chunk_wanted (MaybeLoading.Tile k) w l = chunk_reads (next_step c key) (rw (same_key_lem key k.key l) w)
+  chunk_wanted : (m : Option Loading) → wants_chunk_of m c ≡ true → loads_needed m (Some key) ≡ true → is_read (next_step c key) ≡ true
+  chunk_wanted None w l = absurd (true≢false (sym w))
+  chunk_wanted (Some k) w l = chunk_reads (next_step c key) (rw (same_key_lem key k.key l) w)
 
-  chunk_open : c.pending ≡ Pending.Chunk → loads_needed c.loading (MaybeKey.Key key) ≡ true → is_read (next_step c key) ≡ true
+  chunk_open : c.pending ≡ Pending.Chunk → loads_needed c.loading (Some key) ≡ true → is_read (next_step c key) ≡ true
   chunk_open is needed = chunk_wanted c.loading (open_fits Pending.Chunk is) needed
 
 either_told : (t : Bool) (a b : After) (n : ℕ) → (t ≡ true → engine_ok a.engine n ≡ true) → engine_ok b.engine n ≡ true
@@ -707,13 +687,13 @@ module _ (opens_nothing : (c : Cache) → state_ok c ≡ true → state_ok (with
     fetch_open : pending_ok e.shared e.follower.due.need ≡ true
     fetch_open = (apart e n ok).pending
 
-    part_kept : (key : TileKey) → e.shared.phase ≡ Phase.Ready → e.follower.due.need ≡ MaybeKey.Key key
+    part_kept : (key : TileKey) → e.shared.phase ≡ Phase.Ready → e.follower.due.need ≡ Some key
         → is_read (next_step e.shared.cache key) ≡ true → withdrawn e.shared.cache.pending ≡ Pending.Nothing
         → engine_ok (part_came e arena key failure bs).engine n ≡ true
     part_kept key ready need reads closed =
         let c : Cache = e.shared.cache in
         let h : Header = e.shared.header in
-        let held : need_ok e.shared (MaybeKey.Key key) ≡ true = rw need at need_held in
+        let held : need_ok e.shared (Some key) ≡ true = rw need at need_held in
         let is_in_grid : in_grid h key ≡ true = rw ready at held in
         let x : Loads.After = Loads.stepped c (next_step c key) arena h key failure bs in
         subst (λ (a : After). engine_ok a.engine n ≡ true) (sym (part_is e arena key failure bs is_in_grid))
@@ -722,19 +702,19 @@ module _ (opens_nothing : (c : Cache) → state_ok c ≡ true → state_ok (with
         (counts c arena h key failure bs) (step_closed c closed (next_step c key) arena h key failure bs reads) x.answer)
         ok)
 
-    entry_came : (x : MaybeKey) (k : TileKey) → e.follower.due.need ≡ x → e.shared.cache.pending ≡ Pending.Entry k
+    entry_came : (x : Option TileKey) (k : TileKey) → e.follower.due.need ≡ x → e.shared.cache.pending ≡ Pending.Entry k
         → engine_ok (need_came_by x e arena failure bs).engine n ≡ true
-    entry_came MaybeKey.Nothing k need is = ok
-    entry_came (MaybeKey.Key key) k need is =
+    entry_came None k need is = ok
+    entry_came (Some key) k need is =
         let fits : (is_ready e.shared.phase && same_key key k) ≡ true = rw (is, need) at fetch_open in
         part_kept key (ready_is e.shared.phase (and_left (is_ready e.shared.phase) _ fits)) need
         (entry_open e.shared.cache key (state_is e n ok) k is (and_right (is_ready e.shared.phase) _ fits)) (ap withdrawn is)
 
-    chunk_came : (x : MaybeKey) → e.follower.due.need ≡ x → e.shared.cache.pending ≡ Pending.Chunk
+    chunk_came : (x : Option TileKey) → e.follower.due.need ≡ x → e.shared.cache.pending ≡ Pending.Chunk
         → engine_ok (need_came_by x e arena failure bs).engine n ≡ true
-    chunk_came MaybeKey.Nothing need is = ok
-    chunk_came (MaybeKey.Key key) need is =
-        let fits : (is_ready e.shared.phase && loads_needed e.shared.cache.loading (MaybeKey.Key key)) ≡ true = rw (is, need) at fetch_open in
+    chunk_came None need is = ok
+    chunk_came (Some key) need is =
+        let fits : (is_ready e.shared.phase && loads_needed e.shared.cache.loading (Some key)) ≡ true = rw (is, need) at fetch_open in
         part_kept key (ready_is e.shared.phase (and_left (is_ready e.shared.phase) _ fits)) need
         (chunk_open e.shared.cache key (state_is e n ok) is (and_right (is_ready e.shared.phase) _ fits)) (ap withdrawn is)
 

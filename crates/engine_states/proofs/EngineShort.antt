@@ -1,6 +1,7 @@
 -- What `deliver_kept` asks for beside number 12's causes, that the cache has its 96 slots, can't be left out (`short_breaks`): number 12 doesn't
 -- read how long the list of slots is, and in a shorter one the run that an entry begins is not written, so that its load has no run. In the code the
 -- slots are an array of 96. The smallest such state has no slot and counts one page.
+use Rattle.std.specs.Prelude.{Some, None}
 use Prim.Native.Nat.{ℕ}
 use mathlib.Core.Path.{◌≡◌, refl}
 use mathlib.Core.Bool.{true, false}
@@ -15,14 +16,12 @@ use Rattle.pack.specs.declared.TileKey.{TileKey}
 use Rattle.cache.specs.Evict.{fill, evicted_page, evicted}
 use Rattle.cache.specs.Runs.{span, all_below}
 use Rattle.cache.specs.Victim.{best_of}
-use Rattle.cache.specs.declared.MaybeKey.TheVariants as MaybeKey
 use Rattle.geo.specs.Flat.{whole}
 use Rattle.cache.specs.Keys.{in_ring, is_ready, ready_at}
 use Rattle.cache.specs.Lookups.{lands_on, next_step}
 use Rattle.cache.specs.Search.{lowest}
 use Rattle.cache.specs.State.{tile_loads, state_ok}
 use Rattle.cache.specs.declared.Cache.{Cache}
-use Rattle.cache.specs.declared.MaybeLoading.TheVariants as MaybeLoading
 use Rattle.cache.specs.declared.Pending.TheVariants as Pending
 use Rattle.cache.specs.Loads.{moved, dropped, began, entry_step}
 use Rattle.matcher.specs.Calls as Matching
@@ -59,7 +58,7 @@ abbrev bare : Cache
 bare = record {
   pages = record { slots = []; used = []; count = 1; clock = 0 };
   missing = record { keys = []; next = 0 };
-  loading = MaybeLoading.Nothing;
+  loading = None;
   pending = Pending.Entry first;
   loads = 0;
 }
@@ -71,7 +70,7 @@ short = record {
   follower = record {
     sight = nothing_seen;
     matcher = Matching.reset;
-    due = record { matching = false; road = false; last_road = MaybeTime.Nothing; need = MaybeKey.Key first; reloads = 0 };
+    due = record { matching = false; road = false; last_road = MaybeTime.Nothing; need = Some first; reloads = 0 };
     ahead = nothing_ahead 0;
     failures = 0;
     horizon_m = whole 0;

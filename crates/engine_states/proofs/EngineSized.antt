@@ -13,18 +13,13 @@ use lib.IntN.{pos}
 use lib.ListN.{length, replicate, length-replicate}
 use lib.Seq.{paste, length-paste}
 use borrow.Author.Tests.{leb-true}
+use Rattle.std.specs.Prelude.{Option, Some, None, Result, Ok, Err}
+use Rattle.refusal.specs.Refusal.{number_of}
+use Rattle.refusal.specs.declared.Refusal.{Refusal}
 use Rattle.pack.specs.Grid.{is_point, in_grid, key_of, read}
 use Rattle.pack.specs.Sector.{parse}
-use Rattle.pack.specs.declared.Answer.{Answer}
-use Rattle.pack.specs.declared.Answer.TheVariants as Answer
 use Rattle.pack.specs.declared.Header.{Header}
-use Rattle.pack.specs.declared.Keyed.{Keyed}
-use Rattle.pack.specs.declared.Keyed.TheVariants as Keyed
-use Rattle.pack.specs.declared.Range.{Range}
-use Rattle.pack.specs.declared.Range.TheVariants as Range
 use Rattle.pack.specs.declared.TileKey.{TileKey}
-use Rattle.cache.specs.declared.MaybeKey.{MaybeKey}
-use Rattle.cache.specs.declared.MaybeKey.TheVariants as MaybeKey
 use Rattle.cache.specs.declared.Slot.{Slot}
 use Rattle.cache.specs.Direct.{look, Aged}
 use Rattle.cache.specs.Lookups.{passes, len_at, next_step}
@@ -33,16 +28,11 @@ use Rattle.cache.specs.State.{state_ok, empty_slot, cleared}
 use Rattle.cache.specs.declared.Cache.{Cache}
 use Rattle.cache.specs.declared.Loading.{Loading}
 use Rattle.cache.specs.declared.Pending.{Pending}
-use Rattle.cache.specs.declared.Pending.TheVariants as Pending
 use Rattle.cache.specs.declared.next.Next.{Next}
-use Rattle.cache.specs.declared.next.Next.TheVariants as Next
 use Rattle.cache.specs.Loads as Loads
 use Rattle.cache.specs.Loads.{fetched, takes, forgot, chunk_len, put, chunk_step, pack_bytes}
 use Rattle.cache.specs.declared.Progress.{Progress}
-use Rattle.cache.specs.declared.Progress.TheVariants as Progress
-use Rattle.cache.specs.declared.Request.TheVariants as Request
 use Rattle.matcher.specs.declared.Current.{Current}
-use Rattle.matcher.specs.declared.Current.TheVariants as Current
 use Rattle.matcher.specs.declared.Matched.{Matched}
 use Rattle.matcher.specs.Gather.{Run, run_over, updated}
 use Rattle.matcher.specs.declared.Outcome as MatchOutcome
@@ -56,7 +46,6 @@ use Rattle.engine.specs.Fixes.{place_of}
 use Rattle.engine.specs.declared.Fix.{Fix}
 use Rattle.engine.specs.declared.Follower.{Follower}
 use Rattle.engine.specs.declared.MaybeFix.{MaybeFix}
-use Rattle.engine.specs.declared.MaybeFix.TheVariants as MaybeFix
 use Rattle.engine.specs.Calls as Calls
 use Rattle.engine.specs.Deliver.{After, with_pending, sector_of, header_failed, header_parsed, header_came, arrived, load_failed, loaded_by}
 use Rattle.engine.proofs.NeedLaws.{need_by, need_is, part_cases}
@@ -68,9 +57,7 @@ use Rattle.engine.specs.Work.{counted, match_ended_by, match_step, road_ended_by
 use Rattle.engine.specs.declared.Changed.{Changed}
 use Rattle.engine.specs.declared.Engine.{Engine}
 use Rattle.engine.specs.declared.Phase.{Phase}
-use Rattle.engine.specs.declared.Phase.TheVariants as Phase
 use Rattle.engine.specs.declared.Status.{Status}
-use Rattle.engine.specs.declared.Status.TheVariants as Status
 use Rattle.engine.specs.declared.Stepped.{Stepped}
 use Rattle.engine_states.proofs.EngineKept.{updated_aged, predicted_aged, touched_aged, state_is, step_kept, deliver_kept}
 
@@ -147,11 +134,10 @@ module _ (e : Engine) (arena : List ℕ) where
       p.predicted.answer)
   road_slots Current.Nothing f fix = refl
 
-  fix_slots : (x : Keyed) (f : Follower) (fix : Fix) → Kept (at_fix_by x e arena f fix)
-  fix_slots (Keyed.In key) f fix =
+  fix_slots : (x : Option TileKey) (f : Follower) (fix : Fix) → Kept (at_fix_by x e arena f fix)
+  fix_slots (Some key) f fix =
       either_kept f.due.matching _ _ (match_slots f fix) (either_kept f.due.road _ _ (road_slots f.matcher.current f fix) refl)
-  fix_slots Keyed.Outside f fix = refl
-  fix_slots (Keyed.Refused number) f fix = refl
+  fix_slots None f fix = refl
 
   work_slots : (x : MaybeFix) (f : Follower) → Kept (worked_by x e arena f)
   unfolding at_fix
@@ -162,7 +148,7 @@ module _ (e : Engine) (arena : List ℕ) where
   unfolding arrived forgot
   need_slots (Next.Ready i) key = by (passes arena i (len_at e.shared.cache i) key e.shared.header.tile)
     where
-      by : (t : Bool) → Kept (need_by (cond t Request.Settled (Request.Refused 12)) (Next.Ready i) e key)
+      by : (t : Bool) → Kept (need_by (cond t (Ok None) (Err Refusal.BadState)) (Next.Ready i) e key)
       by true = (touched_aged e.shared.cache i).slots
       by false = refl
   need_slots Next.Missing key = refl
@@ -172,12 +158,12 @@ module _ (e : Engine) (arena : List ℕ) where
 
   -- in a state that 12 does not name
   module _ (ok : engine_ok e (length arena) ≡ true) where
-    ready_slots : (x : MaybeKey) → e.shared.phase ≡ Phase.Ready → e.follower.due.need ≡ x → Kept (ready_by x e arena)
+    ready_slots : (x : Option TileKey) → e.shared.phase ≡ Phase.Ready → e.follower.due.need ≡ x → Kept (ready_by x e arena)
     unfolding worked
-    ready_slots (MaybeKey.Key key) ready need =
+    ready_slots (Some key) ready need =
         subst Kept (sym (need_is e arena key (need_in e (length arena) ok key ready need) (state_is e (length arena) ok)))
         (need_slots (next_step e.shared.cache key) key)
-    ready_slots MaybeKey.Nothing ready need = work_slots e.follower.sight.fix (counted e.follower)
+    ready_slots None ready need = work_slots e.follower.sight.fix (counted e.follower)
 
     started_slots : (x : Phase) → e.shared.phase ≡ x → Kept (started_by x e arena)
     started_slots Phase.Failed q = refl
@@ -234,9 +220,9 @@ either_arena true a b n p q = p
 either_arena false a b n p q = q
 
 module _ (e : Engine) (arena : List ℕ) (failure : ℕ) (bs : List ℕ) where
-  need_arena : (x : MaybeKey) → length (need_came_by x e arena failure bs).arena ≡ length arena
-  need_arena MaybeKey.Nothing = refl
-  need_arena (MaybeKey.Key key) =
+  need_arena : (x : Option TileKey) → length (need_came_by x e arena failure bs).arena ≡ length arena
+  need_arena None = refl
+  need_arena (Some key) =
       let n = next_step e.shared.cache key in
       subst (λ (a : After). length a.arena ≡ length arena) (sym (part_cases e arena key failure bs))
       (either_arena (takes n e.shared.header key failure (length bs)) _ _ (length arena)
@@ -267,28 +253,28 @@ module _ (e : Engine) (size : Sized e) where
   unfolding header_failed
   failed_sized failure = either_sized (eqb failure 1 && ltb e.follower.failures 7) _ _ size size
 
-  parsed_sized : (x : Answer) (h : Header) → Sized (header_parsed x e h).engine
-  parsed_sized Answer.Accepted h = size
-  parsed_sized (Answer.Refused number) h = failed_sized number
+  parsed_sized : (x : Result Header Refusal) → Sized (header_parsed x e).engine
+  parsed_sized (Ok h) = size
+  parsed_sized (Err refusal) = failed_sized (number_of refusal)
 
   header_sized : (failure : ℕ) (bs : List ℕ) → Sized (header_came e failure bs).engine
   unfolding header_came
   header_sized failure bs =
-      let p = parse (sector_of bs) in either_sized (eqb failure 0) _ _ (parsed_sized p.answer p.header) (failed_sized failure)
+      either_sized (eqb failure 0) _ _ (parsed_sized (parse (sector_of bs))) (failed_sized failure)
 
-  loaded_sized : (x : Progress) (d : Cache) → length d.pages.slots ≡ 96 → Sized (loaded_by x e d).engine
+  loaded_sized : (x : Result Progress Refusal) (d : Cache) → length d.pages.slots ≡ 96 → Sized (loaded_by x e d).engine
   unfolding arrived load_failed
-  loaded_sized Progress.Done d long = long
-  loaded_sized Progress.More d long = long
-  loaded_sized (Progress.Failed number) d long = either_sized (ltb e.follower.failures 7) _ _ long long
-  loaded_sized (Progress.Refused number) d long = size
+  loaded_sized (Ok Progress.Done) d long = long
+  loaded_sized (Ok Progress.More) d long = long
+  loaded_sized (Ok (Progress.Failed number)) d long = either_sized (ltb e.follower.failures 7) _ _ long long
+  loaded_sized (Err number) d long = size
 
 module _ (sizes : (c : Cache) (arena : List ℕ) (h : Header) (key : TileKey) (failure : ℕ) (bs : List ℕ) → length c.pages.slots ≡ 96
     → state_ok c ≡ true → length (Loads.stepped c (next_step c key) arena h key failure bs).cache.pages.slots ≡ 96)
     (e : Engine) (arena : List ℕ) (failure : ℕ) (bs : List ℕ) (size : Sized e) where
-  need_sized : (x : MaybeKey) → state_ok e.shared.cache ≡ true → Sized (need_came_by x e arena failure bs).engine
-  need_sized MaybeKey.Nothing ok = size
-  need_sized (MaybeKey.Key key) ok =
+  need_sized : (x : Option TileKey) → state_ok e.shared.cache ≡ true → Sized (need_came_by x e arena failure bs).engine
+  need_sized None ok = size
+  need_sized (Some key) ok =
       let c : Cache = e.shared.cache in
       let x : Loads.After = Loads.stepped c (next_step c key) arena e.shared.header key failure bs in
       subst (λ (a : After). Sized a.engine) (sym (part_cases e arena key failure bs))
@@ -323,10 +309,10 @@ module _ (aged : (c d : Cache) → Aged c d → state_ok c ≡ true → state_ok
     → (Loads.stepped c (next_step c key) arena h key failure bs).cache.pages.count ≡ c.pages.count)
     (n : ℕ)
   where
-    answered_by_lem : (x : Range) (e : Engine) (arena : List ℕ) (len : ℕ) (pack : List ℕ) → Sized e → engine_ok e n ≡ true
+    answered_by_lem : (x : Result ℕ Refusal) (e : Engine) (arena : List ℕ) (len : ℕ) (pack : List ℕ) → Sized e → engine_ok e n ≡ true
         → engine_ok (Calls.answered_by x e arena len pack).engine n ≡ true
-    answered_by_lem (Range.At at) e arena len pack size ok = deliver_kept opens_nothing steps counts e arena 0 (pack_bytes pack at len) n size ok
-    answered_by_lem (Range.Refused number) e arena len pack size ok = deliver_kept opens_nothing steps counts e arena 2 [] n size ok
+    answered_by_lem (Ok at) e arena len pack size ok = deliver_kept opens_nothing steps counts e arena 0 (pack_bytes pack at len) n size ok
+    answered_by_lem (Err number) e arena len pack size ok = deliver_kept opens_nothing steps counts e arena 2 [] n size ok
 
     pub answered_kept : (e : Engine) (arena : List ℕ) (offset len : ℕ) (pack : List ℕ) → Sized e → engine_ok e n ≡ true
         → engine_ok (Calls.answered_from e arena offset len pack).engine n ≡ true

@@ -1,6 +1,7 @@
--- The causes of number 12 one by one, those of a follower by themselves (`Holds`) and with those of what is shared and of the open fetch (`Ok`), and what
+-- The causes of number 12 one by one, those of a follower by themselves (`Holds`) and with those of what is shared and of the open fetch (`EngineOk`), and what
 -- keeps them: another cache beside the same phase and header, a pack that failed, and each change that a step makes of a follower. The idea: each change
 -- leaves most of the parts that the causes speak of as they were.
+use Rattle.std.specs.Prelude.{Option, Some, None}
 use Prim.Native.Nat.{ℕ, ◌+◌, ◌≤◌}
 use mathlib.Core.Path.{◌≡◌, refl}
 use mathlib.Core.Bool.{Bool, true, false, ◌&&◌, cond}
@@ -12,14 +13,10 @@ use Rattle.pack.specs.Grid.{in_grid}
 use Rattle.pack.specs.declared.Header.{Header}
 use Rattle.pack.specs.declared.TileKey.{TileKey}
 use Rattle.pack.proofs.Laws.{and_left, and_right, clause}
-use Rattle.cache.specs.declared.MaybeKey.{MaybeKey}
-use Rattle.cache.specs.declared.MaybeKey.TheVariants as MaybeKey
 use Rattle.cache.specs.State.{state_ok, arena_ok}
 use Rattle.cache.specs.declared.Cache.{Cache}
 use Rattle.cache.specs.declared.Pending.{Pending}
-use Rattle.cache.specs.declared.Pending.TheVariants as Pending
 use Rattle.matcher.specs.declared.Current.{Current}
-use Rattle.matcher.specs.declared.Current.TheVariants as Current
 use Rattle.matcher.specs.declared.Matched.{Matched}
 use Rattle.matcher.specs.Calls as Matching
 use Rattle.matcher.specs.State.{counts_ok, edge_ok}
@@ -37,7 +34,6 @@ use Rattle.engine.specs.Work.{with_due, counted, is_matched, emptied, off_map, a
 use Rattle.engine.specs.Work.{published, road_asks, road_off, rematch}
 use Rattle.engine.specs.declared.Engine.{Engine}
 use Rattle.engine.specs.declared.Phase.{Phase}
-use Rattle.engine.specs.declared.Phase.TheVariants as Phase
 use Rattle.engine.specs.declared.Shared.{Shared}
 use Rattle.engine_states.proofs.MatcherKept.{PlacedIn, Standing}
 use Rattle.engine_states.proofs.SightKept.{both}
@@ -53,7 +49,7 @@ pub record Holds (s : Shared) (f : Follower) : Type 0 where
   pub failures : failures_ok s.phase f.failures ≡ true
 
 -- with those of what is shared, and of the open fetch
-pub record Ok (s : Shared) (f : Follower) (n : ℕ) : Type 0 where
+pub record EngineOk (s : Shared) (f : Follower) (n : ℕ) : Type 0 where
   pub shared : shared_ok s n ≡ true
   pub holds : Holds s f
   pub pending : pending_ok s f.due.need ≡ true
@@ -64,7 +60,7 @@ causes e n =
     ∷ ahead_ok e.shared e.follower.ahead ∷ failures_ok e.shared.phase e.follower.failures
     ∷ pending_ok e.shared e.follower.due.need ∷ []
 
-pub apart : (e : Engine) (n : ℕ) → engine_ok e n ≡ true → Ok e.shared e.follower n
+pub apart : (e : Engine) (n : ℕ) → engine_ok e n ≡ true → EngineOk e.shared e.follower n
 unfolding engine_ok
 apart e n ok = record {
   shared = clause 0 (causes e n) ok;
@@ -78,19 +74,19 @@ apart e n ok = record {
   pending = clause 6 (causes e n) ok;
 }
 
-pub together : (e : Engine) (n : ℕ) → Ok e.shared e.follower n → engine_ok e n ≡ true
+pub together : (e : Engine) (n : ℕ) → EngineOk e.shared e.follower n → engine_ok e n ≡ true
 unfolding engine_ok
 together e n ok =
     let f = ok.holds in rw (ok.shared, f.due, f.sight, f.matcher, f.ahead, f.failures, ok.pending)
 
 -- another follower over what is shared: that needs the same tile, or with no fetch open
-pub same_fetch : (s : Shared) (f g : Follower) (n : ℕ) → Ok s f n → g.due.need ≡ f.due.need → Holds s g → Ok s g n
+pub same_fetch : (s : Shared) (f g : Follower) (n : ℕ) → EngineOk s f n → g.due.need ≡ f.due.need → Holds s g → EngineOk s g n
 same_fetch s f g n ok same h = record { shared = ok.shared; holds = h; pending = rw same ok.pending }
 
-pub none_pending : (s : Shared) (need : MaybeKey) → s.cache.pending ≡ Pending.Nothing → pending_ok s need ≡ true
+pub none_pending : (s : Shared) (need : Option TileKey) → s.cache.pending ≡ Pending.Nothing → pending_ok s need ≡ true
 none_pending s need idle = rw idle
 
-pub no_fetch : (s : Shared) (f g : Follower) (n : ℕ) → Ok s f n → s.cache.pending ≡ Pending.Nothing → Holds s g → Ok s g n
+pub no_fetch : (s : Shared) (f g : Follower) (n : ℕ) → EngineOk s f n → s.cache.pending ≡ Pending.Nothing → Holds s g → EngineOk s g n
 no_fetch s f g n ok idle h = record { shared = ok.shared; holds = h; pending = none_pending s g.due.need idle }
 
 -- ---- another cache beside the same phase and header
@@ -98,9 +94,9 @@ no_fetch s f g n ok idle h = record { shared = ok.shared; holds = h; pending = n
 abbrev pub with_cache : Shared → Cache → Shared
 with_cache s c = record { phase = s.phase; header = s.header; cache = c }
 
-need_cache : (s : Shared) (c : Cache) (need : MaybeKey) → need_ok s need ≡ true → need_ok (with_cache s c) need ≡ true
-need_cache s c MaybeKey.Nothing ok = refl
-need_cache s c (MaybeKey.Key key) ok = ok
+need_cache : (s : Shared) (c : Cache) (need : Option TileKey) → need_ok s need ≡ true → need_ok (with_cache s c) need ≡ true
+need_cache s c None ok = refl
+need_cache s c (Some key) ok = ok
 
 matched_cache : (s : Shared) (c : Cache) (m : Current) → matched_ok s m ≡ true → matched_ok (with_cache s c) m ≡ true
 matched_cache s c Current.Nothing ok = refl
@@ -132,7 +128,7 @@ module _ (s : Shared) (c : Cache) (f : Follower) (h : Holds s f) where
     failures = h.failures;
   }
 
-module _ (s : Shared) (c : Cache) (f : Follower) (n : ℕ) (ok : Ok s f n) where
+module _ (s : Shared) (c : Cache) (f : Follower) (n : ℕ) (ok : EngineOk s f n) where
   shared_cache : state_ok c ≡ true → c.pages.count ≡ s.cache.pages.count → shared_ok (with_cache s c) n ≡ true
   unfolding shared_ok
   shared_cache good count =
@@ -141,7 +137,7 @@ module _ (s : Shared) (c : Cache) (f : Follower) (n : ℕ) (ok : Ok s f n) where
       (both (arena_ok c n) _ (rw count (and_left (arena_ok s.cache n) _ rest)) (and_right (arena_ok s.cache n) (header_ok s) rest))
 
   -- its pages as many, and an open fetch that the state makes
-  pub cache_ok : state_ok c ≡ true → c.pages.count ≡ s.cache.pages.count → pending_ok (with_cache s c) f.due.need ≡ true → Ok (with_cache s c) f n
+  pub cache_ok : state_ok c ≡ true → c.pages.count ≡ s.cache.pages.count → pending_ok (with_cache s c) f.due.need ≡ true → EngineOk (with_cache s c) f n
   cache_ok good count fits = record { shared = shared_cache good count; holds = cache_holds s c f ok.holds count; pending = fits }
 
 -- ---- a follower that is changed
@@ -285,9 +281,9 @@ needless_ok s f ok = record {
 abbrev failed_with : Shared → Cache → Shared
 failed_with s c = record { phase = Phase.Failed; header = s.header; cache = c }
 
-need_failed : (s : Shared) (c : Cache) (need : MaybeKey) → need_ok (failed_with s c) need ≡ true
-need_failed s c MaybeKey.Nothing = refl
-need_failed s c (MaybeKey.Key key) = refl
+need_failed : (s : Shared) (c : Cache) (need : Option TileKey) → need_ok (failed_with s c) need ≡ true
+need_failed s c None = refl
+need_failed s c (Some key) = refl
 
 matched_failed : (s : Shared) (c : Cache) (m : Current) → matched_ok (failed_with s c) m ≡ true
 matched_failed s c Current.Nothing = refl
@@ -314,7 +310,7 @@ failed_holds s c f k count few ok =
       failures = few;
     }
 
-pub failed_ok : (s : Shared) (f : Follower) (n : ℕ) → s.cache.pending ≡ Pending.Nothing → Ok s f n → Ok (failed_with s s.cache) (failing f 8) n
+pub failed_ok : (s : Shared) (f : Follower) (n : ℕ) → s.cache.pending ≡ Pending.Nothing → EngineOk s f n → EngineOk (failed_with s s.cache) (failing f 8) n
 unfolding shared_ok
 failed_ok s f n idle ok =
     let shared : (arena_ok s.cache n && header_ok s) ≡ true = and_right (state_ok s.cache) _ ok.shared in

@@ -1,6 +1,7 @@
 -- A matcher that number 12 doesn't name stays one after a match (`update_kept`), and a tile that the match needs lies in the grid
 -- (`update_needs`). The idea: each candidate kept lies in a tile of the grid, on one of its edges; the match is made of one of them, and so is a
 -- challenger that is new.
+use Rattle.std.specs.Prelude.{Option, Some, None}
 use Prim.Native.Nat.{ℕ, ◌<◌}
 use mathlib.Core.Path.{◌≡◌, refl, ap, ◌∙◌}
 use mathlib.Core.Bool.{Bool, true, false, ◌&&◌, ◌||◌, not, cond}
@@ -13,10 +14,6 @@ use Rattle.num.proofs.FoldLaws.{up_keeps}
 use Rattle.pack.specs.Grid.{in_grid}
 use Rattle.pack.specs.declared.Header.{Header}
 use Rattle.pack.specs.declared.TileKey.{TileKey}
-use Rattle.cache.specs.declared.MaybeKey.{MaybeKey}
-use Rattle.cache.specs.declared.MaybeKey.TheVariants as MaybeKey
-use Rattle.cache.specs.declared.victim.Found.{Found}
-use Rattle.cache.specs.declared.victim.Found.TheVariants as Found
 use Rattle.tile.specs.Layout.{edges_of}
 use Rattle.tile.specs.Parse.{accepts}
 use Rattle.tile.proofs.Within.{key_is}
@@ -26,13 +23,11 @@ use Rattle.cache.specs.Direct.{Look, ready, missing, absent, stale, look_at, loo
 use Rattle.cache.specs.Lookups.{lands_on, run_bytes, passes, len_at}
 use Rattle.cache.specs.declared.Cache.{Cache}
 use Rattle.cache.specs.declared.look.Landing.{Landing}
-use Rattle.cache.specs.declared.look.Landing.TheVariants as Landing
 use Rattle.cache.proofs.LookLaws.{passes_accepted}
 use Rattle.matcher.specs.Keeping.{candidate_in}
 use Rattle.matcher.specs.Within.{Within, AllKept}
 use Rattle.matcher.specs.declared.Candidate.{Candidate}
 use Rattle.matcher.specs.declared.Current.{Current}
-use Rattle.matcher.specs.declared.Current.TheVariants as Current
 use Rattle.matcher.specs.declared.Heading.{Heading}
 use Rattle.matcher.specs.declared.Kept.{Kept}
 use Rattle.matcher.specs.declared.Matched.{Matched}
@@ -45,15 +40,12 @@ use Rattle.matcher.specs.Relied.{Accepted}
 use Rattle.matcher.specs.Settle.{settled, more, missed, matched_by, matched}
 use Rattle.matcher.specs.State.{challenger_ok}
 use Rattle.matcher.specs.declared.Challenger.{Challenger}
-use Rattle.matcher.specs.declared.Challenger.TheVariants as Challenger
 use Rattle.matcher.specs.declared.Matcher.{Matcher}
 use Rattle.matcher.specs.declared.NearKeys.{NearKeys}
 use Rattle.matcher.specs.declared.Outcome.{Outcome}
-use Rattle.matcher.specs.declared.Outcome.TheVariants as Outcome
 use Rattle.matcher.specs.declared.choose.Choice.{Choice}
 use Rattle.matcher.specs.declared.choose.Which.TheVariants as Which
 use Rattle.matcher.specs.declared.gather.Ending.{Ending}
-use Rattle.matcher.specs.declared.gather.Ending.TheVariants as Ending
 use Rattle.matcher.proofs.Chosen.{IsBelow, least_below, chosen_kept}
 use Rattle.matcher.proofs.NearGrid.{InGrid, AllIn, near_in_grid}
 
@@ -107,10 +99,10 @@ contested_challenger n top kept edge = by (ltb n 2) refl
 
 module _ (k : Kept) (top : Candidate) (edge : ltb top.found.edge top.found.tile.edges ≡ true)
     (was : Challenger) (ok : challenger_ok was ≡ true) where
-  kept_challenger : (x : Found) (m : Matched) → challenger_ok (kept_by x k top m was).challenger ≡ true
+  kept_challenger : (x : Option ℕ) (m : Matched) → challenger_ok (kept_by x k top m was).challenger ≡ true
   unfolding held contested
-  kept_challenger Found.Nothing m = ok
-  kept_challenger (Found.At i) m =
+  kept_challenger None m = ok
+  kept_challenger (Some i) m =
       either_challenger (top.joined && not (same_edge top m)) _ _ refl
       (either_challenger (same_edge top m || le (candidate_in k i).cost (add binary32 top.cost (whole 1))) _ _ refl
       (contested_challenger (beaten was top) top (candidate_in k i) edge))
@@ -119,10 +111,10 @@ module _ (k : Kept) (top : Candidate) (edge : ltb top.found.edge top.found.tile.
   chosen_challenger Current.Nothing = ok
   chosen_challenger (Current.Is m) = kept_challenger (kept_at k m) m
 
-past_challenger : (x : Found) (choice : Choice) (k : Kept) → challenger_ok choice.challenger ≡ true
+past_challenger : (x : Option ℕ) (choice : Choice) (k : Kept) → challenger_ok choice.challenger ≡ true
     → challenger_ok (past_by x choice k).challenger ≡ true
-past_challenger Found.Nothing choice k ok = ok
-past_challenger (Found.At i) choice k ok = refl
+past_challenger None choice k ok = ok
+past_challenger (Some i) choice k ok = refl
 
 node_challenger : (choice : Choice) (k : Kept) → challenger_ok choice.challenger ≡ true → challenger_ok (past_node choice k).challenger ≡ true
 unfolding past_node
@@ -146,10 +138,10 @@ module _ (h : Header) where
       by true current p = p
       by false current p = tt
 
-  matched_kept : (x : Found) (m : Matcher) (k : Kept) (heading : Heading) → AllKept (Placed h) k → IsBelow k.len x → Standing h m
+  matched_kept : (x : Option ℕ) (m : Matcher) (k : Kept) (heading : Heading) → AllKept (Placed h) k → IsBelow k.len x → Standing h m
       → Standing h (matched_by x m k heading)
-  matched_kept Found.Nothing m k heading all below ok = missed_kept m ok
-  matched_kept (Found.At i) m k heading all below ok =
+  matched_kept None m k heading all below ok = missed_kept m ok
+  matched_kept (Some i) m k heading all below ok =
       settled_kept m k (past_node (chosen_by m.current k (candidate_in k i) m.challenger) k) heading
       (chosen_kept (λ (c : Candidate). Placed h c.found) k all m.current m.challenger i below)
       (node_challenger (chosen_by m.current k (candidate_in k i) m.challenger) k
@@ -183,11 +175,11 @@ module _ (h : Header) where
     look_in absent r key e is_in_grid good = record { kept = good.kept; end = is_in_grid }
     look_in stale r key e is_in_grid good = record { kept = good.kept; end = tt }
 
-    key_in : (m : MaybeKey) (r : Run) → InGrid h m → RunIn r → RunIn (key_step m at r q)
-    key_in MaybeKey.Nothing r is_in_grid good = good
-    key_in (MaybeKey.Key key) r is_in_grid good = look_in (at key) r key refl is_in_grid good
+    key_in : (m : Option TileKey) (r : Run) → InGrid h m → RunIn r → RunIn (key_step m at r q)
+    key_in None r is_in_grid good = good
+    key_in (Some key) r is_in_grid good = look_in (at key) r key refl is_in_grid good
 
-    step_in : (end : Ending) (m : MaybeKey) (r : Run) → InGrid h m → RunIn r → RunIn (run_step end m at r q)
+    step_in : (end : Ending) (m : Option TileKey) (r : Run) → InGrid h m → RunIn r → RunIn (run_step end m at r q)
     step_in Ending.All m r is_in_grid good = key_in m r is_in_grid good
     step_in (Ending.Need key) m r is_in_grid good = good
     step_in Ending.Stale m r is_in_grid good = good

@@ -10,17 +10,12 @@ use borrow.Author.Tests.{eq-eqb, lt-ltb, ltb-true}
 use lib.Dec.{eqb, ltb, leb}
 use lib.IntN.{pos}
 use lib.ListN.{length, replicate, length-take, length-drop}
+use Rattle.std.specs.Prelude.{Option, Some, None, Result, Ok, Err}
+use Rattle.refusal.specs.Refusal.{number_of}
+use Rattle.refusal.specs.declared.Refusal.{Refusal}
 use Rattle.pack.specs.Grid.{is_point, in_grid, key_of, locate_of, read}
 use Rattle.pack.specs.Sector.{parse}
-use Rattle.pack.specs.declared.Answer as Sector
-use Rattle.pack.specs.declared.Answer.TheVariants as SectorIs
 use Rattle.pack.specs.declared.Header.{Header}
-use Rattle.pack.specs.declared.Keyed.{Keyed}
-use Rattle.pack.specs.declared.Keyed.TheVariants as Keyed
-use Rattle.pack.specs.declared.Located.{Located}
-use Rattle.pack.specs.declared.Located.TheVariants as Located
-use Rattle.pack.specs.declared.Range.{Range}
-use Rattle.pack.specs.declared.Range.TheVariants as RangeIs
 use Rattle.pack.specs.declared.TileKey.{TileKey}
 use Rattle.pack.proofs.Laws.{read_at}
 use Rattle.cache.specs.Begin.{begun}
@@ -32,25 +27,15 @@ use Rattle.cache.proofs.FromLaws.{next_chunk}
 use Rattle.cache.specs.declared.Cache.{Cache}
 use Rattle.cache.specs.declared.Loaded.{Loaded}
 use Rattle.cache.specs.declared.Loading.{Loading}
-use Rattle.cache.specs.declared.MaybeLoading.{MaybeLoading}
-use Rattle.cache.specs.declared.MaybeLoading.TheVariants as MaybeLoading
 use Rattle.cache.specs.declared.Pages.{Pages}
 use Rattle.cache.specs.declared.Progress.{Progress}
-use Rattle.cache.specs.declared.Progress.TheVariants as Progress
-use Rattle.cache.specs.declared.victim.Found as PageFound
-use Rattle.cache.specs.declared.victim.Found.TheVariants as PageAt
-use Rattle.cache.specs.declared.MaybeKey.{MaybeKey}
-use Rattle.cache.specs.declared.MaybeKey.TheVariants as MaybeKey
 use Rattle.cache.specs.Lookups.{next_step}
 use Rattle.cache.specs.declared.Pending.{Pending}
-use Rattle.cache.specs.declared.Pending.TheVariants as Pending
 use Rattle.cache.specs.declared.next.Next.{Next}
-use Rattle.cache.specs.declared.next.Next.TheVariants as Next
 use Rattle.cache.specs.Loads as Loads
 use Rattle.cache.specs.Loads.{pack_bytes}
 use Rattle.cache.specs.Calls.{load_tested}
 use Rattle.matcher.specs.declared.Current.{Current}
-use Rattle.matcher.specs.declared.Current.TheVariants as Current
 use Rattle.matcher.specs.declared.Matched.{Matched}
 use Rattle.matcher.specs.Gather.{updated}
 use Rattle.matcher.specs.declared.Outcome as MatchOutcome
@@ -64,7 +49,6 @@ use Rattle.engine.specs.Fixes.{place_of}
 use Rattle.engine.specs.declared.Fix.{Fix}
 use Rattle.engine.specs.declared.Follower.{Follower}
 use Rattle.engine.specs.declared.MaybeFix.{MaybeFix}
-use Rattle.engine.specs.declared.MaybeFix.TheVariants as MaybeFix
 use Rattle.engine.specs.Calls as Calls
 use Rattle.engine.specs.State.{refused, forgotten, is_ready, need_ok, pending_ok, reload_limit, engine_ok}
 use Rattle.engine.specs.Deliver.{After, over, arrived, header_failed, header_parsed, header_came, sector_of, fits_header, load_failed, loaded_by, loaded, part_came, need_came_by, delivered_by, delivered}
@@ -73,9 +57,7 @@ use Rattle.engine.specs.Steps.{awaits_read, pending_for, need_step, ready_by, st
 use Rattle.engine.specs.declared.Changed.{Changed}
 use Rattle.engine.specs.declared.Engine.{Engine}
 use Rattle.engine.specs.declared.Phase.{Phase}
-use Rattle.engine.specs.declared.Phase.TheVariants as Phase
 use Rattle.engine.specs.declared.Status.{Status}
-use Rattle.engine.specs.declared.Status.TheVariants as Status
 use Rattle.engine.specs.declared.Stepped.{Stepped}
 use Rattle.engine.proofs.FetchLaws.{is_open, open_repeats, Opening, opening_is_pending}
 use Rattle.engine_states.specs.Refused.{is_refused, is_taken, RefusedSame}
@@ -126,10 +108,9 @@ module _ (e : Engine) (arena : List ℕ) (f : Follower) (fix : Fix) where
       either e f.due.matching _ _ (match_leaves u.answer u)
       (either e f.due.road _ _ (due_leaves f.matcher.current) (λ r. absurd (true≢false (sym r))))
 
-  fix_leaves : (k : Keyed) → Leaves e (at_fix_by k e arena f fix)
-  fix_leaves (Keyed.In key) r = grid_leaves r
-  fix_leaves Keyed.Outside r = absurd (true≢false (sym r))
-  fix_leaves (Keyed.Refused number) r = absurd (true≢false (sym r))
+  fix_leaves : (k : Option TileKey) → Leaves e (at_fix_by k e arena f fix)
+  fix_leaves (Some key) r = grid_leaves r
+  fix_leaves None r = absurd (true≢false (sym r))
 
 work_leaves : (m : MaybeFix) (e : Engine) (arena : List ℕ) (f : Follower) → Leaves e (worked_by m e arena f)
 unfolding at_fix
@@ -137,18 +118,18 @@ work_leaves MaybeFix.Nothing e arena f r = absurd (true≢false (sym r))
 work_leaves (MaybeFix.Is fix) e arena f r = fix_leaves e arena f fix (key_of e.shared.header fix.lat fix.lon) r
 
 -- a tile that is settled
-settled_leaves : (p : Progress) (e : Engine) (c : Cache) → Leaves e (loaded_by p e c)
+settled_leaves : (p : Result Progress Refusal) (e : Engine) (c : Cache) → Leaves e (loaded_by p e c)
 unfolding arrived load_failed
-settled_leaves Progress.Done e c r = absurd (true≢false (sym r))
-settled_leaves Progress.More e c r = absurd (true≢false (sym r))
-settled_leaves (Progress.Failed number) e c r =
+settled_leaves (Ok Progress.Done) e c r = absurd (true≢false (sym r))
+settled_leaves (Ok Progress.More) e c r = absurd (true≢false (sym r))
+settled_leaves (Ok (Progress.Failed number)) e c r =
     either e (ltb e.follower.failures 7) _ _ (λ z. absurd (true≢false (sym z))) (λ z. absurd (true≢false (sym z))) r
-settled_leaves (Progress.Refused number) e c r = refl
+settled_leaves (Err number) e c r = refl
 
 -- a fetch that is opened is never refused: a chunk is asked for only where there is a load
-opened_asks : (x : MaybeLoading) (e : Engine) (key : TileKey) → e.shared.cache.loading ≡ x → is_refused (request_of e.shared (pending_for x key)) ≡ false
-opened_asks MaybeLoading.Nothing e key q = refl
-opened_asks (MaybeLoading.Tile l) e key q = by (same_key l.key key)
+opened_asks : (x : Option Loading) (e : Engine) (key : TileKey) → e.shared.cache.loading ≡ x → is_refused (request_of e.shared (pending_for x key)) ≡ false
+opened_asks None e key q = refl
+opened_asks (Some l) e key q = by (same_key l.key key)
   where
     by : (t : Bool) → is_refused (request_of e.shared (cond t Pending.Chunk (Pending.Entry key))) ≡ false
     by true = rw q
@@ -162,10 +143,10 @@ need_leaves e arena key =
     (λ r. absurd (true≢false (sym r ∙ opened_asks e.shared.cache.loading e key refl)))
     (settled_leaves l.answer e l.cache)
 
-ready_leaves : (m : MaybeKey) (e : Engine) (arena : List ℕ) → Leaves e (ready_by m e arena)
+ready_leaves : (m : Option TileKey) (e : Engine) (arena : List ℕ) → Leaves e (ready_by m e arena)
 unfolding worked
-ready_leaves (MaybeKey.Key key) e arena = need_leaves e arena key
-ready_leaves MaybeKey.Nothing e arena = work_leaves e.follower.sight.fix e arena (counted e.follower)
+ready_leaves (Some key) e arena = need_leaves e arena key
+ready_leaves None e arena = work_leaves e.follower.sight.fix e arena (counted e.follower)
 
 phase_leaves : (p : Phase) (e : Engine) (arena : List ℕ) → Leaves e (started_by p e arena)
 phase_leaves Phase.Failed e arena r = refl
@@ -186,11 +167,11 @@ step_refused e arena = either e (engine_ok e (length arena)) _ _ (open_leaves e.
 
 -- ---- a part of a tile
 
-abbrev is_refusal : Progress → Bool
-is_refusal (Progress.Refused number) = true
-is_refusal Progress.Done = false
-is_refusal Progress.More = false
-is_refusal (Progress.Failed number) = false
+abbrev is_refusal : Result Progress Refusal → Bool
+is_refusal (Err number) = true
+is_refusal (Ok Progress.Done) = false
+is_refusal (Ok Progress.More) = false
+is_refusal (Ok (Progress.Failed number)) = false
 
 either_answer : (t : Bool) (x y : Loads.After) → is_refusal x.answer ≡ false → is_refusal y.answer ≡ false → is_refusal (cond t x y).answer ≡ false
 either_answer true x y p q = p
@@ -201,15 +182,15 @@ either_loaded true x y p q = p
 either_loaded false x y p q = q
 
 module _ (c : Cache) (arena : List ℕ) (h : Header) (key : TileKey) (failure : ℕ) (bs : List ℕ) where
-  began_taken : (x : PageFound.Found) (d : Cache) (g : Pages) (offset len : ℕ) → is_refusal (Loads.began_at x d g key offset len).answer ≡ false
-  began_taken PageAt.Nothing d g offset len = refl
-  began_taken (PageAt.At slot) d g offset len = refl
+  began_taken : (x : Option ℕ) (d : Cache) (g : Pages) (offset len : ℕ) → is_refusal (Loads.began_at x d g key offset len).answer ≡ false
+  began_taken None d g offset len = refl
+  began_taken (Some slot) d g offset len = refl
 
-  located_taken : (x : Located) (d : Cache) → is_refusal (Loads.located x d key).answer ≡ false
+  located_taken : (x : Result (Option (ℕ × ℕ)) Refusal) (d : Cache) → is_refusal (Loads.located x d key).answer ≡ false
   unfolding Loads.began
-  located_taken Located.NoTile d = refl
-  located_taken (Located.Refused number) d = refl
-  located_taken (Located.Tile offset len) d =
+  located_taken (Ok None) d = refl
+  located_taken (Err number) d = refl
+  located_taken (Ok (Some (offset, len))) d =
       let b = begun d.pages key len in either_loaded (ltb 49152 len) _ _ refl (began_taken b.at d b.pages offset len)
 
   -- a read that was made is not refused
@@ -235,32 +216,32 @@ either_status true x y p q = p
 either_status false x y p q = q
 
 module _ (e : Engine) where
-  loaded_taken : (p : Progress) (c : Cache) → is_refusal p ≡ false → is_refused (loaded_by p e c).answer ≡ false
+  loaded_taken : (p : Result Progress Refusal) (c : Cache) → is_refusal p ≡ false → is_refused (loaded_by p e c).answer ≡ false
   unfolding arrived load_failed
-  loaded_taken Progress.Done c r = refl
-  loaded_taken Progress.More c r = refl
-  loaded_taken (Progress.Failed number) c r = either_status (ltb e.follower.failures 7) _ _ refl refl
-  loaded_taken (Progress.Refused number) c r = absurd (true≢false r)
+  loaded_taken (Ok Progress.Done) c r = refl
+  loaded_taken (Ok Progress.More) c r = refl
+  loaded_taken (Ok (Progress.Failed number)) c r = either_status (ltb e.follower.failures 7) _ _ refl refl
+  loaded_taken (Err number) c r = absurd (true≢false r)
 
-  loaded_refusal : (p : Progress) (c : Cache) → is_refused (loaded_by p e c).answer ≡ true → (is_refusal p ≡ true) × ((loaded_by p e c).engine ≡ e)
+  loaded_refusal : (p : Result Progress Refusal) (c : Cache) → is_refused (loaded_by p e c).answer ≡ true → (is_refusal p ≡ true) × ((loaded_by p e c).engine ≡ e)
   unfolding arrived load_failed
-  loaded_refusal Progress.Done c r = absurd (true≢false (sym r))
-  loaded_refusal Progress.More c r = absurd (true≢false (sym r))
-  loaded_refusal (Progress.Failed number) c r = absurd (true≢false (sym r ∙ either_status (ltb e.follower.failures 7) _ _ refl refl))
-  loaded_refusal (Progress.Refused number) c r = (refl, refl)
+  loaded_refusal (Ok Progress.Done) c r = absurd (true≢false (sym r))
+  loaded_refusal (Ok Progress.More) c r = absurd (true≢false (sym r))
+  loaded_refusal (Ok (Progress.Failed number)) c r = absurd (true≢false (sym r ∙ either_status (ltb e.follower.failures 7) _ _ refl refl))
+  loaded_refusal (Err number) c r = (refl, refl)
 
   header_failed_lem : (number : ℕ) → is_refused (header_failed e number).answer ≡ false
   unfolding header_failed
   header_failed_lem number = either_status (eqb number 1 && ltb e.follower.failures 7) _ _ refl refl
 
-  header_parsed_lem : (x : Sector.Answer) (h : Header) → is_refused (header_parsed x e h).answer ≡ false
-  header_parsed_lem SectorIs.Accepted h = refl
-  header_parsed_lem (SectorIs.Refused number) h = header_failed_lem number
+  header_parsed_lem : (x : Result Header Refusal) → is_refused (header_parsed x e).answer ≡ false
+  header_parsed_lem (Ok h) = refl
+  header_parsed_lem (Err refusal) = header_failed_lem (number_of refusal)
 
   header_taken : (failure : ℕ) (bs : List ℕ) → is_refused (header_came e failure bs).answer ≡ false
   unfolding header_came
   header_taken failure bs =
-      let p = parse (sector_of bs) in either_status (eqb failure 0) _ _ (header_parsed_lem p.answer p.header) (header_failed_lem failure)
+      either_status (eqb failure 0) _ _ (header_parsed_lem (parse (sector_of bs))) (header_failed_lem failure)
 
 -- ---- a delivery
 
@@ -272,9 +253,9 @@ module _ (e : Engine) (arena : List ℕ) (failure : ℕ) (bs : List ℕ) where
   either_kept true x y p q = p
   either_kept false x y p q = q
 
-  need_kept : (x : MaybeKey) → Kept (need_came_by x e arena failure bs)
-  need_kept MaybeKey.Nothing r = (refl, refl)
-  need_kept (MaybeKey.Key key) r =
+  need_kept : (x : Option TileKey) → Kept (need_came_by x e arena failure bs)
+  need_kept None r = (refl, refl)
+  need_kept (Some key) r =
       subst Kept (sym (part_cases e arena key failure bs))
       (either_kept (Loads.takes n h key failure (length bs)) _ _ (either_kept (in_grid h key) _ _ part (λ z. (refl, refl))) (λ z. (refl, refl))) r
     where
@@ -327,11 +308,11 @@ chunk_some l left = by (ltb (l.len - l.done) 2048)
     by true = omega arith
     by false = omega arith
 
-load_left : (c : Cache) (l : Loading) → state_ok c ≡ true → c.loading ≡ MaybeLoading.Tile l → l.done < l.len
+load_left : (c : Cache) (l : Loading) → state_ok c ≡ true → c.loading ≡ Some l → l.done < l.len
 unfolding tile_loads
 load_left c l ok q =
     let s = slot_at c.pages.slots l.slot in
-    let load : loads_ok c.pages (MaybeLoading.Tile l) ≡ true = rw q at (ok_parts c ok).load in
+    let load : loads_ok c.pages (Some l) ≡ true = rw q at (ok_parts c ok).load in
     ltb-true l.done l.len
     (and_right (not s.ready) _ (and_right (eqb s.len l.len) _ (and_right (holds s.key l.key) _ (and_right (is_run (kind_of s)) _ load))))
 
@@ -342,11 +323,11 @@ entry_next (Next.Ready i) q = absurd (true≢false (sym q))
 entry_next Next.Missing q = absurd (true≢false (sym q))
 entry_next Next.NoPages q = absurd (true≢false (sym q))
 
-chunk_next : (c : Cache) (key : TileKey) (l : Loading) → c.loading ≡ MaybeLoading.Tile l → is_chunk (next_step c key) ≡ true → next_step c key ≡ Next.Chunk l
+chunk_next : (c : Cache) (key : TileKey) (l : Loading) → c.loading ≡ Some l → is_chunk (next_step c key) ≡ true → next_step c key ≡ Next.Chunk l
 chunk_next c key l q t = by (next_step c key) refl t
   where
     by : (n : Next) → next_step c key ≡ n → is_chunk n ≡ true → n ≡ Next.Chunk l
-    by (Next.Chunk m) r t = let s : c.loading ≡ MaybeLoading.Tile m = next_chunk key m c r in let same : m ≡ l = cc in ap Next.Chunk same
+    by (Next.Chunk m) r t = let s : c.loading ≡ Some m = next_chunk key m c r in let same : m ≡ l = cc in ap Next.Chunk same
     by Next.Entry r t = absurd (true≢false (sym t))
     by (Next.Ready i) r t = absurd (true≢false (sym t))
     by Next.Missing r t = absurd (true≢false (sym t))
@@ -366,43 +347,43 @@ module _ (e : Engine) (arena : List ℕ) (ok : engine_ok e (length arena) ≡ tr
   fetch_open = (apart e (length arena) ok).pending
 
   -- the read of the tile needed
-  part_taken : (key : TileKey) (n : Next) → is_ready e.shared.phase ≡ true → e.follower.due.need ≡ MaybeKey.Key key → next_step c₁ key ≡ n
+  part_taken : (key : TileKey) (n : Next) → is_ready e.shared.phase ≡ true → e.follower.due.need ≡ Some key → next_step c₁ key ≡ n
       → is_read n ≡ true → Loads.read_len n ≡ len → 0 < len → is_refused (part_came e arena key failure bs).answer ≡ false
   unfolding part_came
   part_taken key n ready need q reads size some =
-      let held : need_ok e.shared (MaybeKey.Key key) ≡ true = rw need at need_held in
+      let held : need_ok e.shared (Some key) ≡ true = rw need at need_held in
       let grid : in_grid h₁ key ≡ true = rw (ready_is e.shared.phase ready) at held in
       rw (q, grid, size, read_fits len failure bs some answer)
       (loaded_taken e (Loads.stepped c₁ n arena h₁ key failure bs).answer _ (read_taken c₁ arena h₁ key failure bs n reads))
 
-  entry_taken : (key : TileKey) → c₁.pending ≡ Pending.Entry key → 8 ≡ len → (x : MaybeKey) → e.follower.due.need ≡ x
+  entry_taken : (key : TileKey) → c₁.pending ≡ Pending.Entry key → 8 ≡ len → (x : Option TileKey) → e.follower.due.need ≡ x
       → is_refused (need_came_by x e arena failure bs).answer ≡ false
-  entry_taken key p size MaybeKey.Nothing need =
+  entry_taken key p size None need =
       absurd (true≢false (sym (and_right (is_ready e.shared.phase) false (rw (p, need) at fetch_open))))
-  entry_taken key p size (MaybeKey.Key k) need =
+  entry_taken key p size (Some k) need =
       let fits : (is_ready e.shared.phase && same_key k key) ≡ true = rw (p, need) at fetch_open in
       let same : k ≡ key = same_key_lem k key (and_right (is_ready e.shared.phase) _ fits) in
       let entry : is_entry (next_step c₁ k) ≡ true
       = rw same (open_fits c₁ k (state_is e (length arena) ok) (Pending.Entry key) p) in
       part_taken k Next.Entry (and_left (is_ready e.shared.phase) _ fits) need (entry_next (next_step c₁ k) entry) refl size (omega (arith, size))
 
-  chunk_taken : (l : Loading) → c₁.pending ≡ Pending.Chunk → c₁.loading ≡ MaybeLoading.Tile l → Loads.chunk_len l ≡ len → (x : MaybeKey)
+  chunk_taken : (l : Loading) → c₁.pending ≡ Pending.Chunk → c₁.loading ≡ Some l → Loads.chunk_len l ≡ len → (x : Option TileKey)
       → e.follower.due.need ≡ x → is_refused (need_came_by x e arena failure bs).answer ≡ false
-  chunk_taken l p q size MaybeKey.Nothing need =
+  chunk_taken l p q size None need =
       absurd (true≢false (sym (and_right (is_ready e.shared.phase) false (rw (p, need, q) at fetch_open))))
-  chunk_taken l p q size (MaybeKey.Key k) need =
+  chunk_taken l p q size (Some k) need =
       let fits : (is_ready e.shared.phase && same_key k l.key) ≡ true = rw (p, need, q) at fetch_open in
       let same : k ≡ l.key = same_key_lem k l.key (and_right (is_ready e.shared.phase) _ fits) in
       let wants : is_chunk (next_step c₁ l.key) ≡ true
-      = sym (ap (λ (y : MaybeLoading). wants_chunk_of y c₁) q) ∙ open_fits c₁ k (state_is e (length arena) ok) Pending.Chunk p in
+      = sym (ap (λ (y : Option Loading). wants_chunk_of y c₁) q) ∙ open_fits c₁ k (state_is e (length arena) ok) Pending.Chunk p in
       let next : next_step c₁ k ≡ Next.Chunk l = rw same (chunk_next c₁ l.key l q wants) in
       let some : 0 < Loads.chunk_len l = chunk_some l (load_left c₁ l (state_is e (length arena) ok) q) in
       part_taken k (Next.Chunk l) (and_left (is_ready e.shared.phase) _ fits) need next refl size (omega (arith, size, some))
 
-  chunk_open : (x : MaybeLoading) → c₁.pending ≡ Pending.Chunk → c₁.loading ≡ x → chunk_request x ≡ Status.Fetch offset len
+  chunk_open : (x : Option Loading) → c₁.pending ≡ Pending.Chunk → c₁.loading ≡ x → chunk_request x ≡ Status.Fetch offset len
       → is_refused (need_came_by e.follower.due.need e arena failure bs).answer ≡ false
-  chunk_open MaybeLoading.Nothing p q asks = let z : ◌≡◌ {A = ℕ} 0 1 = cc in absurd (omega arith)
-  chunk_open (MaybeLoading.Tile l) p q asks = chunk_taken l p q (cc) e.follower.due.need refl
+  chunk_open None p q asks = let z : ◌≡◌ {A = ℕ} 0 1 = cc in absurd (omega arith)
+  chunk_open (Some l) p q asks = chunk_taken l p q (cc) e.follower.due.need refl
 
   open_taken : (x : Pending) → c₁.pending ≡ x → request_of e.shared x ≡ Status.Fetch offset len → is_refused (delivered_by x e arena failure bs).answer ≡ false
   open_taken Pending.Nothing p asks = let z : ◌≡◌ {A = ℕ} 0 1 = cc in absurd (omega arith)
@@ -454,13 +435,13 @@ module _ (e : Engine) (arena pack : List ℕ) where
   abbrev n₁ : Engine
   n₁ = (Calls.step e arena).engine
 
-  range_taken : (offset len : ℕ) (x : Range) → read pack offset len ≡ x → (Calls.step e arena).answer ≡ Status.Fetch offset len
+  range_taken : (offset len : ℕ) (x : Result ℕ Refusal) → read pack offset len ≡ x → (Calls.step e arena).answer ≡ Status.Fetch offset len
       → is_refused (Calls.answered_by x n₁ arena len pack).answer ≡ false
-  range_taken offset len (RangeIs.At at) r a =
+  range_taken offset len (Ok at) r a =
       let there : (at ≡ offset) × (offset + len ≤ length pack) = read_at pack offset len r in
       let size : length (pack_bytes pack at len) ≡ len = simp (length-take, length-drop) (omega arith) in
       answer_taken n₁ arena (step_ok e arena (length arena) (step_runs e arena a)) offset len 0 (pack_bytes pack at len) (whole refl size) (step_open e arena a)
-  range_taken offset len (RangeIs.Refused number) r a =
+  range_taken offset len (Err number) r a =
       answer_taken n₁ arena (step_ok e arena (length arena) (step_runs e arena a)) offset len 2 [] (short refl) (step_open e arena a)
 
   from_refused : (a : Status) → (Calls.step e arena).answer ≡ a → Kept e arena 0 [] (Calls.step_from_by a (Calls.step e arena) arena pack)

@@ -3,6 +3,7 @@
 -- a tile of the grid, since a tile beside it is checked before it is looked up and every choice is of a tile looked up; a sample is counted only
 -- where it is written; and only a stale lookup ends a walk with 12. One pass shows all three (`forecast_in`), of any property of keys in the
 -- grid's place.
+use Rattle.std.proofs.Common.{Option, Some, None}
 use Prim.Native.Nat.{ℕ, zero, suc, ◌+◌, ◌-◌, ◌<◌, ◌≤◌}
 use mathlib.Core.Path.{◌≡◌, refl, subst, ◌∙◌}
 use mathlib.Core.Bool.{Bool, true, false, ◌&&◌, cond}
@@ -19,8 +20,6 @@ use Rattle.num.specs.Order.{is_finite}
 use Rattle.num.proofs.FoldLaws.{up_keeps}
 use Rattle.pack.specs.Grid.{in_grid, checked_of}
 use Rattle.pack.specs.declared.Header.{Header}
-use Rattle.pack.specs.declared.Keyed.{Keyed}
-use Rattle.pack.specs.declared.Keyed.TheVariants as Keyed
 use Rattle.pack.specs.declared.TileKey.{TileKey}
 use Rattle.pack.proofs.Laws.{row_below, col_below, checked_in_grid}
 use Rattle.cache.specs.Runs.{span}
@@ -28,14 +27,10 @@ use Rattle.cache.proofs.Below.{below_or, same_or}
 use Rattle.tile.specs.Layout as Layout
 use Rattle.tile.specs.Readers.{node_at}
 use Rattle.tile.specs.declared.Edge.{Edge}
-use Rattle.tile.specs.declared.Found.{Found}
-use Rattle.tile.specs.declared.Found.TheVariants as Found
 use Rattle.geo.specs.Flat.{whole}
 use Rattle.geo.specs.declared.Point.{Point}
 use Rattle.cache.specs.Direct.{Look, ready, missing, absent, stale}
 use Rattle.matcher.specs.Score.{same_id}
-use Rattle.matcher.specs.declared.Forward.{Forward}
-use Rattle.matcher.specs.declared.Forward.TheVariants as Forward
 use Rattle.matcher.specs.declared.Matched.{Matched}
 use Rattle.predict.specs.Samples.{Pushed, sample_at, push_from, pushed}
 use Rattle.predict.specs.declared.Mark.{Mark}
@@ -66,7 +61,6 @@ use Rattle.predict.specs.declared.Arrival.{Arrival}
 use Rattle.predict.specs.declared.Decision.{Decision}
 use Rattle.predict.specs.declared.End.TheVariants as End
 use Rattle.predict.specs.declared.Ending.{Ending}
-use Rattle.predict.specs.declared.Ending.TheVariants as Ending
 use Rattle.predict.specs.Walk.{with_ending, reached, taken, on_road, with_entry, Onto, entered, is_round, turned, incoming_of, node_of}
 use Rattle.predict.specs.Walk.{arrival_of, next_look, Run, taken_by, decided_over, onward_by, onward_over, ways_over, crossed_over, goes_on, leg_of, along}
 use Rattle.predict.specs.Walk.{stopped, run_of, begun, driven, edge_look, edge_step, walk_to}
@@ -74,7 +68,6 @@ use Rattle.predict.specs.declared.Walk.{Walk}
 use Rattle.predict.specs.Predict.{track_from, walk_from, prediction, outcome_by, outcome, Forecast, trip_of, road_over, start_look, directed_over, forecast_over}
 use Rattle.predict.specs.Predict.{predict_over}
 use Rattle.predict.specs.declared.Outcome.{Outcome}
-use Rattle.predict.specs.declared.Outcome.TheVariants as Outcome
 use Rattle.predict.specs.declared.Prediction.{Prediction}
 
 -- ---- the samples
@@ -185,7 +178,7 @@ module _ (In : TileKey → Type 0) (Never : Type 0) (origin_in : (key : TileKey)
 
   -- a key in the grid has the property
   abbrev Checked : Header → Type 0
-  Checked h = (row col : ℤ) (key : TileKey) → checked_of h row col ≡ Keyed.In key → In key
+  Checked h = (row col : ℤ) (key : TileKey) → checked_of h row col ≡ Some key → In key
 
   abbrev NotStale : {S : Type 0} → Reader S → Type 0
   NotStale {S} rd = (s : S) (key : TileKey) → rd.at s key ≡ stale → Never
@@ -224,10 +217,10 @@ module _ (In : TileKey → Type 0) (Never : Type 0) (origin_in : (key : TileKey)
       let entry = Layout.entry_of bs (Layout.adjacency_start bs node + i) in
       either_choices (is_way_on a v bs key entry) _ d (push_in d (choice_of a bs key entry) good is_in_grid) good)
 
-  at_in : (x : Found) (c : Choices) (a : Arrival) (v : List ℕ) (bs : List ℕ) (key : TileKey) → ChoicesIn c → In key
+  at_in : (x : Option ℕ) (c : Choices) (a : Arrival) (v : List ℕ) (bs : List ℕ) (key : TileKey) → ChoicesIn c → In key
       → ChoicesIn (consider_by x c a v bs key)
-  at_in (Found.At node) c a v bs key all is_in_grid = consider_in c a v bs key node all is_in_grid
-  at_in Found.Nothing c a v bs key all is_in_grid = all
+  at_in (Some node) c a v bs key all is_in_grid = consider_in c a v bs key node all is_in_grid
+  at_in None c a v bs key all is_in_grid = all
 
   -- ---- the tiles that share the node
 
@@ -244,11 +237,10 @@ module _ (In : TileKey → Type 0) (Never : Type 0) (origin_in : (key : TileKey)
     twin_look_in absent x key twin never is_in_grid good = record { choices = good.choices; need = is_in_grid }
     twin_look_in stale x key twin never is_in_grid good = record { choices = good.choices; need = never refl }
 
-    twin_key_in : (k : Keyed) (row col : ℤ) (x : Ways S) (twin : Twin) → checked_of a.header row col ≡ k → WaysIn x → WaysIn (twin_key rd a v k x twin)
-    twin_key_in (Keyed.In key) row col x twin e good =
+    twin_key_in : (k : Option TileKey) (row col : ℤ) (x : Ways S) (twin : Twin) → checked_of a.header row col ≡ k → WaysIn x → WaysIn (twin_key rd a v k x twin)
+    twin_key_in (Some key) row col x twin e good =
         twin_look_in (rd.at x.carried key) x key twin (fresh x.carried key) (checked row col key e) good
-    twin_key_in Keyed.Outside row col x twin e good = record { choices = good.choices; need = good.need }
-    twin_key_in (Keyed.Refused number) row col x twin e good = good
+    twin_key_in None row col x twin e good = record { choices = good.choices; need = good.need }
 
     going_in : (ending : Ending) (x : Ways S) (twin : Twin) → WaysIn x → WaysIn (going_over rd a v ending x twin)
     going_in Ending.Going x twin good =
@@ -473,10 +465,10 @@ module _ (In : TileKey → Type 0) (Never : Type 0) (origin_in : (key : TileKey)
     look_road absent never h checked m forward horizon s is_in_grid = is_in_grid
     look_road stale never h checked m forward horizon s is_in_grid = λ e. never refl
 
-    directed_road : (forward : Forward) (h : Header) → Checked h → (m : Matched) (horizon : Float) (s : S) → In m.tile.key
+    directed_road : (forward : Option Bool) (h : Header) → Checked h → (m : Matched) (horizon : Float) (s : S) → In m.tile.key
         → Ends In Never a b (directed_over rd n forward h m horizon s samples behind).answer
-    directed_road Forward.Unknown h checked m horizon s is_in_grid = (omega arith, omega arith)
-    directed_road (Forward.Is forward) h checked m horizon s is_in_grid =
+    directed_road None h checked m horizon s is_in_grid = (omega arith, omega arith)
+    directed_road (Some forward) h checked m horizon s is_in_grid =
         look_road (rd.at s m.tile.key) (fresh s m.tile.key) h checked m forward horizon s is_in_grid
 
     forecast_in : (h : Header) → Checked h → (m : Matched) (horizon : Float) (s : S) → In m.tile.key

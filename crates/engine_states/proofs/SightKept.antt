@@ -1,5 +1,8 @@
 -- A fix that is a point keeps the sight within what number 12 allows (`seen_kept`): at most sixteen places, each a point, and a heading between
 -- -360 and 360. The idea: every place afterwards is one from before or the new one, and a bearing is rounded from at most 360 degrees.
+use Rattle.refusal.specs.declared.Refusal.{Refusal}
+use Rattle.std.specs.Prelude.{Option, Some, None}
+use Rattle.std.specs.Prelude.{is_some}
 use Prim.Native.Nat.{ℕ, zero, suc, ◌+◌, ◌-◌, ◌*◌, ◌<◌, ◌≤◌}
 use mathlib.Core.Path.{◌≡◌, refl, sym, ap}
 use mathlib.Core.Bool.{Bool, true, false, ◌&&◌, ◌||◌, not, cond, true≢false}
@@ -13,23 +16,20 @@ use lib.Ieee.Fits.{down_pos}
 use lib.ListN.{length, get_or, set, take, drop, length-append, length-take, length-drop, get_or-eq_default, get_or-append}
 use lib.Seq.{set_out, get_or-set_same, get_or-set_other, get_or-take, get_or-drop}
 use borrow.Author.Tests.{ltb-true, ltb-false, eqb-true, eqb-false, lt-ltb, le-leb}
+use Rattle.std.specs.Prelude.{Ok, Err}
 use Rattle.num.specs.Order.{is_finite, is_sign_negative}
 use Rattle.angle.specs.Bearing as Bearing
 use Rattle.angle.specs.Cosine.{lon_scale_um}
-use Rattle.angle.specs.declared.Degrees.TheVariants as Degrees
 use Rattle.angle.proofs.Arc.{arc_most}
 use Rattle.pack.specs.Grid.{is_point}
 use Rattle.pack.proofs.Laws.{and_left, and_right}
-use Rattle.cache.specs.declared.victim.Found.{Found}
-use Rattle.cache.specs.declared.victim.Found.TheVariants as Found
 use Rattle.cache.proofs.Below.{below_or, same_or}
 use Rattle.geo.specs.Flat.{whole, is_heading, bearing_of, figure_of}
 use Rattle.geo.specs.declared.Point.{Point}
 use Rattle.geo.proofs.Settled.{Spans, round_spans}
-use Rattle.cache.specs.Search.{lowest, is_found}
+use Rattle.cache.specs.Search.{lowest}
 use Rattle.cache.proofs.SearchLaws.{lowest_none}
 use Rattle.matcher.specs.declared.Heading.{Heading}
-use Rattle.matcher.specs.declared.Heading.TheVariants as Heading
 use Rattle.matcher.specs.State.{heading_ok}
 use Rattle.engine.specs.Fixes.{no_point, place_at, shifted, push, moved_from, place_of, course_by, course_of, seen}
 use Rattle.engine.specs.declared.Fix.{Fix}
@@ -113,7 +113,7 @@ pub bearing_heading : (east north : Float) → is_heading (bearing_of east north
 unfolding bearing_of Bearing.bearing of_int
 bearing_heading east north = by (is_finite east && is_finite north)
   where
-    by : (t : Bool) → is_heading (figure_of (cond t (Degrees.At (Bearing.degrees east north)) (Degrees.Refused 8))) ≡ true
+    by : (t : Bool) → is_heading (figure_of (cond t (Ok (Bearing.degrees east north)) (Err Refusal.OutOfRange))) ≡ true
     by true = degrees_heading east north
     by false = spans_heading (whole 0) (round_spans false 0 1 360 360 (omega arith) (omega arith) (omega arith))
 
@@ -151,7 +151,7 @@ shifted_place h i below next =
     rw (get_or-eq_default (drop 1 (take 16 v) ++ drop 15 v) no_point {n = i} (rw length-append (omega arith))))
     (below_or i (length (drop 1 (take 16 v))))
 
-none_found : (p : ℕ → Bool) (n : ℕ) → ((i : ℕ) → i < n → p i ≡ false) → lowest p n ≡ Found.Nothing
+none_found : (p : ℕ → Bool) (n : ℕ) → ((i : ℕ) → i < n → p i ≡ false) → lowest p n ≡ None
 unfolding lowest
 none_found p zero none = refl
 none_found p (suc n) none = rw (none_found p n (λ (i : ℕ) (h : i < n). none i (omega arith)), none n (omega arith))
@@ -159,13 +159,13 @@ none_found p (suc n) none = rw (none_found p n (λ (i : ℕ) (h : i < n). none i
 places_from : (h : Places) → h.len ≤ 16 → ((i : ℕ) → i < h.len → IsPlace (place_at h i)) → places_ok h ≡ true
 unfolding places_ok IsPlace
 places_from h most all =
-    let none : lowest (λ (i : ℕ). not (is_point (place_at h i).lat (place_at h i).lon)) h.len ≡ Found.Nothing
+    let none : lowest (λ (i : ℕ). not (is_point (place_at h i).lat (place_at h i).lon)) h.len ≡ None
     = none_found _ h.len (λ (i : ℕ) (k : i < h.len). ap not (all i k)) in
     rw (le-leb h.len 16 most, none)
 
-nothing_found : (x : Found) → not (is_found x) ≡ true → x ≡ Found.Nothing
-nothing_found Found.Nothing e = refl
-nothing_found (Found.At i) e = absurd (true≢false (sym e))
+nothing_found : (x : Option ℕ) → not (is_some x) ≡ true → x ≡ None
+nothing_found None e = refl
+nothing_found (Some i) e = absurd (true≢false (sym e))
 
 not-not : (t : Bool) → not t ≡ false → t ≡ true
 not-not true e = refl
@@ -178,8 +178,8 @@ module _ (h : Places) (ok : places_ok h ≡ true) where
   place_is : (i : ℕ) → i < h.len → IsPlace (place_at h i)
   unfolding places_ok IsPlace
   place_is i k =
-      let none : lowest is_none h.len ≡ Found.Nothing
-      = nothing_found (lowest is_none h.len) (and_right (leb h.len 16) (not (is_found (lowest is_none h.len))) ok) in
+      let none : lowest is_none h.len ≡ None
+      = nothing_found (lowest is_none h.len) (and_right (leb h.len 16) (not (is_some (lowest is_none h.len))) ok) in
       not-not (is_point (place_at h i).lat (place_at h i).lon) (lowest_none is_none h.len none i k)
 
   push_kept : (here : Point) → IsPlace here → places_ok (push h here) ≡ true
@@ -198,9 +198,9 @@ module _ (h : Places) (ok : places_ok h ≡ true) where
 
 -- ---- the sight
 
-course_kept : (x : Found) (s : Sight) (fix : Fix) (lon_um : ℕ) → heading_ok s.heading ≡ true → heading_ok (course_by x s fix lon_um).heading ≡ true
-course_kept Found.Nothing s fix lon_um ok = ok
-course_kept (Found.At i) s fix lon_um ok = bearing_heading _ _
+course_kept : (x : Option ℕ) (s : Sight) (fix : Fix) (lon_um : ℕ) → heading_ok s.heading ≡ true → heading_ok (course_by x s fix lon_um).heading ≡ true
+course_kept None s fix lon_um ok = ok
+course_kept (Some i) s fix lon_um ok = bearing_heading _ _
 
 fresh_kept : (t : Bool) (d : Heading) → heading_ok d ≡ true → heading_ok (cond t Heading.Nothing d) ≡ true
 fresh_kept true d ok = refl

@@ -8,44 +8,31 @@ use mathlib.Core.Logic.{◌⊎◌, inl, inr}
 use borrow.Author.Tests.{eqb-true, eqb-false}
 use lib.Dec.{eqb, leb}
 use lib.ListN.{length}
+use Rattle.std.specs.Prelude.{Ok, Option, Some, None, Result, Err}
+use Rattle.refusal.specs.Refusal.{number_of}
+use Rattle.refusal.specs.declared.Refusal.{Refusal}
 use Rattle.pack.specs.Grid.{key_of, entry_of, in_grid, read}
 use Rattle.pack.specs.Sector.{parse, rules}
-use Rattle.pack.specs.declared.Answer as Sector
-use Rattle.pack.specs.declared.Answer.TheVariants as SectorIs
 use Rattle.pack.specs.declared.Header.{Header}
-use Rattle.pack.specs.declared.Keyed.{Keyed}
-use Rattle.pack.specs.declared.Keyed.TheVariants as Keyed
-use Rattle.pack.specs.declared.Range.{Range}
-use Rattle.pack.specs.declared.Range.TheVariants as RangeIs
 use Rattle.pack.specs.declared.TileKey.{TileKey}
 use Rattle.pack.proofs.Laws.{read_at}
-use Rattle.cache.specs.declared.MaybeKey.{MaybeKey}
-use Rattle.cache.specs.declared.MaybeKey.TheVariants as MaybeKey
 use Rattle.cache.specs.Lookups.{passes, len_at, next_step}
 use Rattle.cache.proofs.Below.{and_left, and_right}
 use Rattle.cache.specs.Keys.{holds}
 use Rattle.cache.specs.State.{pending_fits, wants_chunk_of, is_entry, is_chunk, state_ok, arena_ok, cache_ok, entry_in}
 use Rattle.cache.specs.declared.Cache.{Cache}
 use Rattle.cache.specs.declared.Loading.{Loading}
-use Rattle.cache.specs.declared.MaybeLoading.{MaybeLoading}
-use Rattle.cache.specs.declared.MaybeLoading.TheVariants as MaybeLoading
 use Rattle.cache.specs.declared.Pending.{Pending}
-use Rattle.cache.specs.declared.Pending.TheVariants as Pending
 use Rattle.cache.specs.declared.next.Next.{Next}
-use Rattle.cache.specs.declared.next.Next.TheVariants as Next
 use Rattle.cache.specs.Loads as Loads
 use Rattle.cache.specs.Loads.{pack_bytes, fetched, read_len, takes, told, chunk_offset, chunk_len}
 use Rattle.cache.specs.Calls as Loaded
-use Rattle.cache.specs.declared.Request.{Request}
-use Rattle.cache.specs.declared.Request.TheVariants as Request
 use Rattle.cache.proofs.FromLaws.{next_chunk}
 use Rattle.matcher.specs.declared.Current.{Current}
-use Rattle.matcher.specs.declared.Current.TheVariants as Current
 use Rattle.matcher.specs.declared.Matched.{Matched}
 use Rattle.engine.specs.declared.Fix.{Fix}
 use Rattle.engine.specs.declared.Follower.{Follower}
 use Rattle.engine.specs.declared.MaybeFix.{MaybeFix}
-use Rattle.engine.specs.declared.MaybeFix.TheVariants as MaybeFix
 use Rattle.engine.specs.State.{refused, is_ready, header_ok, shared_ok, need_ok, pending_by, reload_limit, engine_ok}
 use Rattle.engine.specs.Work as Work
 use Rattle.engine.specs.Work.{counted, ended, match_ended, match_step, road_ended_by, road_step, road_due_by, at_fix, at_fix_by, worked_by, worked, with_due, road_off}
@@ -54,25 +41,22 @@ use Rattle.engine.specs.Steps.{chunk_request, request_of, ready_by, started_by, 
 use Rattle.engine.specs.Calls as Engines
 use Rattle.engine.specs.declared.Engine.{Engine}
 use Rattle.engine.specs.declared.Phase.{Phase}
-use Rattle.engine.specs.declared.Phase.TheVariants as Phase
 use Rattle.engine.specs.declared.Status.{Status}
-use Rattle.engine.specs.declared.Status.TheVariants as Status
 use Rattle.engine.specs.declared.Stepped.{Stepped}
 use Rattle.engine.proofs.FetchLaws.{with_open}
 use Rattle.engine.proofs.NeedLaws.{settled, opened_at, need_by, need_is, part_is}
 use Rattle.engine.proofs.TestedLaws.{state_in, need_in}
 use Rattle.engine_states.proofs.CacheKept.{ok_parts, next_key}
 use Rattle.engine_states.proofs.EngineKept.{same_key_lem}
-use Rattle.engine_states.proofs.KeptParts.{Ok, apart}
+use Rattle.engine_states.proofs.KeptParts.{EngineOk, apart}
 use Rattle.engine_states.specs.Tasks.{is_open, open_read, Task, none, off_map, match, road, road_task, grid_task, fix_task, need_task, phase_task, open_task, task_of, match_of, road_at}
 
 -- ---- a step
 
 -- a fix that is not on the map
-abbrev pub OffGrid : Keyed → Type 0
-OffGrid (Keyed.In key) = ⊥
-OffGrid Keyed.Outside = Unit
-OffGrid (Keyed.Refused number) = Unit
+abbrev pub OffGrid : Option TileKey → Type 0
+OffGrid (Some key) = ⊥
+OffGrid None = Unit
 
 -- the fix that a step works at, in phase Ready
 pub record Works (e : Engine) (f : Fix) : Type 0 where
@@ -103,7 +87,7 @@ pub data Steps (e : Engine) (arena : List ℕ) : Task → Stepped → Type 0 whe
   spoils : (key : TileKey) (i : ℕ) → e.shared.phase ≡ Phase.Ready → next_step e.shared.cache key ≡ Next.Ready i
       → passes arena i (len_at e.shared.cache i) key e.shared.header.tile ≡ false → Steps e arena none (refused e 12)
   arrives : (key : TileKey) (n : Next) → e.shared.phase ≡ Phase.Ready → next_step e.shared.cache key ≡ n
-      → fetched e.shared.cache n arena e.shared.header key ≡ Request.Settled → Steps e arena none (arrived e (settled e.shared.cache n key))
+      → fetched e.shared.cache n arena e.shared.header key ≡ Ok None → Steps e arena none (arrived e (settled e.shared.cache n key))
   -- nothing to do
   rests : (f : Follower) → Same e.follower f → Rests e.follower f
       → (e.follower.sight.fix ≡ MaybeFix.Nothing) ⊎ ((f.due.matching ≡ false) × (f.due.road ≡ false))
@@ -111,9 +95,9 @@ pub data Steps (e : Engine) (arena : List ℕ) : Task → Stepped → Type 0 whe
   -- off the map; a match; a road
   leaves : (f : Fix) → Works e f → OffGrid (key_of e.shared.header f.lat f.lon)
       → Steps e arena (off_map f) (ended e e.shared.cache (Work.off_map (counted e.follower) f) Status.OffMap)
-  matches : (f : Fix) (key : TileKey) → Works e f → key_of e.shared.header f.lat f.lon ≡ Keyed.In key → e.follower.due.matching ≡ true
+  matches : (f : Fix) (key : TileKey) → Works e f → key_of e.shared.header f.lat f.lon ≡ Some key → e.follower.due.matching ≡ true
       → Steps e arena (match f) (match_ended e (counted e.follower) f (match_of e arena f))
-  follows : (f : Fix) (key : TileKey) (found : Matched) → Works e f → key_of e.shared.header f.lat f.lon ≡ Keyed.In key
+  follows : (f : Fix) (key : TileKey) (found : Matched) → Works e f → key_of e.shared.header f.lat f.lon ≡ Some key
       → e.follower.matcher.current ≡ Current.Is found
       → Steps e arena (road f found)
       (road_ended_by (road_at e arena found).predicted.answer e (counted e.follower) f found (road_at e arena found))
@@ -121,7 +105,7 @@ pub data Steps (e : Engine) (arena : List ℕ) : Task → Stepped → Type 0 whe
 -- the chunk that the next step reads is one that may be open
 chunk_fits : (c : Cache) (key : TileKey) (l : Loading) → next_step c key ≡ Next.Chunk l → pending_fits Pending.Chunk c ≡ true
 chunk_fits c key l q =
-    ap (λ (x : MaybeLoading). wants_chunk_of x c) (next_chunk key l c q) ∙ ap (λ (k : TileKey). is_chunk (next_step c k)) (next_key key l c q) ∙ ap is_chunk q
+    ap (λ (x : Option Loading). wants_chunk_of x c) (next_chunk key l c q) ∙ ap (λ (k : TileKey). is_chunk (next_step c k)) (next_key key l c q) ∙ ap is_chunk q
 
 module _ (e : Engine) (arena : List ℕ) where
   abbrev Goes : Task → Stepped → Type 0
@@ -139,7 +123,7 @@ module _ (e : Engine) (arena : List ℕ) where
   -- ---- the work of a step
 
   module _ (f : Fix) (w : Works e f) where
-    road_is : (key : TileKey) (x : Current) → key_of e.shared.header f.lat f.lon ≡ Keyed.In key → e.follower.matcher.current ≡ x
+    road_is : (key : TileKey) (x : Current) → key_of e.shared.header f.lat f.lon ≡ Some key → e.follower.matcher.current ≡ x
         → e.follower.due.matching ≡ false → Goes (road_task x f) (road_due_by x e arena f₁ f)
     unfolding road_step
     road_is key Current.Nothing k q m =
@@ -147,7 +131,7 @@ module _ (e : Engine) (arena : List ℕ) where
         (record { matching = refl; road = inr (refl, q) }) (inr (m, refl))
     road_is key (Current.Is found) k q m = follows f key found w k q
 
-    due_is : (key : TileKey) (s t : Bool) → e.follower.due.matching ≡ s → e.follower.due.road ≡ t → key_of e.shared.header f.lat f.lon ≡ Keyed.In key
+    due_is : (key : TileKey) (s t : Bool) → e.follower.due.matching ≡ s → e.follower.due.road ≡ t → key_of e.shared.header f.lat f.lon ≡ Some key
         → Goes (cond s (match f) (cond t (road_task e.follower.matcher.current f) none))
         (cond s (match_step e arena f₁ f) (cond t (road_due_by e.follower.matcher.current e arena f₁ f) (ended e e.shared.cache f₁ Status.Idle)))
     unfolding match_step
@@ -155,10 +139,9 @@ module _ (e : Engine) (arena : List ℕ) where
     due_is key false true m r k = road_is key e.follower.matcher.current k refl m
     due_is key false false m r k = rests f₁ counted_same counted_rests (inr (m, r))
 
-    grid_is : (x : Keyed) → key_of e.shared.header f.lat f.lon ≡ x → Goes (grid_task x e.follower f) (at_fix_by x e arena f₁ f)
-    grid_is (Keyed.In key) k = due_is key e.follower.due.matching e.follower.due.road refl refl k
-    grid_is Keyed.Outside k = leaves f w (rw k tt)
-    grid_is (Keyed.Refused number) k = leaves f w (rw k tt)
+    grid_is : (x : Option TileKey) → key_of e.shared.header f.lat f.lon ≡ x → Goes (grid_task x e.follower f) (at_fix_by x e arena f₁ f)
+    grid_is (Some key) k = due_is key e.follower.due.matching e.follower.due.road refl refl k
+    grid_is None k = leaves f w (rw k tt)
 
   module _ (idle : e.shared.cache.pending ≡ Pending.Nothing) (ready : e.shared.phase ≡ Phase.Ready) where
     work_is : (x : MaybeFix) → e.follower.sight.fix ≡ x → Goes (fix_task x e) (worked_by x e arena f₁)
@@ -172,7 +155,7 @@ module _ (e : Engine) (arena : List ℕ) where
     module _ (key : TileKey) where
       settles_by : (i : ℕ) (t : Bool) → next_step e.shared.cache key ≡ Next.Ready i
           → passes arena i (len_at e.shared.cache i) key e.shared.header.tile ≡ t
-          → Goes none (need_by (cond t Request.Settled (Request.Refused 12)) (Next.Ready i) e key)
+          → Goes none (need_by (cond t (Ok None) (Err Refusal.BadState)) (Next.Ready i) e key)
       settles_by i true q p = arrives key (Next.Ready i) ready q (rw p)
       settles_by i false q p = spoils key i ready q p
 
@@ -185,12 +168,12 @@ module _ (e : Engine) (arena : List ℕ) where
       needs_by (Next.Chunk l) q =
           opens Pending.Chunk (chunk_offset l) (chunk_len l) refl (chunk_fits e.shared.cache key l q) (ap chunk_request (next_chunk key l e.shared.cache q))
 
-    ready_is : engine_ok e (length arena) ≡ true → (x : MaybeKey) → e.follower.due.need ≡ x → Goes (need_task x e) (ready_by x e arena)
+    ready_is : engine_ok e (length arena) ≡ true → (x : Option TileKey) → e.follower.due.need ≡ x → Goes (need_task x e) (ready_by x e arena)
     unfolding worked
-    ready_is ok (MaybeKey.Key key) q =
+    ready_is ok (Some key) q =
         subst (Goes none) (sym (need_is e arena key (need_in e (length arena) ok key ready q) (state_in e (length arena) ok)))
         (needs_by key (next_step e.shared.cache key) refl)
-    ready_is ok MaybeKey.Nothing q = work_is e.follower.sight.fix refl
+    ready_is ok None q = work_is e.follower.sight.fix refl
 
   phase_is : engine_ok e (length arena) ≡ true → (x : Phase) → e.shared.cache.pending ≡ Pending.Nothing → e.shared.phase ≡ x
       → Goes (phase_task x e) (started_by x e arena)
@@ -219,7 +202,7 @@ pub record Brings (e : Engine) (arena : List ℕ) (key : TileKey) (failure : ℕ
   pub takes : takes (next_step e.shared.cache key) e.shared.header key failure (length bs) ≡ true
   pub offset : ℕ
   pub len : ℕ
-  pub fetches : Loaded.fetch e.shared.cache arena e.shared.header key ≡ Request.Read offset len
+  pub fetches : Loaded.fetch e.shared.cache arena e.shared.header key ≡ Ok (Some (offset, len))
   pub asks : open_read e ≡ Status.Fetch offset len
   pub size : failure ≡ 0 → length bs ≡ len
 
@@ -232,8 +215,8 @@ pub data Delivers (e : Engine) (arena : List ℕ) (failure : ℕ) (bs : List ℕ
   refuses : Delivers e arena failure bs (over (refused e 11) arena)
   -- the header's: 1, 2, 3 or 4; it came
   loses : (number : ℕ) → open_read e ≡ Status.Fetch 0 512 → (failure ≡ 0 → length bs ≡ 512) → Delivers e arena failure bs (over (header_failed e number) arena)
-  parses : open_read e ≡ Status.Fetch 0 512 → failure ≡ 0 → length bs ≡ 512 → (parse (sector_of bs)).answer ≡ SectorIs.Accepted
-      → Delivers e arena failure bs (over (with_failures e (with_phase e.shared Phase.Ready (parse (sector_of bs)).header) 0 Status.Working) arena)
+  parses : {h : Header} → open_read e ≡ Status.Fetch 0 512 → failure ≡ 0 → length bs ≡ 512 → parse (sector_of bs) ≡ Ok h
+      → Delivers e arena failure bs (over (with_failures e (with_phase e.shared Phase.Ready h) 0 Status.Working) arena)
   -- a part of the tile needed
   brings : (key : TileKey) → Brings e arena key failure bs
       → Delivers e arena failure bs (over (loaded e (told (brought e arena key failure bs))) (brought e arena key failure bs).arena)
@@ -259,7 +242,7 @@ module _ (e : Engine) (arena : List ℕ) (ok : engine_ok e (length arena) ≡ tr
   abbrev h₁ : Header
   h₁ = e.shared.header
 
-  parts : Ok e.shared e.follower (length arena)
+  parts : EngineOk e.shared e.follower (length arena)
   parts = apart e (length arena) ok
 
   pub state_ok_lem : state_ok c₁ ≡ true
@@ -273,17 +256,17 @@ module _ (e : Engine) (arena : List ℕ) (ok : engine_ok e (length arena) ≡ tr
   need_held = and_right (leb e.follower.due.reloads (reload_limit c₁.pages.count)) _ parts.holds.due
 
   -- an open entry is of the tile needed, which lies in the grid of the header that was read
-  entry_by : (x : Pending) (need : MaybeKey) (phase : Phase) → need_ok (record { phase = phase; header = h₁; cache = c₁ }) need ≡ true
+  entry_by : (x : Pending) (need : Option TileKey) (phase : Phase) → need_ok (record { phase = phase; header = h₁; cache = c₁ }) need ≡ true
       → pending_by x (record { phase = phase; header = h₁; cache = c₁ }) need ≡ true → (h : Header) → (phase ≡ Phase.Ready → h₁ ≡ h) → entry_in x h ≡ true
   entry_by Pending.Nothing need phase r q h same = refl
   entry_by Pending.Header need phase r q h same = refl
   entry_by Pending.Chunk need phase r q h same = refl
-  entry_by (Pending.Entry k) MaybeKey.Nothing Phase.Ready r q h same = absurd (true≢false (sym q))
-  entry_by (Pending.Entry k) MaybeKey.Nothing Phase.Unread r q h same = absurd (true≢false (sym q))
-  entry_by (Pending.Entry k) MaybeKey.Nothing Phase.Failed r q h same = absurd (true≢false (sym q))
-  entry_by (Pending.Entry k) (MaybeKey.Key key) Phase.Unread r q h same = absurd (true≢false (sym q))
-  entry_by (Pending.Entry k) (MaybeKey.Key key) Phase.Failed r q h same = absurd (true≢false (sym q))
-  entry_by (Pending.Entry k) (MaybeKey.Key key) Phase.Ready r q h same = let is : key ≡ k = same_key_lem key k q in rw (← is, ← same refl) r
+  entry_by (Pending.Entry k) None Phase.Ready r q h same = absurd (true≢false (sym q))
+  entry_by (Pending.Entry k) None Phase.Unread r q h same = absurd (true≢false (sym q))
+  entry_by (Pending.Entry k) None Phase.Failed r q h same = absurd (true≢false (sym q))
+  entry_by (Pending.Entry k) (Some key) Phase.Unread r q h same = absurd (true≢false (sym q))
+  entry_by (Pending.Entry k) (Some key) Phase.Failed r q h same = absurd (true≢false (sym q))
+  entry_by (Pending.Entry k) (Some key) Phase.Ready r q h same = let is : key ≡ k = same_key_lem key k q in rw (← is, ← same refl) r
 
   pub entry_is : (h : Header) → (e.shared.phase ≡ Phase.Ready → h₁ ≡ h) → entry_in c₁.pending h ≡ true
   entry_is h same = entry_by c₁.pending e.follower.due.need e.shared.phase need_held parts.pending h same
@@ -296,12 +279,12 @@ module _ (e : Engine) (arena : List ℕ) (ok : engine_ok e (length arena) ≡ tr
         let head : rules h₁ ≡ true = rw ready at (and_right (arena_ok c₁ (length arena)) _ r) in
         rw (state_ok_lem, head, entry_is h₁ (λ z. refl), and_left (arena_ok c₁ (length arena)) _ r)
 
-    module _ (key : TileKey) (need : e.follower.due.need ≡ MaybeKey.Key key) where
+    module _ (key : TileKey) (need : e.follower.due.need ≡ Some key) where
       pub grid_of : in_grid h₁ key ≡ true
       grid_of = rw (ready, need) at need_held
 
       module _ (failure : ℕ) (bs : List ℕ) (fits : takes (next_step c₁ key) h₁ key failure (length bs) ≡ true) where
-        brings_by : (n : Next) (offset len : ℕ) → next_step c₁ key ≡ n → fetched c₁ n arena h₁ key ≡ Request.Read offset len
+        brings_by : (n : Next) (offset len : ℕ) → next_step c₁ key ≡ n → fetched c₁ n arena h₁ key ≡ Ok (Some (offset, len))
             → open_read e ≡ Status.Fetch offset len
             → read_len n ≡ len → Brings e arena key failure bs
         unfolding Loaded.fetch
@@ -319,7 +302,7 @@ module _ (e : Engine) (arena : List ℕ) (ok : engine_ok e (length arena) ≡ tr
 
         entry_brings : (k : TileKey) → c₁.pending ≡ Pending.Entry k → Brings e arena key failure bs
         entry_brings k p =
-            let both : (is_ready e.shared.phase && holds (MaybeKey.Key key) k) ≡ true
+            let both : (is_ready e.shared.phase && holds (Some key) k) ≡ true
             = rw (p, need) at parts.pending in
             let same : key ≡ k = same_key_lem key k (and_right (is_ready e.shared.phase) _ both) in
             let next : next_step c₁ k ≡ Next.Entry = entry_next (next_step c₁ k) (open_fits (Pending.Entry k) p) in
@@ -328,10 +311,10 @@ module _ (e : Engine) (arena : List ℕ) (ok : engine_ok e (length arena) ≡ tr
         chunk_brings : c₁.pending ≡ Pending.Chunk → Brings e arena key failure bs
         chunk_brings p = by c₁.loading refl
           where
-            wants : (x : MaybeLoading) → c₁.loading ≡ x → wants_chunk_of x c₁ ≡ true
-            wants x q = sym (ap (λ (y : MaybeLoading). wants_chunk_of y c₁) q) ∙ open_fits Pending.Chunk p
+            wants : (x : Option Loading) → c₁.loading ≡ x → wants_chunk_of x c₁ ≡ true
+            wants x q = sym (ap (λ (y : Option Loading). wants_chunk_of y c₁) q) ∙ open_fits Pending.Chunk p
 
-            with_next : (l : Loading) (n : Next) → c₁.loading ≡ MaybeLoading.Tile l → next_step c₁ key ≡ n → is_chunk n ≡ true → Brings e arena key failure bs
+            with_next : (l : Loading) (n : Next) → c₁.loading ≡ Some l → next_step c₁ key ≡ n → is_chunk n ≡ true → Brings e arena key failure bs
             with_next l (Next.Chunk m) q r t =
                 brings_by (Next.Chunk m) (chunk_offset m) (chunk_len m) r refl (rw p (ap chunk_request (next_chunk key m c₁ r))) refl
             with_next l Next.Entry q r t = absurd (true≢false (sym t))
@@ -339,13 +322,13 @@ module _ (e : Engine) (arena : List ℕ) (ok : engine_ok e (length arena) ≡ tr
             with_next l Next.Missing q r t = absurd (true≢false (sym t))
             with_next l Next.NoPages q r t = absurd (true≢false (sym t))
 
-            by : (x : MaybeLoading) → c₁.loading ≡ x → Brings e arena key failure bs
-            by MaybeLoading.Nothing q = absurd (true≢false (sym (wants MaybeLoading.Nothing q)))
-            by (MaybeLoading.Tile l) q =
-                let both : (is_ready e.shared.phase && holds (MaybeKey.Key key) l.key) ≡ true
+            by : (x : Option Loading) → c₁.loading ≡ x → Brings e arena key failure bs
+            by None q = absurd (true≢false (sym (wants None q)))
+            by (Some l) q =
+                let both : (is_ready e.shared.phase && holds (Some key) l.key) ≡ true
                 = rw (p, need, q) at parts.pending in
                 let same : key ≡ l.key = same_key_lem key l.key (and_right (is_ready e.shared.phase) _ both) in
-                with_next l (next_step c₁ key) q refl (ap (λ (k : TileKey). is_chunk (next_step c₁ k)) same ∙ wants (MaybeLoading.Tile l) q)
+                with_next l (next_step c₁ key) q refl (ap (λ (k : TileKey). is_chunk (next_step c₁ k)) same ∙ wants (Some l) q)
 
   module _ (failure : ℕ) (bs : List ℕ) where
     abbrev Comes : After → Type 0
@@ -353,15 +336,15 @@ module _ (e : Engine) (arena : List ℕ) (ok : engine_ok e (length arena) ≡ tr
 
     -- ---- the header
 
-    parsed_is : (a : Sector.Answer) → open_read e ≡ Status.Fetch 0 512 → failure ≡ 0 → length bs ≡ 512 → (parse (sector_of bs)).answer ≡ a
-        → Comes (over (header_parsed a e (parse (sector_of bs)).header) arena)
-    parsed_is SectorIs.Accepted o z s q = parses o z s q
-    parsed_is (SectorIs.Refused number) o z s q = loses number o (λ z. s)
+    parsed_is : (x : Result Header Refusal) → open_read e ≡ Status.Fetch 0 512 → failure ≡ 0 → length bs ≡ 512 → parse (sector_of bs) ≡ x
+        → Comes (over (header_parsed x e) arena)
+    parsed_is (Ok h) o z s q = parses o z s q
+    parsed_is (Err refusal) o z s q = loses (number_of refusal) o (λ z. s)
 
     header_is : (t : Bool) → open_read e ≡ Status.Fetch 0 512 → eqb failure 0 ≡ t → fits_header failure (length bs) ≡ true
-        → Comes (over (cond t (header_parsed (parse (sector_of bs)).answer e (parse (sector_of bs)).header) (header_failed e failure)) arena)
+        → Comes (over (cond t (header_parsed (parse (sector_of bs)) e) (header_failed e failure)) arena)
     header_is true o z f =
-        parsed_is (parse (sector_of bs)).answer o (eqb-true failure 0 z) (eqb-true (length bs) 512 (rw z at f)) refl
+        parsed_is (parse (sector_of bs)) o (eqb-true failure 0 z) (eqb-true (length bs) 512 (rw z at f)) refl
     header_is false o z f = loses failure o (λ x. absurd (eqb-false failure 0 z x))
 
     fits_is : (t : Bool) → open_read e ≡ Status.Fetch 0 512 → fits_header failure (length bs) ≡ t
@@ -373,7 +356,7 @@ module _ (e : Engine) (arena : List ℕ) (ok : engine_ok e (length arena) ≡ tr
     -- ---- a part of the tile
 
     module _ (ready : e.shared.phase ≡ Phase.Ready) where
-      part_by : (key : TileKey) → e.follower.due.need ≡ MaybeKey.Key key
+      part_by : (key : TileKey) → e.follower.due.need ≡ Some key
           → ((takes (next_step c₁ key) h₁ key failure (length bs) ≡ true) → Brings e arena key failure bs)
           → (t : Bool) → takes (next_step c₁ key) h₁ key failure (length bs) ≡ t
           → Comes (cond t (over (loaded e (told (Loads.stepped c₁ (next_step c₁ key) arena h₁ key failure bs)))
@@ -386,11 +369,11 @@ module _ (e : Engine) (arena : List ℕ) (ok : engine_ok e (length arena) ≡ tr
           load_steps = rw (cache_is ready, f, grid_of ready key need)
       part_by key need b false f = refuses
 
-      needed_is : (x : MaybeKey) → e.follower.due.need ≡ x
-          → ((key : TileKey) → e.follower.due.need ≡ MaybeKey.Key key → takes (next_step c₁ key) h₁ key failure (length bs) ≡ true → Brings e arena key failure bs)
+      needed_is : (x : Option TileKey) → e.follower.due.need ≡ x
+          → ((key : TileKey) → e.follower.due.need ≡ Some key → takes (next_step c₁ key) h₁ key failure (length bs) ≡ true → Brings e arena key failure bs)
           → Comes (need_came_by x e arena failure bs)
-      needed_is MaybeKey.Nothing q b = refuses
-      needed_is (MaybeKey.Key key) q b =
+      needed_is None q b = refuses
+      needed_is (Some key) q b =
           subst Comes (sym (part_is e arena key failure bs (grid_of ready key q)))
           (part_by key q (b key q) (takes (next_step c₁ key) h₁ key failure (length bs)) refl)
 
@@ -448,12 +431,12 @@ pub data Lends (e : Engine) (arena Q : List ℕ) : After → Type 0 where
       → Lends e arena Q (Engines.deliver (Engines.step e arena).engine arena failure bs)
 
 module _ (e : Engine) (arena Q : List ℕ) where
-  range_is : (offset len : ℕ) (x : Range) → read Q offset len ≡ x → (Engines.step e arena).answer ≡ Status.Fetch offset len
+  range_is : (offset len : ℕ) (x : Result ℕ Refusal) → read Q offset len ≡ x → (Engines.step e arena).answer ≡ Status.Fetch offset len
       → Lends e arena Q (Engines.answered_by x (Engines.step e arena).engine arena len Q)
-  range_is offset len (RangeIs.At at) r q =
+  range_is offset len (Ok at) r q =
       let there : (at ≡ offset) × (offset + len ≤ length Q) = read_at Q offset len r in
       asks offset len 0 (pack_bytes Q at len) q (rw there.0 (bytes there.1))
-  range_is offset len (RangeIs.Refused number) r q = asks offset len 2 [] q past
+  range_is offset len (Err number) r q = asks offset len 2 [] q past
 
   lends_by : (a : Status) → (Engines.step e arena).answer ≡ a → Lends e arena Q (Engines.step_from_by a (Engines.step e arena) arena Q)
   unfolding Engines.answered_from

@@ -5,9 +5,7 @@ use Rattle.engine.specs.Calls as Calls
 use Rattle.engine.specs.declared.Engine.{Engine}
 use Rattle.engine.specs.declared.Fix.{Fix}
 use Rattle.engine.specs.declared.Status.{Status}
-use Rattle.engine.specs.declared.Status.TheVariants as Status
 use Rattle.engine.specs.declared.Taken.{Taken}
-use Rattle.engine.specs.declared.Taken.TheVariants as Taken
 
 abbrev pub is_refused : Status → Bool
 is_refused (Status.Refused number) = true

@@ -1,15 +1,11 @@
 -- What a step works at (`task_of`): `engine.rs`, `step`, in its order, where it needs no read; with the match that it then makes (`match_of`) and the road
 -- that it works out (`road_at`). And whether a fetch is open (`is_open`), and which (`open_read`). Demand 3 (crate direct) is stated in these.
+use Rattle.std.specs.Prelude.{Option, Some, None}
 use Rattle.std.specs.Prelude.{Bool, true, false, cond, List, ℕ, pos, replicate}
+use Rattle.pack.specs.declared.TileKey.{TileKey}
 use Rattle.pack.specs.Grid.{key_of}
-use Rattle.pack.specs.declared.Keyed.{Keyed}
-use Rattle.pack.specs.declared.Keyed.TheVariants as Keyed
-use Rattle.cache.specs.declared.MaybeKey.{MaybeKey}
-use Rattle.cache.specs.declared.MaybeKey.TheVariants as MaybeKey
 use Rattle.cache.specs.declared.Pending.{Pending}
-use Rattle.cache.specs.declared.Pending.TheVariants as Pending
 use Rattle.matcher.specs.declared.Current.{Current}
-use Rattle.matcher.specs.declared.Current.TheVariants as Current
 use Rattle.matcher.specs.declared.Matched.{Matched}
 use Rattle.matcher.specs.Gather as Gather
 use Rattle.matcher.specs.declared.Updated.{Updated}
@@ -20,9 +16,7 @@ use Rattle.engine.specs.declared.Engine.{Engine}
 use Rattle.engine.specs.declared.Fix.{Fix}
 use Rattle.engine.specs.declared.Follower.{Follower}
 use Rattle.engine.specs.declared.MaybeFix.{MaybeFix}
-use Rattle.engine.specs.declared.MaybeFix.TheVariants as MaybeFix
 use Rattle.engine.specs.declared.Phase.{Phase}
-use Rattle.engine.specs.declared.Phase.TheVariants as Phase
 use Rattle.engine.specs.declared.Status.{Status}
 
 -- ---- the open fetch
@@ -52,18 +46,17 @@ road_task (Current.Is found) f = road f found
 abbrev pub due_task : Follower → Fix → Task
 due_task w f = cond w.due.matching (match f) (cond w.due.road (road_task w.matcher.current f) none)
 
-abbrev pub grid_task : Keyed → Follower → Fix → Task
-grid_task (Keyed.In key) w f = due_task w f
-grid_task Keyed.Outside w f = off_map f
-grid_task (Keyed.Refused number) w f = off_map f
+abbrev pub grid_task : Option TileKey → Follower → Fix → Task
+grid_task (Some key) w f = due_task w f
+grid_task None w f = off_map f
 
 abbrev pub fix_task : MaybeFix → Engine → Task
 fix_task MaybeFix.Nothing e = none
 fix_task (MaybeFix.Is f) e = grid_task (key_of e.shared.header f.lat f.lon) e.follower f
 
-abbrev pub need_task : MaybeKey → Engine → Task
-need_task MaybeKey.Nothing e = fix_task e.follower.sight.fix e
-need_task (MaybeKey.Key key) e = none
+abbrev pub need_task : Option TileKey → Engine → Task
+need_task None e = fix_task e.follower.sight.fix e
+need_task (Some key) e = none
 
 abbrev pub phase_task : Phase → Engine → Task
 phase_task Phase.Unread e = none

@@ -6,6 +6,7 @@ use mathlib.Core.List.{List}
 use native.Mathlib.Omega.{arith}
 use lib.IntN.{ℤ, pos, ◌+ℤ◌, +ℤ_assoc}
 use lib.Signed.{le_z}
+use Rattle.std.specs.Prelude.{Ok}
 use Rattle.pack.specs.Sector.{rules}
 use Rattle.pack.specs.Grid.{in_grid, corner_of, held}
 use Rattle.pack.specs.declared.Header.{Header}
@@ -16,7 +17,6 @@ use Rattle.tile.specs.Readers.{has_point}
 use Rattle.tile.specs.declared.Node.{Node}
 use Rattle.tile.specs.declared.Edge.{Edge}
 use Rattle.geo.specs.Points.{point_of, key_of, edge_point_of, edge_height_of, edge_point}
-use Rattle.geo.specs.declared.EdgePoint.TheVariants as EdgePoint
 
 -- ---- points
 
@@ -39,6 +39,6 @@ point_exact h k n ok is_in_grid y x =
 -- ---- points of an edge
 
 pub edge_point_at : (h : Header) (bs : List ℕ) (e : Edge) (index : ℕ) → rules h ≡ true → in_grid h (key_of bs) ≡ true → has_point bs e index ≡ true
-    → edge_point h bs e index ≡ EdgePoint.At (edge_point_of h bs e index) (edge_height_of bs e index)
+    → edge_point h bs e index ≡ Ok (edge_point_of h bs e index, edge_height_of bs e index)
 unfolding edge_point
 edge_point_at h bs e index ok is_in_grid there = rw (ok, is_in_grid, there)

@@ -1,22 +1,17 @@
 -- Flat-earth geometry in metres: `geo.rs`, metres_from, length, turn, project. Each operation is one of IEEE 754 on single floats, in the Rust's order, rounded once.
+use Rattle.std.specs.Prelude.{Result, Ok, Err}
+use Rattle.refusal.specs.declared.Refusal.{Refusal}
 use Rattle.std.specs.Prelude.{ℕ, Bool, ◌&&◌, cond, pos, ◌-ℤ◌, Float}
+use Rattle.std.specs.Result.{result_unwrap_or}
 use Rattle.std.specs.Float.{binary32}
 use Rattle.std.specs.Float.Ieee.{of_bits, of_int, add, sub, mul, div, neg, lt, le}
 use Rattle.num.specs.Order.{is_finite, clamp}
 use Rattle.num.specs.Root.{square_root}
 use Rattle.pack.specs.Grid.{is_point}
 use Rattle.angle.specs.Bearing as Bearing
-use Rattle.angle.specs.declared.Degrees.{Degrees}
-use Rattle.angle.specs.declared.Degrees.TheVariants as Degrees
 use Rattle.geo.specs.declared.Point.{Point}
 use Rattle.geo.specs.declared.Metres.{Metres}
 use Rattle.geo.specs.declared.Projected.{Projected}
-use Rattle.geo.specs.declared.MetresRead.{MetresRead}
-use Rattle.geo.specs.declared.MetresRead.TheVariants as MetresRead
-use Rattle.geo.specs.declared.Figure.{Figure}
-use Rattle.geo.specs.declared.Figure.TheVariants as Figure
-use Rattle.geo.specs.declared.ProjectedRead.{ProjectedRead}
-use Rattle.geo.specs.declared.ProjectedRead.TheVariants as ProjectedRead
 
 -- ---- figures
 
@@ -73,30 +68,29 @@ project_of p a b =
     projected_at p a dx dy (fraction_of p a dx dy)
 
 -- a bearing as a figure; a vector that is not finite, which no call makes of points, counts as north
-abbrev pub figure_of : Degrees → Float
-figure_of (Degrees.At d) = d
-figure_of (Degrees.Refused n) = whole 0
+abbrev pub figure_of : Result Float Refusal → Float
+figure_of r = result_unwrap_or r (whole 0)
 
 unfoldable pub bearing_of : Float → Float → Float
 bearing_of east north = figure_of (Bearing.bearing east north)
 
 -- ---- the public functions, with 8 for a point beyond ±360,000,000, a figure that is not finite, a heading that is not a number or beyond ±360
 
-unfoldable pub metres_from : Point → Point → ℕ → MetresRead
+unfoldable pub metres_from : Point → Point → ℕ → Result Metres Refusal
 metres_from p o lon_um =
-    cond (is_point p.lat p.lon && is_point o.lat o.lon) (MetresRead.At (metres_of p o lon_um)) (MetresRead.Refused 8)
+    cond (is_point p.lat p.lon && is_point o.lat o.lon) (Ok (metres_of p o lon_um)) (Err Refusal.OutOfRange)
 
-unfoldable pub length : Float → Float → Figure
-length east north = cond (is_finite east && is_finite north) (Figure.Is (length_of east north)) (Figure.Refused 8)
+unfoldable pub length : Float → Float → Result Float Refusal
+length east north = cond (is_finite east && is_finite north) (Ok (length_of east north)) (Err Refusal.OutOfRange)
 
 abbrev pub is_heading : Float → Bool
 is_heading d = le (neg (whole 360)) d && le d (whole 360)
 
-unfoldable pub turn : Float → Float → Figure
-turn from to = cond (is_heading from && is_heading to) (Figure.Is (turn_of from to)) (Figure.Refused 8)
+unfoldable pub turn : Float → Float → Result Float Refusal
+turn from to = cond (is_heading from && is_heading to) (Ok (turn_of from to)) (Err Refusal.OutOfRange)
 
 abbrev pub are_finite : Metres → Bool
 are_finite m = is_finite m.east && is_finite m.north
 
-unfoldable pub project : Metres → Metres → Metres → ProjectedRead
-project p a b = cond (are_finite p && (are_finite a && are_finite b)) (ProjectedRead.At (project_of p a b)) (ProjectedRead.Refused 8)
+unfoldable pub project : Metres → Metres → Metres → Result Projected Refusal
+project p a b = cond (are_finite p && (are_finite a && are_finite b)) (Ok (project_of p a b)) (Err Refusal.OutOfRange)

@@ -1,5 +1,3 @@
 -- Points as whole numbers, and flat geometry in single floats.
 pub mod Points
 pub mod Flat
--- The number of each answer.
-pub mod Numbers

@@ -1,4 +1,6 @@
 -- Points in whole millionths of a degree, exactly: `geo.rs`, Point::of, z_dm and edge_point. No float stands here.
+use Rattle.std.specs.Prelude.{Result, Ok, Err}
+use Rattle.refusal.specs.declared.Refusal.{Refusal}
 use Rattle.std.specs.Prelude.{ℕ, ◌*◌, cond, List, ℤ, pos, ◌+ℤ◌, ◌-ℤ◌}
 use Rattle.pack.specs.Sector.{rules}
 use Rattle.pack.specs.Grid.{in_grid, corner_of, held}
@@ -9,10 +11,6 @@ use Rattle.tile.specs.Readers.{has_point}
 use Rattle.tile.specs.declared.Node.{Node}
 use Rattle.tile.specs.declared.Edge.{Edge}
 use Rattle.geo.specs.declared.Point.{Point}
-use Rattle.geo.specs.declared.PointRead.{PointRead}
-use Rattle.geo.specs.declared.PointRead.TheVariants as PointRead
-use Rattle.geo.specs.declared.EdgePoint.{EdgePoint}
-use Rattle.geo.specs.declared.EdgePoint.TheVariants as EdgePoint
 
 -- a node's or a vertex's point: its tile's south-west corner, and its place in the tile
 unfoldable pub point_of : Header → TileKey → Node → Point
@@ -35,13 +33,13 @@ edge_height_of bs e index = z_dm (Layout.point_of bs e index)
 
 -- ---- the public functions: 12 for the header, 9 for a key outside the grid, 7 for a point that is not there
 
-unfoldable pub point : Header → TileKey → Node → PointRead
-point h k n = cond (rules h) (cond (in_grid h k) (PointRead.At (point_of h k n)) (PointRead.Refused 9)) (PointRead.Refused 12)
+unfoldable pub point : Header → TileKey → Node → Result Point Refusal
+point h k n = cond (rules h) (cond (in_grid h k) (Ok (point_of h k n)) (Err Refusal.OutsideGrid)) (Err Refusal.BadState)
 
-unfoldable pub edge_point : Header → List ℕ → Edge → ℕ → EdgePoint
+unfoldable pub edge_point : Header → List ℕ → Edge → ℕ → Result (Point × ℤ) Refusal
 edge_point h bs e index =
     cond (rules h)
     (cond (in_grid h (key_of bs))
-    (cond (has_point bs e index) (EdgePoint.At (edge_point_of h bs e index) (edge_height_of bs e index)) (EdgePoint.Refused 7))
-    (EdgePoint.Refused 9))
-    (EdgePoint.Refused 12)
+    (cond (has_point bs e index) (Ok (edge_point_of h bs e index, edge_height_of bs e index)) (Err Refusal.PastTile))
+    (Err Refusal.OutsideGrid))
+    (Err Refusal.BadState)

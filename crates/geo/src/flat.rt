@@ -21,6 +21,7 @@ fn beyond(from: i32, n: u16) -> i32
 }
 
 // A node's point.
+#[tactic(auto, unfolding(crate::specs::Points::point_of))]
 pub fn point(header: Header, key: TileKey, node: Node) -> Point
     ensures { result ≡ Points.point_of header key node }
 {
@@ -50,6 +51,7 @@ pub fn metres(p: Point, origin: Point, lon_um: u32) -> Metres
     }
 }
 
+#[tactic(auto, unfolding(crate::specs::Flat::length_of))]
 pub fn length(east: f32, north: f32) -> f32
     ensures { result ≡ Flat.length_of east north }
 {
@@ -57,24 +59,21 @@ pub fn length(east: f32, north: f32) -> f32
 }
 
 // The bearing of a vector as a figure; one that is not finite counts as north.
+#[tactic(auto, using(crate::proofs::Literals::literal_0), unfolding(crate::specs::Flat::bearing_of))]
 pub fn bearing(east: f32, north: f32) -> f32
     ensures { result ≡ Flat.bearing_of east north }
 {
-    match angle::bearing(east, north) {
-        angle::Degrees::At(d) => d,
-        angle::Degrees::Refused(_) => 0.0,
-    }
+    angle::bearing(east, north).unwrap_or(0.0)
 }
 
+#[tactic(auto, using(crate::proofs::Literals::literal_360))]
 pub fn is_heading(d: f32) -> bool
     ensures { result ≡ Flat.is_heading d }
 {
-    if d >= -360.0 {
-        return d <= 360.0;
-    }
-    false
+    d >= -360.0 && d <= 360.0
 }
 
+#[tactic(auto, using(crate::proofs::Literals::literal_180, crate::proofs::Literals::literal_360))]
 fn lowered(d: f32) -> f32
     ensures { result ≡ Flat.lowered d }
 {
@@ -84,6 +83,7 @@ fn lowered(d: f32) -> f32
     d
 }
 
+#[tactic(auto, using(crate::proofs::Literals::literal_180, crate::proofs::Literals::literal_360))]
 fn raised(d: f32) -> f32
     ensures { result ≡ Flat.raised d }
 {
@@ -94,6 +94,7 @@ fn raised(d: f32) -> f32
 }
 
 // The signed turn between two headings of at most 360 degrees either way.
+#[tactic(auto, unfolding(crate::specs::Flat::turn_of))]
 pub fn turn(from: f32, to: f32) -> f32
     ensures { result ≡ Flat.turn_of from to }
 {
@@ -103,12 +104,10 @@ pub fn turn(from: f32, to: f32) -> f32
 pub fn are_finite(m: Metres) -> bool
     ensures { result ≡ Flat.are_finite m }
 {
-    if num::order::is_finite(m.east) {
-        return num::order::is_finite(m.north);
-    }
-    false
+    num::order::is_finite(m.east) && num::order::is_finite(m.north)
 }
 
+#[tactic(auto, using(crate::proofs::Literals::literal_0, crate::proofs::Literals::literal_1))]
 fn fraction(p: Metres, a: Metres, dx: f32, dy: f32) -> f32
     ensures { result ≡ Flat.fraction_of p a dx dy }
 {
@@ -121,6 +120,7 @@ fn fraction(p: Metres, a: Metres, dx: f32, dy: f32) -> f32
 }
 
 // Where `p` projects onto segment a-b.
+#[tactic(auto, unfolding(crate::specs::Flat::project_of))]
 pub fn project(p: Metres, a: Metres, b: Metres) -> Projected
     ensures { result ≡ Flat.project_of p a b }
 {

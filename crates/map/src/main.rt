@@ -11,7 +11,7 @@ mod svg;
 mod tiles;
 mod trip;
 
-use pack::{Answer, Header};
+use pack::Header;
 use page::Frame;
 use ride::host::Card;
 use std::fs::File;
@@ -108,12 +108,12 @@ fn pack_file(
     if ride::host::read_at(file, 0, &mut sector) != 0 {
         return say(err, "the pack is shorter than its header");
     }
-    let parsed = Header::parse(&sector);
-    let answer = parsed.answer;
-    match answer {
-        Answer::Refused(number) => println!(err; "map: the pack is refused with {number}"),
-        Answer::Accepted => {
-            let h = parsed.header;
+    match Header::parse(&sector) {
+        Err(refusal) => {
+            let number = refusal.number();
+            println!(err; "map: the pack is refused with {number}")
+        }
+        Ok(h) => {
             let card = Card { file, every: 0 };
             drawn(rt, err, card, h, text)
         }

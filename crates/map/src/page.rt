@@ -115,13 +115,11 @@ pub fn frame_of(h: Header) -> Frame {
 // The longest of 1, 2 and 5 with zeros behind it that is no more, from 1 on.
 pub fn round_below(most: u64) -> u64 {
     let mut m: u64 = 1;
-    let mut turns: u32 = 0;
-    while turns < 12 {
+    for _ in 0..12 {
         if most / 10 < m {
             break;
         }
         m = m * 10;
-        turns += 1;
     }
     if most / 5 >= m {
         return m * 5;

@@ -43,13 +43,11 @@ fn widened(r: Heights, z: i16) -> Heights {
 // The heights' range, which holds 0.
 fn range(a: Ahead, count: usize) -> Heights {
     let mut r = Heights { low: 0, high: 0 };
-    let mut i = 0;
-    while i < 501 {
+    for i in 0..501 {
         if count <= i {
             return r;
         }
         r = widened(r, a.samples[i]);
-        i += 1;
     }
     r
 }
@@ -84,13 +82,11 @@ fn line(rt: &impl Print, a: Ahead, r: Heights, count: usize) -> io::Result<()> {
         rt,
         b"<polyline class=\"line profile\" stroke-width=\"40\" points=\"",
     )?;
-    let mut i = 0;
-    while i < 501 {
+    for i in 0..501 {
         if count <= i {
             break;
         }
         svg::point(rt, across(i, count), up(r, a.samples[i]))?;
-        i += 1;
     }
     svg::put(rt, b"\"/>\n")
 }
@@ -108,15 +104,13 @@ fn tick(rt: &impl Print, x: u64, metres: u64, z: i16) -> io::Result<()> {
 // Some nine heights in figures.
 fn ticks(rt: &impl Print, a: Ahead, count: usize) -> io::Result<()> {
     let step = count / 9 + 1;
-    let mut i = 0;
-    while i < 501 {
+    for i in 0..501 {
         if count <= i {
             return Ok(());
         }
         if i % step == 0 {
             tick(rt, across(i, count), (i as u64) * 20, a.samples[i])?;
         }
-        i += 1;
     }
     Ok(())
 }

@@ -53,14 +53,12 @@ fn is_plain(text: &[u8], i: usize) -> bool {
 
 // A name as text: what would not be text is a question mark.
 pub fn name(rt: &impl Print, text: &[u8]) -> io::Result<()> {
-    let mut i = 0;
-    while i < text.len() {
+    for i in 0..text.len() {
         if is_plain(text, i) {
             put(rt, &[text[i]])?;
         } else {
             put(rt, b"?")?;
         }
-        i += 1;
     }
     Ok(())
 }

@@ -3,10 +3,11 @@ ghost use Rattle.std.specs.Prelude.{◌≤◌};
 
 use crate::page::Frame;
 use crate::{page, svg};
-use pack::{Header, Located, Offset, TileKey};
+use pack::{Header, TileKey};
+use refusal::Refusal;
 use std::fs::File;
 use std::io;
-use tile::{Edge, EdgeRead, Node, NodeRead, Parsed};
+use tile::{Edge, Node};
 
 // The longest tile.
 pub const ROOM: usize = 49152;
@@ -20,17 +21,13 @@ pub enum Got {
 }
 
 // What the directory says of a key; an entry that can't be read is as one that is refused.
-fn located(file: &File, h: Header, key: TileKey) -> Located {
-    match h.entry(key) {
-        Offset::Refused(number) => Located::Refused(number),
-        Offset::At(offset) => {
-            let mut entry = [0u8; 8];
-            if ride::host::read_at(file, offset, &mut entry) != 0 {
-                return Located::Refused(2);
-            }
-            h.locate(&entry)
-        }
+fn located(file: &File, h: Header, key: TileKey) -> Result<Option<(u32, u32)>, Refusal> {
+    let offset = h.entry(key)?;
+    let mut entry = [0u8; 8];
+    if ride::host::read_at(file, offset, &mut entry) != 0 {
+        return Err(Refusal::PastPack);
     }
+    h.locate(&entry)
 }
 
 pub fn lesser(a: usize, b: usize) -> usize
@@ -52,16 +49,16 @@ fn read(file: &File, h: Header, key: TileKey, offset: u32, len: u32, room: &mut 
         return Got::Damaged;
     }
     match tile::parse(&room[0..n], key, h.tile) {
-        Parsed::Refused(_) => Got::Damaged,
-        Parsed::Tile(_) => Got::Tile(n),
+        Err(_) => Got::Damaged,
+        Ok(_) => Got::Tile(n),
     }
 }
 
 pub fn get(file: &File, h: Header, key: TileKey, room: &mut [u8]) -> Got {
     match located(file, h, key) {
-        Located::Refused(_) => Got::Damaged,
-        Located::NoTile => Got::NoTile,
-        Located::Tile(offset, len) => read(file, h, key, offset, len, room),
+        Err(_) => Got::Damaged,
+        Ok(None) => Got::NoTile,
+        Ok(Some((offset, len))) => read(file, h, key, offset, len, room),
     }
 }
 
@@ -80,8 +77,8 @@ fn put_point(
     index: usize,
 ) -> io::Result<()> {
     match view::through::point(bytes, e, index) {
-        NodeRead::Refused(_) => Ok(()),
-        NodeRead::At(n) => put_node(rt, h, f, key, n),
+        Err(_) => Ok(()),
+        Ok(n) => put_node(rt, h, f, key, n),
     }
 }
 
@@ -104,10 +101,8 @@ pub fn points(
     count: usize,
     forward: bool,
 ) -> io::Result<()> {
-    let mut k = 0;
-    while k < count {
+    for k in 0..count {
         put_point(rt, bytes, h, f, key, e, nth(from, k, forward))?;
-        k += 1;
     }
     Ok(())
 }
@@ -153,27 +148,25 @@ pub fn matched(
     edge: u16,
 ) -> io::Result<()> {
     match view::through::edge(bytes, edge) {
-        EdgeRead::Refused(_) => Ok(()),
-        EdgeRead::At(e) => put_matched(rt, bytes, h, f, key, e),
+        Err(_) => Ok(()),
+        Ok(e) => put_matched(rt, bytes, h, f, key, e),
     }
 }
 
 fn leg(rt: &impl Print, bytes: &[u8], h: Header, f: Frame, key: TileKey, i: u16) -> io::Result<()> {
     match view::through::edge(bytes, i) {
-        EdgeRead::Refused(_) => Ok(()),
-        EdgeRead::At(e) => put_leg(rt, bytes, h, f, key, e),
+        Err(_) => Ok(()),
+        Ok(e) => put_leg(rt, bytes, h, f, key, e),
     }
 }
 
 fn legs(rt: &impl Print, bytes: &[u8], h: Header, f: Frame, key: TileKey) -> io::Result<()> {
     let count = view::through::edge_count(bytes);
-    let mut i: u16 = 0;
-    while i < 65535 {
+    for i in 0..65535u16 {
         if count <= i as usize {
             return Ok(());
         }
         leg(rt, bytes, h, f, key, i)?;
-        i += 1;
     }
     Ok(())
 }
@@ -187,8 +180,8 @@ fn junction(
     i: u16,
 ) -> io::Result<()> {
     match view::through::node(bytes, i) {
-        NodeRead::Refused(_) => Ok(()),
-        NodeRead::At(n) => {
+        Err(_) => Ok(()),
+        Ok(n) => {
             svg::field(
                 rt,
                 b"<circle class=\"node\" cx=\"",
@@ -202,13 +195,11 @@ fn junction(
 
 fn junctions(rt: &impl Print, bytes: &[u8], h: Header, f: Frame, key: TileKey) -> io::Result<()> {
     let count = view::through::node_count(bytes);
-    let mut i: u16 = 0;
-    while i < 65535 {
+    for i in 0..65535u16 {
         if count <= i as usize {
             return Ok(());
         }
         junction(rt, bytes, h, f, key, i)?;
-        i += 1;
     }
     Ok(())
 }
@@ -328,13 +319,11 @@ pub fn all(
     roads: bool,
 ) -> io::Result<()> {
     let count = page::places(h);
-    let mut n: u32 = 0;
-    while n < 1048576 {
+    for n in 0..1048576u32 {
         if count <= n as u64 {
             return Ok(());
         }
         place(rt, file, h, f, key_of(h.cols, n), room, roads)?;
-        n += 1;
     }
     Ok(())
 }

@@ -2,12 +2,12 @@
 use crate::page::Frame;
 use crate::tiles::Got;
 use crate::{page, profile, svg, tiles};
-use engine::{Current, Engine, Fix, Forward, Matched};
-use pack::{Header, Keyed, TileKey};
+use engine::{Current, Engine, Fix, Matched};
+use pack::{Header, TileKey};
 use ride::fixes::Line;
 use ride::host::{Card, Ride};
 use std::io;
-use tile::{Edge, EdgeRead};
+use tile::Edge;
 
 // How far ahead the road is followed, in metres.
 const HORIZON: f32 = 10000.0;
@@ -31,8 +31,8 @@ fn no_spot() -> Spot {
 // Where a fix lies, if it lies in the grid.
 fn spot_of(h: Header, f: Frame, fix: Fix) -> Spot {
     match h.key(fix.lat, fix.lon) {
-        Keyed::Outside | Keyed::Refused(_) => no_spot(),
-        Keyed::In(_) => Spot {
+        Ok(None) | Err(_) => no_spot(),
+        Ok(Some(_)) => Spot {
             is: true,
             x: page::across(f, page::past(fix.lon, h.west)),
             y: page::down(f, page::past(fix.lat, h.south)),
@@ -147,8 +147,8 @@ fn rest_of(
     forward: bool,
 ) -> io::Result<()> {
     match view::through::edge(bytes, m.edge) {
-        EdgeRead::Refused(_) => Ok(()),
-        EdgeRead::At(e) => rest(rt, bytes, h, f, key, e, m.segment, forward),
+        Err(_) => Ok(()),
+        Ok(e) => rest(rt, bytes, h, f, key, e, m.segment, forward),
     }
 }
 
@@ -194,8 +194,8 @@ fn ahead(
         Current::Is(n) => {
             let forward = n.forward;
             match forward {
-                Forward::Unknown => Ok(()),
-                Forward::Is(on) => put_ahead(rt, card, h, f, s, n, on, room),
+                None => Ok(()),
+                Some(on) => put_ahead(rt, card, h, f, s, n, on, room),
             }
         }
     }

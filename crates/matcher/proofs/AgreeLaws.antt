@@ -1,12 +1,11 @@
 -- Two looks that agree give the same match where it finishes at the first (`update_agrees`). The idea: a match finishes only where every lookup
 -- was ready or missing, so that the second look answers the same at each of them.
+use Rattle.std.specs.Prelude.{Option, Some, None}
 use Prim.Native.Nat.{ℕ}
 use mathlib.Core.Path.{◌≡◌, refl, sym}
 use mathlib.Core.Bool.{true, true≢false}
 use native.Mathlib.Omega.{arith}
 use Rattle.pack.specs.declared.TileKey.{TileKey}
-use Rattle.cache.specs.declared.MaybeKey.{MaybeKey}
-use Rattle.cache.specs.declared.MaybeKey.TheVariants as MaybeKey
 use Rattle.cache.specs.Direct.{Look, ready, missing, absent, stale, settled, Agree}
 use Rattle.matcher.specs.declared.Heading.{Heading}
 use Rattle.matcher.specs.declared.Kept.{Kept}
@@ -15,7 +14,6 @@ use Rattle.num.proofs.FoldLaws.{up_agrees}
 use Rattle.matcher.specs.declared.Matcher.{Matcher}
 use Rattle.matcher.specs.declared.NearKeys.{NearKeys}
 use Rattle.matcher.specs.declared.gather.Ending.{Ending}
-use Rattle.matcher.specs.declared.gather.Ending.TheVariants as Ending
 use Rattle.matcher.specs.Near.{key_at, near_of}
 use Rattle.matcher.specs.Gather.{Run, look_step, run_step, no_run, run_to, matching_by, query_of, run_over, update_over}
 use Rattle.matcher.specs.Relied.{is_finished, UpdateAgrees}
@@ -31,10 +29,10 @@ look_agrees stale y same r q key e = let z : ◌≡◌ {A = ℕ} 0 1 = cc in abs
 
 module _ (one two : TileKey → Look) (agree : Agree one two) where
   -- all was found after the tile: then before it too, and the second look takes the same step
-  step_agrees : (end : Ending) (m : MaybeKey) (r : Run) (q : Query) → r.end ≡ end → (run_step end m one r q).end ≡ Ending.All
+  step_agrees : (end : Ending) (m : Option TileKey) (r : Run) (q : Query) → r.end ≡ end → (run_step end m one r q).end ≡ Ending.All
       → (r.end ≡ Ending.All) × (run_step end m two r q ≡ run_step end m one r q)
-  step_agrees Ending.All MaybeKey.Nothing r q was e = (was, refl)
-  step_agrees Ending.All (MaybeKey.Key key) r q was e = (was, look_agrees (one key) (two key) (agree key) r q key e)
+  step_agrees Ending.All None r q was e = (was, refl)
+  step_agrees Ending.All (Some key) r q was e = (was, look_agrees (one key) (two key) (agree key) r q key e)
   step_agrees (Ending.Need key) m r q was e = (e, refl)
   step_agrees Ending.Stale m r q was e = (e, refl)
 

@@ -4,6 +4,8 @@
 -- (`gathered_run`), so that the match made of it is `updated` (`made_by_cache`). The idea: the lookups so far changed clock and ages alone, so that
 -- `get` in the cache that they left answers as in the cache given (`updated_uses`); and a lookup that lands on a run either passes and uses it, or
 -- ends the match before it is gone through.
+use Rattle.refusal.specs.declared.Refusal.{Refusal}
+use Rattle.std.specs.Prelude.{Option, Some, None, Result, Ok, Err}
 use Prim.Native.Nat.{ℕ, zero, suc, ◌+◌, ◌-◌, ◌*◌, ◌<◌, ◌≤◌}
 use mathlib.Core.Path.{◌≡◌, refl, sym, ap, ◌∙◌}
 use mathlib.Core.Bool.{Bool, true, false, true≢false}
@@ -15,16 +17,12 @@ use lib.ListN.{length, length-set}
 use Rattle.pack.specs.declared.Header.{Header}
 use Rattle.pack.specs.declared.TileKey.{TileKey}
 use Rattle.geo.specs.declared.Point.{Point}
-use Rattle.cache.specs.declared.MaybeKey.{MaybeKey}
-use Rattle.cache.specs.declared.MaybeKey.TheVariants as MaybeKey
 use Rattle.cache.specs.declared.Aging.{Aging}
 use Rattle.cache.specs.declared.Cache.{Cache}
 use Rattle.cache.specs.declared.Lookup.{Lookup}
-use Rattle.cache.specs.declared.Lookup.TheVariants as Lookup
 use Rattle.cache.specs.declared.Slot.{Slot}
 use Rattle.cache.specs.Runs.{slot_at}
 use Rattle.cache.specs.declared.look.Landing.{Landing}
-use Rattle.cache.specs.declared.look.Landing.TheVariants as Landing
 use Rattle.cache.specs.Ages.{bytes_of}
 use Rattle.cache.specs.Lookups.{lands_on, run_bytes, passes, len_at, after, landed_by, landed, checked}
 use Rattle.cache.specs.Direct.{look_at, look, looked, Aged}
@@ -39,7 +37,6 @@ use Rattle.matcher.specs.declared.Landings.{Landings}
 use Rattle.matcher.specs.declared.Matcher.{Matcher}
 use Rattle.matcher.specs.declared.Query.{Query}
 use Rattle.matcher.specs.declared.gather.Ending.{Ending}
-use Rattle.matcher.specs.declared.gather.Ending.TheVariants as Ending
 use Rattle.matcher.specs.declared.NearKeys.{NearKeys}
 use Rattle.matcher.specs.Near.{key_at, near_of}
 use Rattle.matcher.specs.Gather.{Run, Gathered, look_step, run_step, run_to, matching_by, query_of, run_over, update_over, cache_after, updated, gathered_with, so_far, finished, ended_by, land, landings, landed_at, gather_key, gather_step, gathered_to, searched, used_by, uses_after, made_of, made_by}
@@ -73,26 +70,26 @@ module _ (at : Landings) (arena : List ℕ) (q : Query) (near : NearKeys) where
   gather_more i = up_turn step (so_far none_kept 0) i
 
   -- one tile more, while no lookup ended the match
-  gather_next : (i : ℕ) (key : MaybeKey) (kept : Kept) (tiles : ℕ) → key_at near i ≡ key → so_far kept tiles ≡ so i
+  gather_next : (i : ℕ) (key : Option TileKey) (kept : Kept) (tiles : ℕ) → key_at near i ≡ key → so_far kept tiles ≡ so i
       → gather_key key (landed_at at i) (so_far kept tiles) arena q ≡ so (i + 1)
   gather_next i key kept tiles k is =
-      ap (λ (m : MaybeKey). gather_key m (landed_at at i) (so_far kept tiles) arena q) (sym k)
+      ap (λ (m : Option TileKey). gather_key m (landed_at at i) (so_far kept tiles) arena q) (sym k)
       ∙ ap (λ (g : Gathered). step g i) is
       ∙ sym (gather_more i)
 
-  pub gather_none : (i : ℕ) (kept : Kept) (tiles : ℕ) → key_at near i ≡ MaybeKey.Nothing → so_far kept tiles ≡ gathered_to at arena q near i
+  pub gather_none : (i : ℕ) (kept : Kept) (tiles : ℕ) → key_at near i ≡ None → so_far kept tiles ≡ gathered_to at arena q near i
       → so_far kept (tiles + 1) ≡ gathered_to at arena q near (i + 1)
-  gather_none i kept tiles k is = gather_next i MaybeKey.Nothing kept tiles k is
+  gather_none i kept tiles k is = gather_next i None kept tiles k is
 
-  pub gather_turn : (i : ℕ) (key : TileKey) (answer : Lookup) (kept : Kept) (tiles : ℕ) → key_at near i ≡ MaybeKey.Key key
+  pub gather_turn : (i : ℕ) (key : TileKey) (answer : Result Lookup Refusal) (kept : Kept) (tiles : ℕ) → key_at near i ≡ Some key
       → answer ≡ checked (landed_at at i) arena q.header.tile key
       → so_far kept tiles ≡ gathered_to at arena q near i
       → gathered_with (so_far kept tiles) answer arena q key ≡ gathered_to at arena q near (i + 1)
   gather_turn i key answer kept tiles k told is =
-      ap (λ (a : Lookup). gathered_with (so_far kept tiles) a arena q key) told ∙ gather_next i (MaybeKey.Key key) kept tiles k is
+      ap (λ (a : Result Lookup Refusal). gathered_with (so_far kept tiles) a arena q key) told ∙ gather_next i (Some key) kept tiles k is
 
   -- once a lookup ended the match nothing is added
-  over_step : (end : Ending) (m : MaybeKey) (l : Lookup) (g : Gathered) → is_over end ≡ true → gather_step end m l g arena q ≡ g
+  over_step : (end : Ending) (m : Option TileKey) (l : Result Lookup Refusal) (g : Gathered) → is_over end ≡ true → gather_step end m l g arena q ≡ g
   over_step Ending.All m l g e = absurd (true≢false (sym e))
   over_step (Ending.Need key) m l g e = refl
   over_step Ending.Stale m l g e = refl
@@ -112,15 +109,15 @@ module _ (at : Landings) (arena : List ℕ) (q : Query) (near : NearKeys) where
 
   -- ---- a tile that is not gone through is not counted
 
-  with_tiles : (g : Gathered) (answer : Lookup) (key : TileKey) → (gathered_with g answer arena q key).tiles ≤ g.tiles + 1
-  with_tiles g (Lookup.Ready first len) key = omega arith
-  with_tiles g Lookup.Missing key = omega arith
-  with_tiles g Lookup.Absent key = omega arith
-  with_tiles g (Lookup.Refused number) key = omega arith
+  with_tiles : (g : Gathered) (answer : Result Lookup Refusal) (key : TileKey) → (gathered_with g answer arena q key).tiles ≤ g.tiles + 1
+  with_tiles g (Ok (Lookup.Ready first len)) key = omega arith
+  with_tiles g (Ok Lookup.Missing) key = omega arith
+  with_tiles g (Ok Lookup.Absent) key = omega arith
+  with_tiles g (Err number) key = omega arith
 
-  step_tiles : (end : Ending) (m : MaybeKey) (l : Lookup) (g : Gathered) → (gather_step end m l g arena q).tiles ≤ g.tiles + 1
-  step_tiles Ending.All MaybeKey.Nothing l g = omega arith
-  step_tiles Ending.All (MaybeKey.Key key) l g = with_tiles g (checked l arena q.header.tile key) key
+  step_tiles : (end : Ending) (m : Option TileKey) (l : Result Lookup Refusal) (g : Gathered) → (gather_step end m l g arena q).tiles ≤ g.tiles + 1
+  step_tiles Ending.All None l g = omega arith
+  step_tiles Ending.All (Some key) l g = with_tiles g (checked l arena q.header.tile key) key
   step_tiles (Ending.Need key) m l g = omega arith
   step_tiles Ending.Stale m l g = omega arith
 
@@ -152,11 +149,11 @@ pub uses_turn : (at : Landings) (from : Aging) (i : ℕ) → uses_after at from 
 unfolding uses_after
 uses_turn at from i = up_turn (λ (a : Aging) (i : ℕ). used_by (landed_at at i) a) from i
 
-used_size : (l : Lookup) (a : Aging) (n : ℕ) → length a.used ≡ n → length (used_by l a).used ≡ n
-used_size (Lookup.Ready first len) a n e = length-set a.used first (after a.clock) ∙ e
-used_size Lookup.Missing a n e = e
-used_size Lookup.Absent a n e = e
-used_size (Lookup.Refused number) a n e = e
+used_size : (l : Result Lookup Refusal) (a : Aging) (n : ℕ) → length a.used ≡ n → length (used_by l a).used ≡ n
+used_size (Ok (Lookup.Ready first len)) a n e = length-set a.used first (after a.clock) ∙ e
+used_size (Ok Lookup.Missing) a n e = e
+used_size (Ok Lookup.Absent) a n e = e
+used_size (Err number) a n e = e
 
 -- there are as many ages as before
 pub uses_size : (at : Landings) (from : Aging) (n m : ℕ) → length from.used ≡ m → length (uses_after at from n).used ≡ m
@@ -204,16 +201,16 @@ module _ (c : Cache) (arena : List ℕ) (q : Query) (near : NearKeys) where
       gone = is_so_far.all (ap is_over on)
 
       -- clock and ages once this tile too was gone through
-      used_more : (l : Lookup) → (land (key_at near n) c).lookup ≡ l → uses_after at (uses_of c) (g.tiles + 1) ≡ used_by l (uses_of now)
+      used_more : (l : Result Lookup Refusal) → (land (key_at near n) c).lookup ≡ l → uses_after at (uses_of c) (g.tiles + 1) ≡ used_by l (uses_of now)
       used_more l e =
           uses_turn at (uses_of c) g.tiles
           ∙ ap (used_by (landed_at at g.tiles)) is_so_far.uses
-          ∙ ap (λ (x : Lookup). used_by x (uses_of now)) (ap (landed_at at) gone ∙ landed_at_lem n below ∙ e)
+          ∙ ap (λ (x : Result Lookup Refusal). used_by x (uses_of now)) (ap (landed_at at) gone ∙ landed_at_lem n below ∙ e)
 
-      module _ (key : TileKey) (here : (land (key_at near n) c).lookup ≡ landed c key) where
-        ready_turn : (i : ℕ) → lands_on c key ≡ Landing.At i → landed c key ≡ Lookup.Ready i (len_at c i) → (ok : Bool)
+      module _ (key : TileKey) (here : (land (key_at near n) c).lookup ≡ Ok (landed c key)) where
+        ready_turn : (i : ℕ) → lands_on c key ≡ Landing.At i → ◌≡◌ {A = Result Lookup Refusal} (Ok (landed c key)) (Ok (Lookup.Ready i (len_at c i))) → (ok : Bool)
             → passes arena i (len_at c i) key size ≡ ok
-            → Follows (n + 1) (gathered_with g (checked (Lookup.Ready i (len_at c i)) arena size key) arena q key)
+            → Follows (n + 1) (gathered_with g (checked (Ok (Lookup.Ready i (len_at c i))) arena size key) arena q key)
             (look_step (look_at (Landing.At i) c.pages.slots arena size key) r q key)
         ready_turn i e l true p =
             let same : len_at now i ≡ len_at c i = ap (λ (s : List Slot). (slot_at s i).len) aged.slots in
@@ -225,39 +222,39 @@ module _ (c : Cache) (arena : List ℕ) (q : Query) (near : NearKeys) where
               kept = rw (bytes_are arena i (len_at c i) key size p, is_so_far.kept);
               end = refl;
               all = λ x. ap (λ (t : ℕ). t + 1) gone;
-              uses = used_more (Lookup.Ready i (len_at c i)) (here ∙ l) ∙ sym later;
+              uses = used_more (Ok (Lookup.Ready i (len_at c i))) (here ∙ l) ∙ sym later;
             })
         ready_turn i e l false p =
             rw p (record { kept = is_so_far.kept; end = refl; all = λ x. absurd (true≢false x); uses = is_so_far.uses })
 
-        land_turn : (l : Landing) → lands_on c key ≡ l → landed c key ≡ landed_by l c
-            → Follows (n + 1) (gathered_with g (checked (landed_by l c) arena size key) arena q key)
+        land_turn : (l : Landing) → lands_on c key ≡ l → ◌≡◌ {A = Result Lookup Refusal} (Ok (landed c key)) (Ok (landed_by l c))
+            → Follows (n + 1) (gathered_with g (checked (Ok (landed_by l c)) arena size key) arena q key)
             (look_step (look_at l c.pages.slots arena size key) r q key)
         land_turn Landing.Missing e l =
             record {
               kept = is_so_far.kept;
               end = sym on ∙ is_so_far.end;
               all = λ x. ap (λ (t : ℕ). t + 1) gone;
-              uses = used_more Lookup.Missing (here ∙ l);
+              uses = used_more (Ok Lookup.Missing) (here ∙ l);
             }
         land_turn Landing.Nothing e l =
             record { kept = is_so_far.kept; end = refl; all = λ x. absurd (true≢false x); uses = is_so_far.uses }
         land_turn (Landing.At i) e l = ready_turn i e l (passes arena i (len_at c i) key size) refl
 
-        key_turn : Follows (n + 1) (gathered_with g (checked (landed c key) arena size key) arena q key) (look_step (look c arena size key) r q key)
+        key_turn : Follows (n + 1) (gathered_with g (checked (Ok (landed c key)) arena size key) arena q key) (look_step (look c arena size key) r q key)
         unfolding landed look
         key_turn = land_turn (lands_on c key) refl refl
 
-      tile_turn : (m : MaybeKey) → key_at near n ≡ m
+      tile_turn : (m : Option TileKey) → key_at near n ≡ m
           → Follows (n + 1) (gather_key m (land m c).lookup g arena q) (run_step Ending.All m (look c arena size) r q)
-      tile_turn MaybeKey.Nothing e =
+      tile_turn None e =
           record {
             kept = is_so_far.kept;
             end = sym on ∙ is_so_far.end;
             all = λ x. ap (λ (t : ℕ). t + 1) gone;
-            uses = used_more Lookup.Missing (rw e);
+            uses = used_more (Ok Lookup.Missing) (rw e);
           }
-      tile_turn (MaybeKey.Key key) e = key_turn key (rw e)
+      tile_turn (Some key) e = key_turn key (rw e)
 
     -- once a lookup ended the match nothing changes
     over_turn : is_over g.end ≡ true → Follows (n + 1) g r
@@ -291,7 +288,7 @@ module _ (c : Cache) (arena : List ℕ) (q : Query) (near : NearKeys) where
       ≡ gather_step (run n).end (key_at near n) (land (key_at near n) c).lookup g arena q
       = gather_more (landings c near) arena q near n
       ∙ ap (λ (end : Ending). gather_step end (key_at near n) (landed_at (landings c near) n) g arena q) before.end
-      ∙ ap (λ (l : Lookup). gather_step (run n).end (key_at near n) l g arena q) (landed_at_lem n below) in
+      ∙ ap (λ (l : Result Lookup Refusal). gather_step (run n).end (key_at near n) l g arena q) (landed_at_lem n below) in
       rw (more, run_more n) (turn n below g (run n) before (run n).end before.end)
 
   gathered_run : (n : ℕ) → n ≤ 4 → Follows n (gathered_to (landings c near) arena q near n) (run n)

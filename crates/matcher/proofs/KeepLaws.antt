@@ -15,7 +15,6 @@ use Rattle.matcher.specs.declared.Candidate.{Candidate}
 use Rattle.matcher.specs.declared.Kept.{Kept}
 use Rattle.matcher.specs.declared.Query.{Query}
 use Rattle.matcher.specs.declared.scan.MaybeNearest.{MaybeNearest}
-use Rattle.matcher.specs.declared.scan.MaybeNearest.TheVariants as MaybeNearest
 use Rattle.matcher.specs.Scan.{scan}
 use Rattle.matcher.specs.Score.{candidate_at}
 use Rattle.matcher.specs.Keeping.{dearest_of, insert}

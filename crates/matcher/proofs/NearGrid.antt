@@ -9,15 +9,12 @@ use lib.Dec.{leb}
 use lib.IntN.{ℤ}
 use lib.ListN.{length, get_or, set, replicate}
 use lib.Seq.{set_out, get_or-set_same, get_or-set_other}
+use Rattle.std.specs.Prelude.{Option, Some, None}
 use Rattle.pack.specs.Grid.{in_grid, checked_of, key_of}
 use Rattle.pack.specs.declared.Header.{Header}
 use Rattle.pack.specs.declared.TileKey.{TileKey}
-use Rattle.pack.specs.declared.Keyed.{Keyed}
-use Rattle.pack.specs.declared.Keyed.TheVariants as Keyed
 use Rattle.pack.proofs.Laws.{checked_in_grid}
 use Rattle.cache.proofs.Below.{below_or, same_or}
-use Rattle.cache.specs.declared.MaybeKey.{MaybeKey}
-use Rattle.cache.specs.declared.MaybeKey.TheVariants as MaybeKey
 use Rattle.geo.specs.declared.Point.{Point}
 use Rattle.matcher.specs.declared.NearKey.{NearKey}
 use Rattle.matcher.specs.declared.NearKeys.{NearKeys}
@@ -25,9 +22,9 @@ use Rattle.matcher.specs.Near.{no_place, no_keys, key_at, has, push, add_key, ad
 
 module _ (h : Header) where
   -- a key of the grid, or none
-  abbrev pub InGrid : MaybeKey → Type 0
-  InGrid MaybeKey.Nothing = Unit
-  InGrid (MaybeKey.Key key) = in_grid h key ≡ true
+  abbrev pub InGrid : Option TileKey → Type 0
+  InGrid None = Unit
+  InGrid (Some key) = in_grid h key ≡ true
 
   abbrev pub AllIn : NearKeys → Type 0
   AllIn n = (i : ℕ) → InGrid (key_at n i)
@@ -39,43 +36,41 @@ module _ (h : Header) where
 
   -- whether or not the place is there
   set_in : (keys : List NearKey) (at : ℕ) (key : TileKey) → ((i : ℕ) → InGrid (get_or keys i no_place).key) → in_grid h key ≡ true
-      → (i : ℕ) → InGrid (get_or (set keys at (record { key = MaybeKey.Key key })) i no_place).key
+      → (i : ℕ) → InGrid (get_or (set keys at (record { key = Some key })) i no_place).key
   set_in keys at key all new i =
       ⊎_elim
       (λ (e : i ≡ at). rw e
       (⊎_elim
-      (λ (below : at < length keys). rw (get_or-set_same keys at (record { key = MaybeKey.Key key }) no_place below) new)
-      (λ (past : length keys ≤ at). rw (set_out keys at (record { key = MaybeKey.Key key }) past) (all at))
+      (λ (below : at < length keys). rw (get_or-set_same keys at (record { key = Some key }) no_place below) new)
+      (λ (past : length keys ≤ at). rw (set_out keys at (record { key = Some key }) past) (all at))
       (below_or at (length keys))))
-      (λ (e : i ≡ at → ⊥). rw (get_or-set_other keys at i (record { key = MaybeKey.Key key }) no_place e) (all i))
+      (λ (e : i ≡ at → ⊥). rw (get_or-set_other keys at i (record { key = Some key }) no_place e) (all i))
       (same_or i at)
 
   push_in : (n : NearKeys) (key : TileKey) → AllIn n → in_grid h key ≡ true → AllIn (push n key)
   unfolding push
   push_in n key all new = by (leb 4 n.len)
     where
-      by : (t : Bool) → AllIn (cond t n (record { keys = set n.keys n.len (record { key = MaybeKey.Key key }); len = n.len + 1 }))
+      by : (t : Bool) → AllIn (cond t n (record { keys = set n.keys n.len (record { key = Some key }); len = n.len + 1 }))
       by true = all
       by false = set_in n.keys n.len key all new
 
-  add_by : (n : NearKeys) (row col : ℤ) → AllIn n → (x : Keyed) → checked_of h row col ≡ x → AllIn (add_key n x)
-  add_by n row col all (Keyed.In key) e = by (has n key)
+  add_by : (n : NearKeys) (row col : ℤ) → AllIn n → (x : Option TileKey) → checked_of h row col ≡ x → AllIn (add_key n x)
+  add_by n row col all (Some key) e = by (has n key)
     where
       by : (t : Bool) → AllIn (cond t n (push n key))
       by true = all
       by false = push_in n key all (checked_in_grid h row col e)
-  add_by n row col all Keyed.Outside e = all
-  add_by n row col all (Keyed.Refused number) e = all
+  add_by n row col all None e = all
 
   add_in : (n : NearKeys) (row col : ℤ) → AllIn n → AllIn (add n h row col)
   unfolding add
   add_in n row col all = add_by n row col all (checked_of h row col) refl
 
-  near_by_lem : (x : Keyed) (p : Point) → AllIn (near_by x h p)
+  near_by_lem : (x : Option TileKey) (p : Point) → AllIn (near_by x h p)
   unfolding around
-  near_by_lem (Keyed.In key) p = add_in _ _ _ (add_in _ _ _ (add_in _ _ _ (add_in no_keys _ _ (free_in 4))))
-  near_by_lem Keyed.Outside p = free_in 4
-  near_by_lem (Keyed.Refused number) p = free_in 4
+  near_by_lem (Some key) p = add_in _ _ _ (add_in _ _ _ (add_in _ _ _ (add_in no_keys _ _ (free_in 4))))
+  near_by_lem None p = free_in 4
 
   pub near_in_grid : (p : Point) → AllIn (near_of h p)
   unfolding near_of

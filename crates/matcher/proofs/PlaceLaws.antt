@@ -1,5 +1,6 @@
 -- A candidate that is written into its place, or dropped where it has none, is kept as `Keeping.insert` keeps it (`insert-written`, `insert_dropped`);
 -- and the cheapest place by place is `Choose.least_of` (`least_next`), the cheapest rival `Settle.runner_up` (`runner_next`).
+use Rattle.std.specs.Prelude.{None}
 use Prim.Native.Nat.{ℕ, ◌+◌, ◌<◌, ◌≤◌}
 use mathlib.Core.Path.{◌≡◌, refl, sym, ◌∙◌}
 use mathlib.Core.Bool.{Bool, true, false, cond}
@@ -11,7 +12,6 @@ use lib.Seq.{set_out}
 use borrow.Author.Tests.{ltb-true}
 use Rattle.geo.specs.Flat.{whole}
 use Rattle.num.proofs.FoldLaws.{up_start, up_turn}
-use Rattle.cache.specs.declared.victim.Found.TheVariants as Found
 use Rattle.matcher.specs.declared.Candidate.{Candidate}
 use Rattle.matcher.specs.declared.Current.{Current}
 use Rattle.matcher.specs.declared.Kept.{Kept}
@@ -51,7 +51,7 @@ module _ (k : Kept) (c : Candidate) (size : length k.v ≡ 8) where
 -- ---- the cheapest, place by place
 
 module _ (k : Kept) (which : Which) where
-  pub least_start : (zero : Float) → zero ≡ whole 0 → record { at = Found.Nothing; cost = zero } ≡ least_to k which 0
+  pub least_start : (zero : Float) → zero ≡ whole 0 → record { at = None; cost = zero } ≡ least_to k which 0
   unfolding least_to
   least_start zero e = rw e (sym (up_start _ _))
 

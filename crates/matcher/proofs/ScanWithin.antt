@@ -32,7 +32,6 @@ use Rattle.matcher.specs.declared.Nearest.{Nearest}
 use Rattle.matcher.specs.declared.Query.{Query}
 use Rattle.matcher.specs.declared.keep.Dearest.{Dearest}
 use Rattle.matcher.specs.declared.scan.MaybeNearest.{MaybeNearest}
-use Rattle.matcher.specs.declared.scan.MaybeNearest.TheVariants as MaybeNearest
 use Rattle.matcher.specs.declared.scan.Scanned.{Scanned}
 use Rattle.matcher.specs.Scan.{radius, origin, rejected, beats, is_closer, nearest_after, segment_step, scanned, scan, point_of}
 use Rattle.matcher.specs.Score.{held_height, height, candidate_at}

@@ -1,5 +1,7 @@
 -- A match found lies within a tile that was looked up, in the grid; or it is the one that was there before (`update_within`). The idea: whatever
 -- a tile's search keeps lies within the tile, the match is made of one of those, and a miss makes none.
+use Rattle.std.specs.Prelude.{Some, None}
+use Rattle.std.proofs.Common.{Option}
 use Prim.Native.Nat.{ℕ, ◌<◌}
 use mathlib.Core.Path.{◌≡◌, refl, ap, subst, ◌∙◌}
 use mathlib.Core.Bool.{Bool, true, false, cond}
@@ -11,10 +13,6 @@ use lib.Ieee.{Float}
 use Rattle.pack.specs.Grid.{in_grid}
 use Rattle.pack.specs.declared.Header.{Header}
 use Rattle.pack.specs.declared.TileKey.{TileKey}
-use Rattle.cache.specs.declared.MaybeKey.{MaybeKey}
-use Rattle.cache.specs.declared.MaybeKey.TheVariants as MaybeKey
-use Rattle.cache.specs.declared.victim.Found.{Found}
-use Rattle.cache.specs.declared.victim.Found.TheVariants as Found
 use Rattle.tile.proofs.Within.{key_is}
 use Rattle.cache.specs.Direct.{Look, ready, missing, absent, stale}
 use Rattle.matcher.specs.Within.{Within, AllKept}
@@ -24,19 +22,15 @@ use Rattle.matcher.specs.declared.Kept.{Kept}
 use Rattle.matcher.specs.declared.Matched.{Matched}
 use Rattle.matcher.specs.declared.Query.{Query}
 use Rattle.matcher.specs.declared.Current.{Current}
-use Rattle.matcher.specs.declared.Current.TheVariants as Current
-use Rattle.matcher.specs.declared.Forward.{Forward}
 use Rattle.matcher.specs.declared.Heading.{Heading}
 use Rattle.num.proofs.FoldLaws.{up_keeps}
 use Rattle.matcher.proofs.ScanWithin.{KeptGood, none_good, search_all}
 use Rattle.matcher.specs.declared.Matcher.{Matcher}
 use Rattle.matcher.specs.declared.NearKeys.{NearKeys}
 use Rattle.matcher.specs.declared.Outcome.{Outcome}
-use Rattle.matcher.specs.declared.Outcome.TheVariants as Outcome
 use Rattle.matcher.specs.declared.choose.Which.TheVariants as Which
 use Rattle.matcher.specs.declared.choose.Choice.{Choice}
 use Rattle.matcher.specs.declared.gather.Ending.{Ending}
-use Rattle.matcher.specs.declared.gather.Ending.TheVariants as Ending
 use Rattle.matcher.specs.Near.{key_at, near_of}
 use Rattle.matcher.specs.Choose.{least_of, chosen_by, past_node}
 use Rattle.matcher.specs.Settle.{with_figures, settled, more, missed, matched_by, matched}
@@ -66,11 +60,11 @@ module _ (at : TileKey → Look) (h : Header) where
     look_good absent r key e is_in_grid good = good
     look_good stale r key e is_in_grid good = good
 
-    key_good : (m : MaybeKey) (r : Run) → InGrid h m → KeptGood (FoundIn at h) r.kept → KeptGood (FoundIn at h) (key_step m at r q).kept
-    key_good MaybeKey.Nothing r is_in_grid good = good
-    key_good (MaybeKey.Key key) r is_in_grid good = look_good (at key) r key refl is_in_grid good
+    key_good : (m : Option TileKey) (r : Run) → InGrid h m → KeptGood (FoundIn at h) r.kept → KeptGood (FoundIn at h) (key_step m at r q).kept
+    key_good None r is_in_grid good = good
+    key_good (Some key) r is_in_grid good = look_good (at key) r key refl is_in_grid good
 
-    step_good : (end : Ending) (m : MaybeKey) (r : Run) → InGrid h m → KeptGood (FoundIn at h) r.kept
+    step_good : (end : Ending) (m : Option TileKey) (r : Run) → InGrid h m → KeptGood (FoundIn at h) r.kept
         → KeptGood (FoundIn at h) (run_step end m at r q).kept
     step_good Ending.All m r is_in_grid good = key_good m r is_in_grid good
     step_good (Ending.Need key) m r is_in_grid good = good
@@ -86,7 +80,7 @@ module _ (at : TileKey → Look) (h : Header) where
   -- ---- what the match is made of
 
   -- the figures that are set at the end are none that a place in a tile has
-  figures_in : (m : Matched) (forward : Forward) (sure : ℕ) (gone : Float) → FoundIn at h m → FoundIn at h (with_figures m forward sure gone)
+  figures_in : (m : Matched) (forward : Option Bool) (sure : ℕ) (gone : Float) → FoundIn at h m → FoundIn at h (with_figures m forward sure gone)
   figures_in m forward sure gone f = record {
     bytes = f.bytes;
     looked = f.looked;
@@ -117,10 +111,10 @@ module _ (at : TileKey → Look) (h : Header) where
       by true (Current.Is p) e = cc
       by false current e = let z : ◌≡◌ {A = ℕ} 0 1 = cc in absurd (omega arith)
 
-  matched_in : (x : Found) (m : Matcher) (k : Kept) (heading : Heading) (f : Matched) → AllKept (FoundIn at h) k → IsBelow k.len x
+  matched_in : (x : Option ℕ) (m : Matcher) (k : Kept) (heading : Heading) (f : Matched) → AllKept (FoundIn at h) k → IsBelow k.len x
       → outcome (matched_by x m k heading).current ≡ Outcome.Found f → FoundIn at h f ⊎ (m.current ≡ Current.Is f)
-  matched_in Found.Nothing m k heading f all below e = inr (missed_held m f e)
-  matched_in (Found.At i) m k heading f all below e =
+  matched_in None m k heading f all below e = inr (missed_held m f e)
+  matched_in (Some i) m k heading f all below e =
       inl
       (settled_in m k (past_node (chosen_by m.current k (candidate_in k i) m.challenger) k) heading f
       (chosen_kept (λ (c : Candidate). FoundIn at h c.found) k all m.current m.challenger i below) e)

@@ -9,11 +9,9 @@ use Rattle.geo.specs.Flat.{whole}
 use Rattle.cache.specs.declared.Cache.{Cache}
 use Rattle.matcher.specs.declared.Heading.{Heading}
 use Rattle.matcher.specs.declared.Current.{Current}
-use Rattle.matcher.specs.declared.Current.TheVariants as Current
 use Rattle.matcher.specs.declared.Answer.TheVariants as Answer
 use Rattle.matcher.specs.declared.Challenger.TheVariants as Challenger
 use Rattle.matcher.specs.declared.CurrentRead.{CurrentRead}
-use Rattle.matcher.specs.declared.CurrentRead.TheVariants as CurrentRead
 use Rattle.matcher.specs.declared.Matcher.{Matcher}
 use Rattle.matcher.specs.declared.NearRead.{NearRead}
 use Rattle.matcher.specs.declared.Updated.{Updated}

@@ -1,11 +1,10 @@
 -- Which candidate the match goes to: `matcher.rs`, `update`, from the cheapest on.
+use Rattle.std.specs.Prelude.{Option, Some, None}
 use Rattle.std.specs.Prelude.{ℕ, ◌+◌, Bool, true, ◌&&◌, ◌||◌, not, cond, eqb, ltb, Float}
 use Rattle.std.specs.Float.{binary32}
 use Rattle.std.specs.Float.Ieee.{add, le}
 use Rattle.num.specs.Order.{total_cmp}
 use Rattle.geo.specs.Flat.{whole}
-use Rattle.cache.specs.declared.victim.Found.{Found}
-use Rattle.cache.specs.declared.victim.Found.TheVariants as Found
 use Rattle.cache.specs.Search.{lowest}
 use Rattle.num.specs.Fold.{up_to}
 use Rattle.matcher.specs.Keeping.{candidate_in, is_less}
@@ -14,11 +13,8 @@ use Rattle.matcher.specs.declared.Candidate.{Candidate}
 use Rattle.matcher.specs.declared.Kept.{Kept}
 use Rattle.matcher.specs.declared.Matched.{Matched}
 use Rattle.matcher.specs.declared.Current.{Current}
-use Rattle.matcher.specs.declared.Current.TheVariants as Current
 use Rattle.matcher.specs.declared.Challenger.{Challenger}
-use Rattle.matcher.specs.declared.Challenger.TheVariants as Challenger
 use Rattle.matcher.specs.declared.choose.Which.{Which}
-use Rattle.matcher.specs.declared.choose.Which.TheVariants as Which
 use Rattle.matcher.specs.declared.choose.Least.{Least}
 use Rattle.matcher.specs.declared.choose.Choice.{Choice}
 
@@ -33,9 +29,9 @@ counts (Which.Past limit) c = c.joined && (not c.at_node && le c.cost limit)
 abbrev pub is_cheaper : Float → Float → Bool
 is_cheaper a b = is_less (total_cmp a b)
 
-abbrev pub lesser_by : Found → Least → ℕ → Float → Least
-lesser_by Found.Nothing l i cost = record { at = Found.At i; cost = cost }
-lesser_by (Found.At j) l i cost = cond (is_cheaper cost l.cost) (record { at = Found.At i; cost = cost }) l
+abbrev pub lesser_by : Option ℕ → Least → ℕ → Float → Least
+lesser_by None l i cost = record { at = Some i; cost = cost }
+lesser_by (Some j) l i cost = cond (is_cheaper cost l.cost) (record { at = Some i; cost = cost }) l
 
 -- candidate i in place of the cheapest so far, where it is cheaper: of equals the first
 abbrev pub lesser : Least → ℕ → Float → Least
@@ -47,9 +43,9 @@ least_step l n i c which = cond (ltb i n && counts which c) (lesser l i c.cost) 
 
 unfoldable pub least_to : Kept → Which → ℕ → Least
 least_to k which n =
-    up_to (λ (l : Least) (i : ℕ). least_step l k.len i (candidate_in k i) which) (record { at = Found.Nothing; cost = whole 0 }) n
+    up_to (λ (l : Least) (i : ℕ). least_step l k.len i (candidate_in k i) which) (record { at = None; cost = whole 0 }) n
 
-abbrev pub least_of : Kept → Which → Found
+abbrev pub least_of : Kept → Which → Option ℕ
 least_of k which = (least_to k which 8).at
 
 -- ---- the edge already matched
@@ -59,7 +55,7 @@ abbrev pub same_edge : Candidate → Matched → Bool
 same_edge c m = is_on c.found m.tile m.edge
 
 -- the first candidate on it
-unfoldable pub kept_at : Kept → Matched → Found
+unfoldable pub kept_at : Kept → Matched → Option ℕ
 kept_at k m = lowest (λ (i : ℕ). ltb i 8 && same_edge (candidate_in k i) m) k.len
 
 -- ---- hysteresis
@@ -88,9 +84,9 @@ held top kept m challenger =
     (cond (same_edge top m || le kept.cost (add binary32 top.cost (whole 1))) (record { chosen = kept; challenger = Challenger.Nothing })
     (contested top kept challenger))
 
-abbrev pub kept_by : Found → Kept → Candidate → Matched → Challenger → Choice
-kept_by Found.Nothing k top m challenger = record { chosen = top; challenger = challenger }
-kept_by (Found.At i) k top m challenger = held top (candidate_in k i) m challenger
+abbrev pub kept_by : Option ℕ → Kept → Candidate → Matched → Challenger → Choice
+kept_by None k top m challenger = record { chosen = top; challenger = challenger }
+kept_by (Some i) k top m challenger = held top (candidate_in k i) m challenger
 
 -- the cheapest, or the edge already matched
 abbrev pub chosen_by : Current → Kept → Candidate → Challenger → Choice
@@ -99,9 +95,9 @@ chosen_by (Current.Is m) k top challenger = kept_by (kept_at k m) k top m challe
 
 -- ---- past the end of the edge
 
-abbrev pub past_by : Found → Choice → Kept → Choice
-past_by Found.Nothing choice k = choice
-past_by (Found.At i) choice k = record { chosen = candidate_in k i; challenger = Challenger.Nothing }
+abbrev pub past_by : Option ℕ → Choice → Kept → Choice
+past_by None choice k = choice
+past_by (Some i) choice k = record { chosen = candidate_in k i; challenger = Challenger.Nothing }
 
 -- the road goes on along an edge joined to it, if the rider is beside one and riding along it: PAST_NODE is 2
 unfoldable pub past_node : Choice → Kept → Choice

@@ -1,16 +1,15 @@
 -- A match over a lookup: `matcher.rs`, `update`. The tiles around the fix are looked up in order; each that is found is searched; one that is
 -- not loaded ends the match with its key, and one that no longer passes with 12. `update_over` knows no cache: the direct engine shares it.
 -- `updated` is it at the cache's look, with what the lookups did to clock and ages.
+use Rattle.refusal.specs.declared.Refusal.{Refusal}
+use Rattle.std.specs.Prelude.{Option, Some, None, Result, Ok, Err}
 use Rattle.std.specs.Prelude.{ℕ, ◌+◌, List, [], ◌∷◌, ◌++◌, get_or}
 use Rattle.pack.specs.declared.TileKey.{TileKey}
 use Rattle.pack.specs.declared.Header.{Header}
-use Rattle.cache.specs.declared.MaybeKey.{MaybeKey}
-use Rattle.cache.specs.declared.MaybeKey.TheVariants as MaybeKey
 use Rattle.geo.specs.declared.Point.{Point}
 use Rattle.cache.specs.declared.Aging.{Aging}
 use Rattle.cache.specs.declared.Cache.{Cache}
 use Rattle.cache.specs.declared.Lookup.{Lookup}
-use Rattle.cache.specs.declared.Lookup.TheVariants as Lookup
 use Rattle.cache.specs.Ages.{bytes_of}
 use Rattle.cache.specs.Lookups.{landed, checked}
 use Rattle.cache.specs.Direct.{Look, ready, missing, absent, stale, look, looked}
@@ -21,7 +20,6 @@ use Rattle.matcher.specs.Tile.{search}
 use Rattle.matcher.specs.declared.Kept.{Kept}
 use Rattle.matcher.specs.declared.Query.{Query}
 use Rattle.matcher.specs.declared.Current.{Current}
-use Rattle.matcher.specs.declared.Current.TheVariants as Current
 use Rattle.matcher.specs.declared.Heading.{Heading}
 use Rattle.matcher.specs.declared.Landed.{Landed}
 use Rattle.matcher.specs.declared.Landings.{Landings}
@@ -29,11 +27,9 @@ use Rattle.matcher.specs.declared.Made.{Made}
 use Rattle.matcher.specs.declared.Matcher.{Matcher}
 use Rattle.matcher.specs.declared.NearKeys.{NearKeys}
 use Rattle.matcher.specs.declared.Outcome.{Outcome}
-use Rattle.matcher.specs.declared.Outcome.TheVariants as Outcome
 use Rattle.matcher.specs.declared.Searched.{Searched}
 use Rattle.matcher.specs.declared.Updated.{Updated}
 use Rattle.matcher.specs.declared.gather.Ending.{Ending}
-use Rattle.matcher.specs.declared.gather.Ending.TheVariants as Ending
 use Rattle.matcher.specs.Near.{key_at, near_of}
 use Rattle.matcher.specs.Settle.{matched}
 
@@ -51,12 +47,12 @@ look_step missing r q key = r
 look_step absent r q key = record { kept = r.kept; found = r.found; end = Ending.Need key }
 look_step stale r q key = record { kept = r.kept; found = r.found; end = Ending.Stale }
 
-abbrev pub key_step : MaybeKey → (TileKey → Look) → Run → Query → Run
-key_step MaybeKey.Nothing at r q = r
-key_step (MaybeKey.Key key) at r q = look_step (at key) r q key
+abbrev pub key_step : Option TileKey → (TileKey → Look) → Run → Query → Run
+key_step None at r q = r
+key_step (Some key) at r q = look_step (at key) r q key
 
 -- nothing more once they ended
-abbrev pub run_step : Ending → MaybeKey → (TileKey → Look) → Run → Query → Run
+abbrev pub run_step : Ending → Option TileKey → (TileKey → Look) → Run → Query → Run
 run_step Ending.All m at r q = key_step m at r q
 run_step (Ending.Need key) m at r q = r
 run_step Ending.Stale m at r q = r
@@ -115,33 +111,33 @@ pub record Gathered : Type 0 where
   pub tiles : ℕ
   pub end : Ending
 
-abbrev pub land : MaybeKey → Cache → Landed
-land MaybeKey.Nothing c = record { lookup = Lookup.Missing }
-land (MaybeKey.Key key) c = record { lookup = landed c key }
+abbrev pub land : Option TileKey → Cache → Landed
+land None c = record { lookup = Ok Lookup.Missing }
+land (Some key) c = record { lookup = Ok (landed c key) }
 
 unfoldable pub landings : Cache → NearKeys → Landings
 landings c near = record { v = land (key_at near 0) c ∷ land (key_at near 1) c ∷ land (key_at near 2) c ∷ land (key_at near 3) c ∷ [] }
 
 -- past the fourth stands the record of first variants, as the checker reads an array; no step asks there
-abbrev pub landed_at : Landings → ℕ → Lookup
-landed_at at i = (get_or at.v i (record { lookup = Lookup.Ready 0 0 })).lookup
+abbrev pub landed_at : Landings → ℕ → Result Lookup Refusal
+landed_at at i = (get_or at.v i (record { lookup = Ok (Lookup.Ready 0 0) })).lookup
 
 -- what was gathered while no lookup ended the match
 abbrev pub so_far : Kept → ℕ → Gathered
 so_far kept tiles = record { kept = kept; tiles = tiles; end = Ending.All }
 
-abbrev pub gathered_with : Gathered → Lookup → List ℕ → Query → TileKey → Gathered
-gathered_with g (Lookup.Ready first len) arena q key = so_far (search g.kept q (bytes_of arena first len)) (g.tiles + 1)
-gathered_with g Lookup.Missing arena q key = so_far g.kept (g.tiles + 1)
-gathered_with g Lookup.Absent arena q key = record { kept = g.kept; tiles = g.tiles; end = Ending.Need key }
-gathered_with g (Lookup.Refused number) arena q key = record { kept = g.kept; tiles = g.tiles; end = Ending.Stale }
+abbrev pub gathered_with : Gathered → Result Lookup Refusal → List ℕ → Query → TileKey → Gathered
+gathered_with g (Ok (Lookup.Ready first len)) arena q key = so_far (search g.kept q (bytes_of arena first len)) (g.tiles + 1)
+gathered_with g (Ok Lookup.Missing) arena q key = so_far g.kept (g.tiles + 1)
+gathered_with g (Ok Lookup.Absent) arena q key = record { kept = g.kept; tiles = g.tiles; end = Ending.Need key }
+gathered_with g (Err number) arena q key = record { kept = g.kept; tiles = g.tiles; end = Ending.Stale }
 
-abbrev pub gather_key : MaybeKey → Lookup → Gathered → List ℕ → Query → Gathered
-gather_key MaybeKey.Nothing l g arena q = so_far g.kept (g.tiles + 1)
-gather_key (MaybeKey.Key key) l g arena q = gathered_with g (checked l arena q.header.tile key) arena q key
+abbrev pub gather_key : Option TileKey → Result Lookup Refusal → Gathered → List ℕ → Query → Gathered
+gather_key None l g arena q = so_far g.kept (g.tiles + 1)
+gather_key (Some key) l g arena q = gathered_with g (checked l arena q.header.tile key) arena q key
 
 -- nothing more once they ended
-abbrev pub gather_step : Ending → MaybeKey → Lookup → Gathered → List ℕ → Query → Gathered
+abbrev pub gather_step : Ending → Option TileKey → Result Lookup Refusal → Gathered → List ℕ → Query → Gathered
 gather_step Ending.All k l g arena q = gather_key k l g arena q
 gather_step (Ending.Need key) k l g arena q = g
 gather_step Ending.Stale k l g arena q = g
@@ -170,11 +166,11 @@ searched m at arena h fix heading near = ended m heading (gathered_to at arena (
 -- ---- clock and ages
 
 -- the run that a lookup landed on is the most recently used
-abbrev pub used_by : Lookup → Aging → Aging
-used_by (Lookup.Ready first len) a = used_at a first
-used_by Lookup.Missing a = a
-used_by Lookup.Absent a = a
-used_by (Lookup.Refused number) a = a
+abbrev pub used_by : Result Lookup Refusal → Aging → Aging
+used_by (Ok (Lookup.Ready first len)) a = used_at a first
+used_by (Ok Lookup.Missing) a = a
+used_by (Ok Lookup.Absent) a = a
+used_by (Err number) a = a
 
 -- once the first n tiles were gone through; `from` has clock and ages before the first
 unfoldable pub uses_after : Landings → Aging → ℕ → Aging

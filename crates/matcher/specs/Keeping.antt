@@ -1,13 +1,12 @@
 -- The candidates kept, at most eight: `matcher.rs`, `insert`. Document 01: "Once eight are kept, a candidate as dear as the worst of them is
 -- dropped"; the worst is the last of the dearest by `total_cmp`.
-use Rattle.std.specs.Prelude.{ℕ, ◌+◌, Bool, true, false, cond, ltb, pos, Float, get_or, set, replicate}
+use Rattle.std.specs.Prelude.{ℕ, ◌+◌, Bool, true, false, cond, ltb, pos, Float, get_or, set, replicate, None}
 use Rattle.std.specs.Float.Ieee.{lt}
 use Rattle.num.specs.Order.{total_cmp}
-use Rattle.num.specs.declared.order.Ordering.{Ordering}
-use Rattle.num.specs.declared.order.Ordering.TheVariants.{Less, Equal, Greater}
+use Rattle.std.specs.declared.cmp.Ordering.{Ordering}
+use Rattle.std.specs.declared.cmp.Ordering.TheVariants.{Less, Equal, Greater}
 use Rattle.geo.specs.Flat.{whole}
 use Rattle.matcher.specs.declared.Candidate.{Candidate}
-use Rattle.matcher.specs.declared.Forward.TheVariants as Forward
 use Rattle.matcher.specs.declared.Kept.{Kept}
 use Rattle.matcher.specs.declared.keep.Dearest.{Dearest}
 use Rattle.num.specs.Fold.{up_to}
@@ -20,7 +19,7 @@ no_candidate = record {
     edge = 0;
     segment = 0;
     fraction = whole 0;
-    forward = Forward.Unknown;
+    forward = None;
     offset_m = whole 0;
     z_dm = pos 0;
     class = 0;

@@ -1,39 +1,36 @@
 -- The tiles that a search around a fix needs: `matcher.rs`, `nearby`.
+use Rattle.std.specs.Prelude.{is_some}
+use Rattle.std.specs.Prelude.{Option, Some, None}
 use Rattle.std.specs.Prelude.{ℕ, ◌+◌, Bool, cond, leb, ℤ, pos, negsuc, ◌+ℤ◌, ◌-ℤ◌, get_or, set, replicate}
 use Rattle.std.specs.Int.Signed.{lt_z}
 use Rattle.pack.specs.Grid.{corner_of, checked_of, key_of}
 use Rattle.pack.specs.declared.Header.{Header}
 use Rattle.pack.specs.declared.TileKey.{TileKey}
-use Rattle.pack.specs.declared.Keyed.{Keyed}
-use Rattle.pack.specs.declared.Keyed.TheVariants as Keyed
 use Rattle.geo.specs.declared.Point.{Point}
-use Rattle.cache.specs.Search.{lowest, is_found}
+use Rattle.cache.specs.Search.{lowest}
 use Rattle.cache.specs.Keys.{holds}
-use Rattle.cache.specs.declared.MaybeKey.{MaybeKey}
-use Rattle.cache.specs.declared.MaybeKey.TheVariants as MaybeKey
 use Rattle.matcher.specs.declared.NearKey.{NearKey}
 use Rattle.matcher.specs.declared.NearKeys.{NearKeys}
 
 abbrev pub no_place : NearKey
-no_place = record { key = MaybeKey.Nothing }
+no_place = record { key = None }
 
 abbrev pub no_keys : NearKeys
 no_keys = record { keys = replicate 4 no_place; len = 0 }
 
-abbrev pub key_at : NearKeys → ℕ → MaybeKey
+abbrev pub key_at : NearKeys → ℕ → Option TileKey
 key_at n i = (get_or n.keys i no_place).key
 
 -- `out.contains(&Some(k))`
 unfoldable pub has : NearKeys → TileKey → Bool
-has n key = is_found (lowest (λ (i : ℕ). holds (key_at n i) key) 4)
+has n key = is_some (lowest (λ (i : ℕ). holds (key_at n i) key) 4)
 
 unfoldable pub push : NearKeys → TileKey → NearKeys
-push n key = cond (leb 4 n.len) n (record { keys = set n.keys n.len (record { key = MaybeKey.Key key }); len = n.len + 1 })
+push n key = cond (leb 4 n.len) n (record { keys = set n.keys n.len (record { key = Some key }); len = n.len + 1 })
 
-abbrev pub add_key : NearKeys → Keyed → NearKeys
-add_key n (Keyed.In k) = cond (has n k) n (push n k)
-add_key n Keyed.Outside = n
-add_key n (Keyed.Refused number) = n
+abbrev pub add_key : NearKeys → Option TileKey → NearKeys
+add_key n (Some k) = cond (has n k) n (push n k)
+add_key n None = n
 
 -- a row and a column, where they lie in the grid and are new
 unfoldable pub add : NearKeys → Header → ℤ → ℤ → NearKeys
@@ -55,10 +52,9 @@ around h p key =
     let col = pos key.col in
     add (add (add (add no_keys h row col) h (row +ℤ down) col) h row (col +ℤ across)) h (row +ℤ down) (col +ℤ across)
 
-abbrev pub near_by : Keyed → Header → Point → NearKeys
-near_by (Keyed.In k) h p = around h p k
-near_by Keyed.Outside h p = no_keys
-near_by (Keyed.Refused number) h p = no_keys
+abbrev pub near_by : Option TileKey → Header → Point → NearKeys
+near_by (Some k) h p = around h p k
+near_by None h p = no_keys
 
 unfoldable pub near_of : Header → Point → NearKeys
 near_of h p = near_by (key_of h p.lat p.lon) h p

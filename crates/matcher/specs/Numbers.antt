@@ -1,13 +1,10 @@
 -- Document 01's number of each answer of `matcher`, 0 where it is no refusal. A tile that is needed is 5, with its key.
+use Rattle.std.specs.Prelude.{Option, Some, None}
+use Rattle.pack.specs.declared.TileKey.{TileKey}
 use Rattle.std.specs.Prelude.{ℕ}
-use Rattle.cache.specs.declared.MaybeKey.{MaybeKey}
-use Rattle.cache.specs.declared.MaybeKey.TheVariants as MaybeKey
 use Rattle.matcher.specs.declared.Answer.{Answer}
-use Rattle.matcher.specs.declared.Answer.TheVariants as Answer
 use Rattle.matcher.specs.declared.CurrentRead.{CurrentRead}
-use Rattle.matcher.specs.declared.CurrentRead.TheVariants as CurrentRead
 use Rattle.matcher.specs.declared.Outcome.{Outcome}
-use Rattle.matcher.specs.declared.Outcome.TheVariants as Outcome
 
 abbrev pub number_of_answer : Answer → ℕ
 number_of_answer Answer.Accepted = 0
@@ -25,8 +22,8 @@ number_of_outcome (Outcome.Need key) = 5
 number_of_outcome (Outcome.Refused number) = number
 
 -- the key beside 5
-abbrev pub key_of_outcome : Outcome → MaybeKey
-key_of_outcome (Outcome.Found found) = MaybeKey.Nothing
-key_of_outcome Outcome.Nothing = MaybeKey.Nothing
-key_of_outcome (Outcome.Need key) = MaybeKey.Key key
-key_of_outcome (Outcome.Refused number) = MaybeKey.Nothing
+abbrev pub key_of_outcome : Outcome → Option TileKey
+key_of_outcome (Outcome.Found found) = None
+key_of_outcome Outcome.Nothing = None
+key_of_outcome (Outcome.Need key) = Some key
+key_of_outcome (Outcome.Refused number) = None

@@ -8,12 +8,10 @@ use Rattle.geo.specs.declared.Point.{Point}
 use Rattle.cache.specs.Direct.{Look, ready, Agree}
 use Rattle.matcher.specs.Within.{Within}
 use Rattle.matcher.specs.declared.Current.{Current}
-use Rattle.matcher.specs.declared.Current.TheVariants as Current
 use Rattle.matcher.specs.declared.Heading.{Heading}
 use Rattle.matcher.specs.declared.Matched.{Matched}
 use Rattle.matcher.specs.declared.Matcher.{Matcher}
 use Rattle.matcher.specs.declared.Outcome.{Outcome}
-use Rattle.matcher.specs.declared.Outcome.TheVariants as Outcome
 use Rattle.matcher.specs.Gather.{update_over}
 
 -- ended with a match or with none (document 01: "a match (or finding none) is finished where working it out ends other than by 5, 12")

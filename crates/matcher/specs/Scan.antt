@@ -13,7 +13,6 @@ use Rattle.geo.specs.Points as Points
 use Rattle.geo.specs.Flat.{whole, metres_of, length_of, project_of}
 use Rattle.matcher.specs.declared.Nearest.{Nearest}
 use Rattle.matcher.specs.declared.scan.MaybeNearest.{MaybeNearest}
-use Rattle.matcher.specs.declared.scan.MaybeNearest.TheVariants as MaybeNearest
 use Rattle.matcher.specs.declared.scan.Scanned.{Scanned}
 use Rattle.matcher.specs.declared.scan.Along.{Along}
 use Rattle.num.specs.Fold.{up_to}

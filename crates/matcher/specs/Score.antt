@@ -1,6 +1,6 @@
 -- What an edge in reach of the fix costs, and the candidate that it makes: `matcher.rs`, `search`, after the scan of its points. Each float
 -- operation is rounded once, in the Rust's order.
-use Rattle.std.specs.Prelude.{ℕ, ◌+◌, Bool, true, false, ◌&&◌, ◌||◌, not, cond, List, eqb, ℤ, pos, negsuc, ◌+ℤ◌, ◌-ℤ◌, Float}
+use Rattle.std.specs.Prelude.{ℕ, ◌+◌, Bool, true, false, ◌&&◌, ◌||◌, not, cond, List, eqb, ℤ, pos, negsuc, ◌+ℤ◌, ◌-ℤ◌, Float, Option, Some, None}
 use Rattle.std.specs.Float.{binary32}
 use Rattle.std.specs.Float.Ieee.{of_bits, of_int, to_signed, add, sub, mul, div, lt, le}
 use Rattle.std.specs.Int.Bits.{bit_and}
@@ -13,12 +13,8 @@ use Rattle.geo.specs.Points as Points
 use Rattle.geo.specs.Flat.{whole, turn_of, bearing_of}
 use Rattle.cache.specs.Keys.{same_key}
 use Rattle.matcher.specs.declared.Heading.{Heading}
-use Rattle.matcher.specs.declared.Heading.TheVariants as Heading
-use Rattle.matcher.specs.declared.Forward.{Forward}
-use Rattle.matcher.specs.declared.Forward.TheVariants as Forward
 use Rattle.matcher.specs.declared.Matched.{Matched}
 use Rattle.matcher.specs.declared.Current.{Current}
-use Rattle.matcher.specs.declared.Current.TheVariants as Current
 use Rattle.matcher.specs.declared.Nearest.{Nearest}
 use Rattle.matcher.specs.declared.Candidate.{Candidate}
 use Rattle.matcher.specs.declared.Query.{Query}
@@ -37,19 +33,19 @@ is_on m id edge = same_id m.tile id && eqb m.edge edge
 -- ---- the heading
 
 -- the direction held on the edge already matched
-abbrev pub held_on : Current → TileId → ℕ → Forward
-held_on Current.Nothing id edge = Forward.Unknown
-held_on (Current.Is m) id edge = cond (is_on m id edge) m.forward Forward.Unknown
+abbrev pub held_on : Current → TileId → ℕ → Option Bool
+held_on Current.Nothing id edge = None
+held_on (Current.Is m) id edge = cond (is_on m id edge) m.forward None
 
 -- REVERSE_DEG is 135: near a hairpin a heading taken over the last 15 m cuts the corner by up to 90 degrees
-abbrev pub keeps_forward : Forward → Float → Float → Bool
-keeps_forward Forward.Unknown ahead back = le ahead back
-keeps_forward (Forward.Is forward) ahead back = cond forward (le ahead (whole 135)) (lt (whole 135) back)
+abbrev pub keeps_forward : Option Bool → Float → Float → Bool
+keeps_forward None ahead back = le ahead back
+keeps_forward (Some forward) ahead back = cond forward (le ahead (whole 135)) (lt (whole 135) back)
 
 -- HELD_DEG is 60
-abbrev pub limited : Forward → Float → Float
-limited Forward.Unknown error = error
-limited (Forward.Is forward) error = Order.min error (whole 60)
+abbrev pub limited : Option Bool → Float → Float
+limited None error = error
+limited (Some forward) error = Order.min error (whole 60)
 
 -- WRONG_WAY is 4
 abbrev pub penalty : Bool → Float → Float
@@ -59,20 +55,20 @@ penalty oneway ahead = cond (oneway && lt (whole 90) ahead) (whole 4) (whole 0)
 abbrev pub heading_cost : Float → Float → Float
 heading_cost error extra = add binary32 (mul binary32 (div binary32 error (whole 35)) (div binary32 error (whole 35))) extra
 
-abbrev pub aimed_by : Bool → Float → Float → Bool → Forward → Float → AimCost
+abbrev pub aimed_by : Bool → Float → Float → Bool → Option Bool → Float → AimCost
 aimed_by forward ahead back oneway held cost =
     cond forward
-    (record { cost = add binary32 cost (heading_cost (limited held ahead) (penalty oneway ahead)); forward = Forward.Is true })
-    (record { cost = add binary32 cost (heading_cost (limited held back) (whole 0)); forward = Forward.Is false })
+    (record { cost = add binary32 cost (heading_cost (limited held ahead) (penalty oneway ahead)); forward = Some true })
+    (record { cost = add binary32 cost (heading_cost (limited held back) (whole 0)); forward = Some false })
 
-unfoldable pub aimed : Float → Float → Bool → Forward → Float → AimCost
+unfoldable pub aimed : Float → Float → Bool → Option Bool → Float → AimCost
 aimed degrees bearing oneway held cost =
     let ahead = Order.fabsf (turn_of degrees bearing) in
     let back = sub binary32 (whole 180) ahead in
     aimed_by (keeps_forward held ahead back || oneway) ahead back oneway held cost
 
-abbrev pub aim : Heading → Float → Bool → Forward → Float → AimCost
-aim Heading.Nothing bearing oneway held cost = record { cost = cost; forward = Forward.Unknown }
+abbrev pub aim : Heading → Float → Bool → Option Bool → Float → AimCost
+aim Heading.Nothing bearing oneway held cost = record { cost = cost; forward = None }
 aim (Heading.Degrees d) bearing oneway held cost = aimed d bearing oneway held cost
 
 -- ---- the bonus
@@ -128,7 +124,7 @@ aim_at q id number e n =
     aim q.heading (bearing_of (sub binary32 n.b.east n.a.east) (sub binary32 n.b.north n.a.north))
     (is_oneway e) (held_on q.current id number) (distance_cost n.distance)
 
-abbrev pub matched_at : TileId → ℕ → Edge → Nearest → Forward → ℤ → Matched
+abbrev pub matched_at : TileId → ℕ → Edge → Nearest → Option Bool → ℤ → Matched
 matched_at id number e n forward z = record {
   tile = id;
   edge = number;

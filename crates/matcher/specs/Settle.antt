@@ -1,12 +1,10 @@
 -- The match that is made of the candidate chosen, or a miss: `matcher.rs`, `update`, its confidence, direction and ridden metres. Each float
 -- operation is rounded once, in the Rust's order.
-use Rattle.std.specs.Prelude.{ℕ, ◌+◌, Bool, true, false, ◌&&◌, not, cond, ltb, Float}
+use Rattle.std.specs.Prelude.{ℕ, ◌+◌, Bool, true, false, ◌&&◌, not, cond, ltb, Float, Option, Some, None}
 use Rattle.std.specs.Float.{binary32, inf}
 use Rattle.std.specs.Float.Ieee.{of_bits, to_unsigned, sub, mul, div}
 use Rattle.num.specs.Order as Order
 use Rattle.geo.specs.Flat.{whole}
-use Rattle.cache.specs.declared.victim.Found.{Found}
-use Rattle.cache.specs.declared.victim.Found.TheVariants as Found
 use Rattle.num.specs.Fold.{up_to}
 use Rattle.matcher.specs.Keeping.{candidate_in}
 use Rattle.matcher.specs.Score.{is_on}
@@ -14,11 +12,7 @@ use Rattle.matcher.specs.declared.Candidate.{Candidate}
 use Rattle.matcher.specs.declared.Kept.{Kept}
 use Rattle.matcher.specs.declared.Matched.{Matched}
 use Rattle.matcher.specs.declared.Current.{Current}
-use Rattle.matcher.specs.declared.Current.TheVariants as Current
-use Rattle.matcher.specs.declared.Forward.{Forward}
-use Rattle.matcher.specs.declared.Forward.TheVariants as Forward
 use Rattle.matcher.specs.declared.Heading.{Heading}
-use Rattle.matcher.specs.declared.Heading.TheVariants as Heading
 use Rattle.matcher.specs.declared.Challenger.TheVariants as Challenger
 use Rattle.matcher.specs.declared.Matcher.{Matcher}
 use Rattle.matcher.specs.declared.choose.Which.TheVariants as Which
@@ -70,16 +64,16 @@ confidence offset cost runner heading =
 
 -- ---- direction and ridden metres
 
-abbrev pub direction_from : Current → Matched → Forward
-direction_from Current.Nothing found = Forward.Unknown
-direction_from (Current.Is p) found = cond (is_on p found.tile found.edge) p.forward Forward.Unknown
+abbrev pub direction_from : Current → Matched → Option Bool
+direction_from Current.Nothing found = None
+direction_from (Current.Is p) found = cond (is_on p found.tile found.edge) p.forward None
 
-abbrev pub direction_by : Forward → Matched → Current → Forward
-direction_by (Forward.Is b) found previous = Forward.Is b
-direction_by Forward.Unknown found previous = direction_from previous found
+abbrev pub direction_by : Option Bool → Matched → Current → Option Bool
+direction_by (Some b) found previous = Some b
+direction_by None found previous = direction_from previous found
 
 -- the candidate's own, or without one that of the match so far on the same edge
-abbrev pub direction : Matched → Current → Forward
+abbrev pub direction : Matched → Current → Option Bool
 direction found previous = direction_by found.forward found previous
 
 abbrev pub same_bool : Bool → Bool → Bool
@@ -87,24 +81,24 @@ same_bool true b = b
 same_bool false b = not b
 
 -- unknown before, or the same now
-abbrev pub goes_on : Forward → Forward → Bool
-goes_on Forward.Unknown forward = true
-goes_on (Forward.Is a) Forward.Unknown = false
-goes_on (Forward.Is a) (Forward.Is b) = same_bool a b
+abbrev pub goes_on : Option Bool → Option Bool → Bool
+goes_on None forward = true
+goes_on (Some a) None = false
+goes_on (Some a) (Some b) = same_bool a b
 
-abbrev pub same_run : Current → Matched → Forward → Bool
+abbrev pub same_run : Current → Matched → Option Bool → Bool
 same_run Current.Nothing found forward = false
 same_run (Current.Is p) found forward = is_on p found.tile found.edge && goes_on p.forward forward
 
 -- where the run along the edge began: here, unless it goes on
-abbrev pub run_from : Matcher → Candidate → Forward → Float
+abbrev pub run_from : Matcher → Candidate → Option Bool → Float
 run_from m chosen forward = cond (same_run m.current chosen.found forward) m.run_from_m chosen.along_m
 
-abbrev pub ridden : Forward → Float → Float → Float
-ridden Forward.Unknown along from = whole 0
-ridden (Forward.Is b) along from = Order.max (cond b (sub binary32 along from) (sub binary32 from along)) (whole 0)
+abbrev pub ridden : Option Bool → Float → Float → Float
+ridden None along from = whole 0
+ridden (Some b) along from = Order.max (cond b (sub binary32 along from) (sub binary32 from along)) (whole 0)
 
-abbrev pub with_figures : Matched → Forward → ℕ → Float → Matched
+abbrev pub with_figures : Matched → Option Bool → ℕ → Float → Matched
 with_figures m forward sure gone = record {
   tile = m.tile;
   edge = m.edge;
@@ -121,7 +115,7 @@ with_figures m forward sure gone = record {
 
 -- ---- the matcher afterwards
 
-abbrev pub settled_with : Matcher → Kept → Choice → Heading → Forward → Float → Matcher
+abbrev pub settled_with : Matcher → Kept → Choice → Heading → Option Bool → Float → Matcher
 settled_with m k choice heading forward from =
     let chosen = choice.chosen in record {
       current = Current.Is
@@ -149,9 +143,9 @@ missed m = record {
   run_from_m = m.run_from_m;
 }
 
-abbrev pub matched_by : Found → Matcher → Kept → Heading → Matcher
-matched_by Found.Nothing m k heading = missed m
-matched_by (Found.At i) m k heading = settled m k (past_node (chosen_by m.current k (candidate_in k i) m.challenger) k) heading
+abbrev pub matched_by : Option ℕ → Matcher → Kept → Heading → Matcher
+matched_by None m k heading = missed m
+matched_by (Some i) m k heading = settled m k (past_node (chosen_by m.current k (candidate_in k i) m.challenger) k) heading
 
 -- the matcher after a search that kept these candidates
 unfoldable pub matched : Matcher → Kept → Heading → Matcher

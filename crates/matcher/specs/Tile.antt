@@ -5,7 +5,6 @@ use Rattle.tile.specs.declared.TileId.{TileId}
 use Rattle.matcher.specs.declared.Kept.{Kept}
 use Rattle.matcher.specs.declared.Query.{Query}
 use Rattle.matcher.specs.declared.scan.MaybeNearest.{MaybeNearest}
-use Rattle.matcher.specs.declared.scan.MaybeNearest.TheVariants as MaybeNearest
 use Rattle.num.specs.Fold.{up_to}
 use Rattle.matcher.specs.Scan.{scan}
 use Rattle.matcher.specs.Score.{candidate_at}

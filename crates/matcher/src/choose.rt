@@ -4,8 +4,7 @@ ghost use Rattle.matcher.specs.Keeping as Keeping;
 ghost use Rattle.matcher.specs.Choose as Choose;
 
 use crate::{Candidate, Challenger, Current, Kept, Matched};
-use cache::victim::Found;
-use num::order::Ordering;
+use std::cmp::Ordering;
 
 // Which candidates are looked at: all, or those on which the road goes on past a node, up to a cost.
 #[derive(Clone, Copy)]
@@ -17,7 +16,7 @@ pub enum Which {
 // The cheapest so far, and its cost.
 #[derive(Drop)]
 pub(crate) struct Least {
-    pub at: Found,
+    pub at: Option<usize>,
     pub cost: f32,
 }
 
@@ -61,16 +60,10 @@ fn lesser(l: Least, i: usize, cost: f32) -> Least
 {
     let at = l.at;
     match at {
-        Found::Nothing => Least {
-            at: Found::At(i),
-            cost,
-        },
-        Found::At(_) => {
+        None => Least { at: Some(i), cost },
+        Some(_) => {
             if is_less(cost, l.cost) {
-                return Least {
-                    at: Found::At(i),
-                    cost,
-                };
+                return Least { at: Some(i), cost };
             }
             l
         }
@@ -90,12 +83,12 @@ fn least_step(l: Least, n: usize, i: usize, c: Candidate, which: Which) -> Least
 }
 
 // The cheapest of those looked at. The places are named one by one, so that what is kept is read where it stands.
-pub(crate) fn least_of(k: Kept, which: Which) -> Found
+pub(crate) fn least_of(k: Kept, which: Which) -> Option<usize>
     ensures { result ≡ Choose.least_of k which }
 {
     let n = k.len;
     let mut l = Least {
-        at: Found::Nothing,
+        at: None,
         cost: 0.0,
     };
     l = least_step(l, n, 0, k.v[0], which);
@@ -148,22 +141,15 @@ pub(crate) fn same_edge(c: Candidate, m: Matched) -> bool
 }
 
 // The first candidate on the edge of a match.
-fn kept_at(k: Kept, m: Matched) -> Found
+fn kept_at(k: Kept, m: Matched) -> Option<usize>
     ensures { result ≡ Choose.kept_at k m }
 {
-    let n = k.len;
-    let mut i = 0;
-    while i < n {
-        if 8 <= i {
-            return Found::Nothing;
+    for i in 0..k.len.min(8) {
+        if same_edge(k.v[i], m) {
+            return Some(i);
         }
-        let c = k.v[i];
-        if same_edge(c, m) {
-            return Found::At(i);
-        }
-        i += 1;
     }
-    Found::Nothing
+    None
 }
 
 // On how many fixes in a row the candidate has now beaten the match.
@@ -243,11 +229,11 @@ pub(crate) fn chosen_by(current: Current, k: Kept, top: Candidate, challenger: C
             challenger,
         },
         Current::Is(m) => match kept_at(k, m) {
-            Found::Nothing => Choice {
+            None => Choice {
                 chosen: top,
                 challenger,
             },
-            Found::At(i) => held(top, candidate_in(k, i), m, challenger),
+            Some(i) => held(top, candidate_in(k, i), m, challenger),
         },
     }
 }
@@ -261,8 +247,8 @@ pub(crate) fn past_node(choice: Choice, k: Kept) -> Choice
         return choice;
     }
     match least_of(k, Which::Past(chosen.cost + 2.0)) {
-        Found::Nothing => choice,
-        Found::At(i) => Choice {
+        None => choice,
+        Some(i) => Choice {
             chosen: candidate_in(k, i),
             challenger: Challenger::Nothing,
         },

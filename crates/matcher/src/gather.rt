@@ -7,9 +7,10 @@ use crate::{
     Current, Heading, Kept, Landed, Landings, Made, Matcher, NearKey, NearKeys, Outcome, Query,
     Searched, Updated,
 };
-use cache::{Aging, Cache, Lookup, MaybeKey};
+use cache::{Aging, Cache, Lookup};
 use geo::Point;
 use pack::{Header, TileKey};
+use refusal::Refusal;
 
 // How the lookups of a match end, as the definitions of specs/Gather tell it: all done; a tile that is not loaded; a ready run that no longer passes.
 #[derive(Clone, Copy)]
@@ -48,11 +49,11 @@ fn land(c: Cache, place: NearKey) -> Landed
 {
     let key = place.key;
     match key {
-        MaybeKey::Nothing => Landed {
-            lookup: Lookup::Missing,
+        None => Landed {
+            lookup: Ok(Lookup::Missing),
         },
-        MaybeKey::Key(k) => {
-            let lookup = cache::look::landed(c, k);
+        Some(k) => {
+            let lookup = Ok(cache::look::landed(c, k));
             Landed { lookup }
         }
     }
@@ -76,36 +77,27 @@ fn gather(m: Matcher, at: Landings, arena: &[u8], q: Query, near: NearKeys) -> S
 {
     let header = q.header;
     let mut kept = crate::keep::none_kept();
-    let mut i = 0;
-    while i < 4 {
-        let place = near.keys[i];
-        let key = place.key;
-        let here = at.v[i];
-        let lookup = here.lookup;
-        let tiles = i;
-        i += 1;
-        let MaybeKey::Key(k) = key else {
+    for tiles in 0..4 {
+        let Some(k) = near.keys[tiles].key else {
             continue;
         };
-        match cache::look::checked(lookup, arena, header.tile, k) {
-            Lookup::Missing => {
-                continue;
-            }
-            Lookup::Absent => {
+        match cache::look::checked(at.v[tiles].lookup, arena, header.tile, k) {
+            Ok(Lookup::Missing) => continue,
+            Ok(Lookup::Absent) => {
                 return Searched {
                     answer: Outcome::Need(k),
                     matcher: m,
                     tiles,
                 };
             }
-            Lookup::Refused(_) => {
+            Err(_) => {
                 return Searched {
                     answer: Outcome::Refused(12),
                     matcher: m,
                     tiles: 0,
                 };
             }
-            Lookup::Ready(first, len) => {
+            Ok(Lookup::Ready(first, len)) => {
                 kept = crate::search(kept, q, cache::ages::run_bytes(arena, first, len));
             }
         }
@@ -138,29 +130,26 @@ pub fn searched(
 }
 
 // Clock and ages with the run that a lookup landed on as the most recently used.
-fn used_by(lookup: Lookup, a: Aging) -> Aging
+fn used_by(lookup: Result<Lookup, Refusal>, a: Aging) -> Aging
     ensures { result ≡ Gather.used_by lookup a }
 {
     match lookup {
-        Lookup::Missing => a,
-        Lookup::Absent => a,
-        Lookup::Refused(_) => a,
-        Lookup::Ready(first, _) => cache::uses::used_at(a, first),
+        Ok(Lookup::Missing) => a,
+        Ok(Lookup::Absent) => a,
+        Err(_) => a,
+        Ok(Lookup::Ready(first, _)) => cache::uses::used_at(a, first),
     }
 }
 
 // Clock and ages once the first `n` tiles were gone through.
+#[tactic(auto, using(crate::proofs::GatherLaws::uses_start, crate::proofs::GatherLaws::uses_turn))]
 fn uses_after(at: Landings, from: Aging, n: usize) -> Aging
     requires { n ≤ 4 }
     ensures { result ≡ Gather.uses_after at from n }
 {
     let mut a = from;
-    let mut i = 0;
-    while i < n {
-        let here = at.v[i];
-        let lookup = here.lookup;
-        a = used_by(lookup, a);
-        i += 1;
+    for i in 0..n {
+        a = used_by(at.v[i].lookup, a);
     }
     a
 }

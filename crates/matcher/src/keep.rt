@@ -3,9 +3,9 @@ ghost use Rattle.std.specs.Prelude.{◌≡◌};
 ghost use Rattle.matcher.specs.Keeping as Keeping;
 ghost use Rattle.matcher.specs.Placing as Placing;
 
-use crate::{Candidate, Forward, Kept, Matched};
-use num::order::Ordering;
+use crate::{Candidate, Kept, Matched};
 use pack::TileKey;
+use std::cmp::Ordering;
 use tile::TileId;
 
 pub(crate) fn no_candidate() -> Candidate
@@ -21,7 +21,7 @@ pub(crate) fn no_candidate() -> Candidate
         edge: 0,
         segment: 0,
         fraction: 0.0,
-        forward: Forward::Unknown,
+        forward: None,
         offset_m: 0.0,
         z_dm: 0,
         class: 0,
@@ -65,6 +65,7 @@ fn dearer(d: Dearest, i: usize, cost: f32) -> Dearest
 }
 
 // The dearest of all eight.
+#[tactic(auto, using(num::proofs::FoldLaws::up_start, num::proofs::FoldLaws::up_turn, crate::proofs::KeepLaws::at_any), unfolding(crate::specs::Keeping::dearest_of))]
 fn dearest_of(k: Kept) -> Dearest
     ensures { result ≡ Keeping.dearest_of k }
 {
@@ -73,11 +74,8 @@ fn dearest_of(k: Kept) -> Dearest
         at: 0,
         cost: first.cost,
     };
-    let mut i = 0;
-    while i < 8 {
-        let c = k.v[i];
+    for (i, c) in k.v.iter().enumerate() {
         d = dearer(d, i, c.cost);
-        i += 1;
     }
     d
 }

@@ -26,9 +26,10 @@ ghost use Rattle.matcher.specs.Tile as Tile;
 ghost use Rattle.matcher.specs.declared.scan.MaybeNearest.TheVariants as MaybeNearest;
 ghost use Rattle.std.specs.Prelude.{◌≡◌};
 
-use cache::{Aging, Cache, Lookup, MaybeKey};
+use cache::{Aging, Cache, Lookup};
 use geo::{Metres, Point};
 use pack::{Header, TileKey};
+use refusal::Refusal;
 use tile::TileId;
 
 // A heading is either none or a degree figure.
@@ -36,13 +37,6 @@ use tile::TileId;
 pub enum Heading {
     Nothing,
     Degrees(f32),
-}
-
-// Travelling from the edge's `from` node towards `to`, or back; unknown until a heading tells.
-#[derive(Clone, Copy)]
-pub enum Forward {
-    Unknown,
-    Is(bool),
 }
 
 // The rider's place on the road graph.
@@ -53,7 +47,7 @@ pub struct Matched {
     // The point index that the projection lies after, and how far along that segment, 0 to 1.
     pub segment: u16,
     pub fraction: f32,
-    pub forward: Forward,
+    pub forward: Option<bool>,
     // Distance from the fix to the road.
     pub offset_m: f32,
     // Elevation of the projected point, decimetres.
@@ -127,16 +121,12 @@ pub(crate) fn search(k: Kept, q: Query, bytes: &[u8]) -> Kept
     let head = tile::read::head(bytes);
     let id = tile::read::id(bytes);
     let lon_um = head.lon_um;
-    let edges = head.edges;
     let mut d = k;
-    let mut number: u16 = 0;
-    while number < edges {
-        let at = number;
-        number += 1;
-        let scan::MaybeNearest::At(n) = reached(q, id.key, lon_um, bytes, at) else {
+    for number in 0..head.edges {
+        let scan::MaybeNearest::At(n) = reached(q, id.key, lon_um, bytes, number) else {
             continue;
         };
-        let c = score::candidate_at(q, id, lon_um, bytes, at, n);
+        let c = score::candidate_at(q, id, lon_um, bytes, number, n);
         let place = keep::place_of(d, c.cost);
         if 8 <= place {
             continue;
@@ -166,7 +156,7 @@ pub struct Matcher {
 // One of the tiles that a search around a fix needs, or none.
 #[derive(Clone, Copy)]
 pub struct NearKey {
-    pub key: MaybeKey,
+    pub key: Option<TileKey>,
 }
 
 // They, at most four, and how many they are.
@@ -179,7 +169,7 @@ pub struct NearKeys {
 // What the lookup of one of them lands on, before its late check; Missing where there is no tile.
 #[derive(Clone, Copy)]
 pub struct Landed {
-    pub lookup: Lookup,
+    pub lookup: Result<Lookup, Refusal>,
 }
 
 // Of each of the four.

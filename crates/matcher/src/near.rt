@@ -3,16 +3,13 @@ ghost use Rattle.std.specs.Prelude.{◌≡◌, ℤ};
 ghost use Rattle.matcher.specs.Near as Near;
 
 use crate::{NearKey, NearKeys};
-use cache::MaybeKey;
 use geo::Point;
-use pack::{Header, Keyed, TileKey};
+use pack::{Header, TileKey};
 
 pub fn no_keys() -> NearKeys
     ensures { result ≡ Near.no_keys }
 {
-    let none = NearKey {
-        key: MaybeKey::Nothing,
-    };
+    let none = NearKey { key: None };
     let keys = [none; 4];
     NearKeys { keys, len: 0 }
 }
@@ -21,16 +18,9 @@ pub fn no_keys() -> NearKeys
 fn has(n: NearKeys, key: TileKey) -> bool
     ensures { result ≡ Near.has n key }
 {
-    let mut i = 0;
-    while i < 4 {
-        let place = n.keys[i];
-        let k = place.key;
-        if cache::keys::holds(k, key) {
-            return true;
-        }
-        i += 1;
-    }
-    false
+    n.keys
+        .iter()
+        .any(|place| cache::keys::holds(place.key, key))
 }
 
 // A key behind those so far, if there is room.
@@ -42,9 +32,7 @@ fn push(n: NearKeys, key: TileKey) -> NearKeys
     }
     let mut d = n;
     let at = d.len;
-    d.keys[at] = NearKey {
-        key: MaybeKey::Key(key),
-    };
+    d.keys[at] = NearKey { key: Some(key) };
     d.len = at + 1;
     d
 }
@@ -54,14 +42,13 @@ fn add(n: NearKeys, header: Header, row: i64, col: i64) -> NearKeys
     ensures { result ≡ Near.add n header row col }
 {
     match pack::grid::checked_of(header, row, col) {
-        Keyed::In(k) => {
+        Some(k) => {
             if has(n, k) {
                 return n;
             }
             push(n, k)
         }
-        Keyed::Outside => n,
-        Keyed::Refused(_) => n,
+        None => n,
     }
 }
 
@@ -99,8 +86,7 @@ pub fn near_of(header: Header, fix: Point) -> NearKeys
     ensures { result ≡ Near.near_of header fix }
 {
     match pack::grid::key_of(header, fix.lat, fix.lon) {
-        Keyed::In(k) => around(header, fix, k),
-        Keyed::Outside => no_keys(),
-        Keyed::Refused(_) => no_keys(),
+        Some(k) => around(header, fix, k),
+        None => no_keys(),
     }
 }

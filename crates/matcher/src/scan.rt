@@ -174,16 +174,10 @@ pub(crate) fn scan(
         at: first,
         nearest: MaybeNearest::Nothing,
     };
-    let last = edge.vertices;
     let base = vertices_at(bytes, edge);
-    let mut i: u16 = 0;
-    loop {
+    for i in 0..=edge.vertices {
         let b = geo::flat::metres(next_point(header, bytes, key, edge, base, i), fix, lon_um);
         s = segment_step(s, b, i);
-        if i == last {
-            break;
-        }
-        i += 1;
     }
     s.nearest
 }
@@ -201,6 +195,7 @@ fn along_step(s: Along, b: Point, lon_um: u32) -> Along
 }
 
 // Metres along an edge from its `from` node to the projected fix.
+#[tactic(auto, using(num::proofs::FoldLaws::up_start, num::proofs::FoldLaws::up_turn), unfolding(crate::specs::Scan::along_to))]
 pub(crate) fn along_to(
     header: Header,
     bytes: &[u8],
@@ -218,12 +213,9 @@ pub(crate) fn along_to(
         at: point_of(header, bytes, key, edge, 0),
         metres: into,
     };
-    let last = n.segment;
-    let mut i: u16 = 0;
-    while i < last {
-        let p = point_of(header, bytes, key, edge, (i as usize) + 1);
+    for i in 0..usize::from(n.segment) {
+        let p = point_of(header, bytes, key, edge, i + 1);
         s = along_step(s, p, lon_um);
-        i += 1;
     }
     s.metres
 }

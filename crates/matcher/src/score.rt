@@ -2,14 +2,14 @@
 ghost use Rattle.std.specs.Prelude.{◌≡◌, ℤ};
 ghost use Rattle.matcher.specs.Score as Score;
 
-use crate::{Candidate, Current, Forward, Heading, Matched, Nearest, Query};
+use crate::{Candidate, Current, Heading, Matched, Nearest, Query};
 use tile::{Edge, TileId};
 
 // A cost, and the direction that goes with it.
 #[derive(Drop)]
 pub(crate) struct AimCost {
     pub cost: f32,
-    pub forward: Forward,
+    pub forward: Option<bool>,
 }
 
 // A cost, and whether the edge is joined to the current match.
@@ -42,28 +42,28 @@ pub fn is_on(m: Matched, id: TileId, edge: u16) -> bool
 }
 
 // The direction held on the edge already matched; unknown on any other.
-fn held_on(current: Current, id: TileId, edge: u16) -> Forward
+fn held_on(current: Current, id: TileId, edge: u16) -> Option<bool>
     ensures { result ≡ Score.held_on current id edge }
 {
     match current {
-        Current::Nothing => Forward::Unknown,
+        Current::Nothing => None,
         Current::Is(m) => {
             let forward = m.forward;
             if is_on(m, id, edge) {
                 return forward;
             }
-            Forward::Unknown
+            None
         }
     }
 }
 
 // Whether the edge's own direction is kept: a held one unless the heading clearly reverses, else the closer.
-fn keeps_forward(held: Forward, ahead: f32, back: f32) -> bool
+fn keeps_forward(held: Option<bool>, ahead: f32, back: f32) -> bool
     ensures { result ≡ Score.keeps_forward held ahead back }
 {
     match held {
-        Forward::Unknown => ahead <= back,
-        Forward::Is(forward) => {
+        None => ahead <= back,
+        Some(forward) => {
             if forward {
                 return ahead <= 135.0;
             }
@@ -73,12 +73,12 @@ fn keeps_forward(held: Forward, ahead: f32, back: f32) -> bool
 }
 
 // A heading error counts at most 60 degrees while a direction is held.
-fn limited(held: Forward, error: f32) -> f32
+fn limited(held: Option<bool>, error: f32) -> f32
     ensures { result ≡ Score.limited held error }
 {
     match held {
-        Forward::Unknown => error,
-        Forward::Is(_) => num::order::min(error, 60.0),
+        None => error,
+        Some(_) => num::order::min(error, 60.0),
     }
 }
 
@@ -99,7 +99,7 @@ fn heading_cost(error: f32, extra: f32) -> f32
 }
 
 // The cost of a heading, with the direction that it tells.
-fn aimed(degrees: f32, bearing: f32, oneway: bool, held: Forward, cost: f32) -> AimCost
+fn aimed(degrees: f32, bearing: f32, oneway: bool, held: Option<bool>, cost: f32) -> AimCost
     ensures { result ≡ Score.aimed degrees bearing oneway held cost }
 {
     let ahead = num::order::fabsf(geo::flat::turn(degrees, bearing));
@@ -109,23 +109,23 @@ fn aimed(degrees: f32, bearing: f32, oneway: bool, held: Forward, cost: f32) -> 
         let error = limited(held, ahead);
         return AimCost {
             cost: cost + heading_cost(error, penalty(oneway, ahead)),
-            forward: Forward::Is(true),
+            forward: Some(true),
         };
     }
     let error = limited(held, back);
     AimCost {
         cost: cost + heading_cost(error, 0.0),
-        forward: Forward::Is(false),
+        forward: Some(false),
     }
 }
 
-fn aim(heading: Heading, bearing: f32, oneway: bool, held: Forward, cost: f32) -> AimCost
+fn aim(heading: Heading, bearing: f32, oneway: bool, held: Option<bool>, cost: f32) -> AimCost
     ensures { result ≡ Score.aim heading bearing oneway held cost }
 {
     match heading {
         Heading::Nothing => AimCost {
             cost,
-            forward: Forward::Unknown,
+            forward: None,
         },
         Heading::Degrees(d) => aimed(d, bearing, oneway, held, cost),
     }
@@ -253,7 +253,7 @@ fn matched_at(
     number: u16,
     edge: Edge,
     n: Nearest,
-    forward: Forward,
+    forward: Option<bool>,
     z_dm: i32,
 ) -> Matched
     ensures { result ≡ Score.matched_at id number edge n forward z_dm }

@@ -3,8 +3,7 @@ ghost use Rattle.std.specs.Prelude.{◌≡◌};
 ghost use Rattle.matcher.specs.Settle as Settle;
 
 use crate::choose::{Choice, Which};
-use crate::{Candidate, Challenger, Current, Forward, Heading, Kept, Matched, Matcher};
-use cache::victim::Found;
+use crate::{Candidate, Challenger, Current, Heading, Kept, Matched, Matcher};
 
 // The edge just left, where the match goes over to one joined to it.
 fn left_of(previous: Current, chosen: Candidate) -> Current
@@ -96,40 +95,34 @@ fn confidence(offset_m: f32, cost: f32, runner: f32, heading: Heading) -> u8
 }
 
 // The direction: a candidate's own, or without one that of the match so far on the same edge.
-fn direction(found: Matched, previous: Current) -> Forward
+fn direction(found: Matched, previous: Current) -> Option<bool>
     ensures { result ≡ Settle.direction found previous }
 {
     let forward = found.forward;
     match forward {
-        Forward::Is(b) => Forward::Is(b),
-        Forward::Unknown => match previous {
-            Current::Nothing => Forward::Unknown,
+        Some(b) => Some(b),
+        None => match previous {
+            Current::Nothing => None,
             Current::Is(p) => {
                 let was = p.forward;
                 if crate::score::is_on(p, found.tile, found.edge) {
                     return was;
                 }
-                Forward::Unknown
+                None
             }
         },
     }
 }
 
 // Whether a direction was unknown, or is the same now.
-fn goes_on(was: Forward, forward: Forward) -> bool
+fn goes_on(was: Option<bool>, forward: Option<bool>) -> bool
     ensures { result ≡ Settle.goes_on was forward }
 {
-    match was {
-        Forward::Unknown => true,
-        Forward::Is(a) => match forward {
-            Forward::Unknown => false,
-            Forward::Is(b) => a == b,
-        },
-    }
+    was.is_none() || was == forward
 }
 
 // Whether the match stays on its edge in its direction.
-fn same_run(previous: Current, found: Matched, forward: Forward) -> bool
+fn same_run(previous: Current, found: Matched, forward: Option<bool>) -> bool
     ensures { result ≡ Settle.same_run previous found forward }
 {
     match previous {
@@ -145,12 +138,12 @@ fn same_run(previous: Current, found: Matched, forward: Forward) -> bool
 }
 
 // Metres ridden in a direction from where the run began.
-fn ridden(forward: Forward, along_m: f32, from_m: f32) -> f32
+fn ridden(forward: Option<bool>, along_m: f32, from_m: f32) -> f32
     ensures { result ≡ Settle.ridden forward along_m from_m }
 {
     match forward {
-        Forward::Unknown => 0.0,
-        Forward::Is(b) => {
+        None => 0.0,
+        Some(b) => {
             if b {
                 return num::order::max(along_m - from_m, 0.0);
             }
@@ -159,7 +152,7 @@ fn ridden(forward: Forward, along_m: f32, from_m: f32) -> f32
     }
 }
 
-fn with_figures(m: Matched, forward: Forward, confidence: u8, ridden_m: f32) -> Matched
+fn with_figures(m: Matched, forward: Option<bool>, confidence: u8, ridden_m: f32) -> Matched
     ensures { result ≡ Settle.with_figures m forward confidence ridden_m }
 {
     let tile = m.tile;
@@ -179,7 +172,7 @@ fn with_figures(m: Matched, forward: Forward, confidence: u8, ridden_m: f32) -> 
 }
 
 // Where the run along the edge began: here, unless it goes on.
-fn run_from(m: Matcher, chosen: Candidate, forward: Forward) -> f32
+fn run_from(m: Matcher, chosen: Candidate, forward: Option<bool>) -> f32
     ensures { result ≡ Settle.run_from m chosen forward }
 {
     let previous = m.current;
@@ -240,8 +233,8 @@ pub(crate) fn matched(m: Matcher, k: Kept, heading: Heading) -> Matcher
     ensures { result ≡ Settle.matched m k heading }
 {
     match crate::choose::least_of(k, Which::All) {
-        Found::Nothing => missed(m),
-        Found::At(i) => {
+        None => missed(m),
+        Some(i) => {
             let current = m.current;
             let challenger = m.challenger;
             let top = crate::choose::candidate_in(k, i);

@@ -219,7 +219,7 @@ module _ (z : ℤ) (t : Float) (q i : ℕ) (digits : q < 2 ^ 24) (room : 24 + i 
       int_within binary32 z q (i + low binary32) (whole_value binary32 q i digits room)
       (le_trans (mul-le-mul_right (2 ^ low binary32) bound) (le_of_eq (as_units binary32 q i)))
 
-  -- document 01's heights and places part of the way: a whole number within q * 2 ^ i as a float, a part of it, cut toward zero, is within that too
+  -- heights and places part of the way: a whole number within q * 2 ^ i as a float, a part of it, cut toward zero, is within that too
   pub part_cast : IsPart t → nat_abs (to_signed 31 (mul binary32 (of_int binary32 z) t)) ≤ q * 2 ^ i
   part_cast part =
       ⊎_elim (λ (e : t ≡ nan). rw (e, mul-nan binary32 (of_int binary32 z)) (cast_nan 31 (q * 2 ^ i)))

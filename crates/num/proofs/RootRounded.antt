@@ -5,7 +5,7 @@ use Prim.Native.Nat.{compare}
 use native.Mathlib.Nat.{lt-mul-div-succ}
 use lib.Count.{count_leading_zeros, leading_length}
 use borrow.Author.Tests.{lt-leb}
-use lib.Ieee.{Float, nan, inf, fin, binary32, low, up, down, size, nearest, odd, units, fits, of_fields, of_bits, to_bits, div}
+use lib.Ieee.{Float, nan, inf, fin, binary32, up, down, size, nearest, odd, units, fits, of_fields, of_bits, to_bits, div}
 use lib.Ieee.Fits.{down_pos}
 use lib.Ieee.Exact.{HasValue, odd_sign}
 use lib.Ieee.Bits.{of_bits-to_bits}

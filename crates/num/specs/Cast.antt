@@ -15,6 +15,6 @@ low_bits (negsuc n) = 0xffff - n % 0x1_0000
 abbrev pub signed16 : ℕ → ℤ
 signed16 n = cond (nat_lt n 32768) (pos n) (negsuc (65535 - n))
 
--- Rust's `z as i16`: document 01, "keeps the low 16 bits"
+-- Rust's `z as i16`, which keeps the low 16 bits
 abbrev pub low16 : ℤ → ℤ
 low16 z = signed16 (low_bits z)

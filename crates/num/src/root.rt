@@ -1,11 +1,12 @@
 // The square root of a single float, correctly rounded, by whole numbers, none of which is wider than 32 bits, as the types show: root and remainder of the
-// value's digits so far are carried, never the value. Each digit of the root takes two of the value's.
+// value's digits so far are carried, never the value. Each digit of the root takes two of the value's. (std's `sqrt` is the machine's own operation, which would
+// be trusted; this one is proved.)
 ghost use Rattle.std.specs.Prelude.{◌≡◌, ◌+◌, ◌*◌, ◌^◌, ◌<◌, ◌≤◌, ◌⊎◌, from_bits};
 ghost use Rattle.std.specs.Float.{binary32};
 ghost use Rattle.num.specs.Root.{square, whole_root, near_root, square_root};
 
 // A whole root, and the remainder: what its number has above the root's square, at most twice the root.
-#[derive(Drop)]
+#[derive(Clone, Copy, PartialEq, Eq, Debug)]
 struct Parts {
     whole: u32,
     rest: u32,

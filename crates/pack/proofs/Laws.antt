@@ -13,16 +13,13 @@ use lib.ListN.{length, take, drop, get_or, get_or-eq_default}
 use lib.Seq.{get_or-take, get_or-drop}
 use lib.Signed.{le_z, lt_z}
 use borrow.Author.Tests.{ltb-true, leb-true, eqb-true, eqb-false}
+use Rattle.std.specs.Prelude.{Option, Some, None, Result, Ok, Err}
 use Rattle.pack.specs.Bytes.{u16_at, u32_at, u64_at}
-use Rattle.pack.specs.Sector.{all_of, header_at, is_magic, is_version, is_sum, spans, rules_of, rules, refused, parse}
+use Rattle.pack.specs.Sector.{all_of, header_at, is_magic, is_version, is_sum, spans, rules_of, rules, parse}
 use Rattle.pack.specs.Grid.{in_grid, within, natural, floor_of, checked_of, key_of, corner_of, entry_of, locate_of, read}
 use Rattle.pack.specs.declared.Header.{Header}
 use Rattle.pack.specs.declared.TileKey.{TileKey}
-use Rattle.pack.specs.declared.Parsed.{Parsed}
-use Rattle.pack.specs.declared.Answer.TheVariants as Answer
-use Rattle.pack.specs.declared.Keyed.TheVariants as Keyed
-use Rattle.pack.specs.declared.Located.TheVariants as Located
-use Rattle.pack.specs.declared.Range.TheVariants as Range
+use Rattle.refusal.specs.declared.Refusal.{Refusal}
 use Rattle.pack.proofs.Signed.{add, le-true, le_yes, lt_no}
 
 -- ---- numbers past the end
@@ -200,21 +197,21 @@ within_below : (z : ℤ) (n : ℕ) → within z n ≡ true → ltb (natural z) n
 within_below (pos a) n e = and_right (le_z (pos 0) (pos a)) (ltb a n) e
 within_below (negsuc a) n e = absurd (true≢false (sym e))
 
-pub checked_in_grid : (h : Header) (row col : ℤ) {k : TileKey} → checked_of h row col ≡ Keyed.In k → in_grid h k ≡ true
+pub checked_in_grid : (h : Header) (row col : ℤ) {k : TileKey} → checked_of h row col ≡ Some k → in_grid h k ≡ true
 unfolding checked_of
 checked_in_grid h row col {k} e = go (within row h.rows && within col h.cols) refl e
   where
     found : TileKey
     found = record { row = natural row; col = natural col }
 
-    go : (t : Bool) → (within row h.rows && within col h.cols) ≡ t → cond t (Keyed.In found) Keyed.Outside ≡ Keyed.In k → in_grid h k ≡ true
+    go : (t : Bool) → (within row h.rows && within col h.cols) ≡ t → cond t (Some found) None ≡ Some k → in_grid h k ≡ true
     go true q r =
         let same : found ≡ k = cc in
         rw (← same, within_below row h.rows (and_left (within row h.rows) (within col h.cols) q))
         (within_below col h.cols (and_right (within row h.rows) (within col h.cols) q))
-    go false q r = let z : ◌≡◌ {A = ℕ} 0 1 = cc in absurd (omega arith)
+    go false q r = cc
 
-pub key_in_grid : (h : Header) (lat lon : ℤ) {k : TileKey} → key_of h lat lon ≡ Keyed.In k → in_grid h k ≡ true
+pub key_in_grid : (h : Header) (lat lon : ℤ) {k : TileKey} → key_of h lat lon ≡ Some k → in_grid h k ≡ true
 unfolding key_of
 key_in_grid h lat lon {k} e = go (eqb h.tile 0) e
   where
@@ -224,30 +221,27 @@ key_in_grid h lat lon {k} e = go (eqb h.tile 0) e
     col : ℤ
     col = floor_of (lon -ℤ h.west) h.tile
 
-    go : (t : Bool) → cond t Keyed.Outside (checked_of h row col) ≡ Keyed.In k → in_grid h k ≡ true
-    go true r = let z : ◌≡◌ {A = ℕ} 0 1 = cc in absurd (omega arith)
+    go : (t : Bool) → cond t None (checked_of h row col) ≡ Some k → in_grid h k ≡ true
+    go true r = cc
     go false r = checked_in_grid h row col r
 
 -- ---- an accepted sector
 
-pub parse_accepted : (s : List ℕ) → (parse s).answer ≡ Answer.Accepted → (rules (parse s).header ≡ true) × ((parse s).header ≡ header_at s)
+pub parse_accepted : (s : List ℕ) {h : Header} → parse s ≡ Ok h → (rules h ≡ true) × (h ≡ header_at s)
 unfolding parse
-parse_accepted s e = go (is_sum s) (all_of rest) refl e
+parse_accepted s {h} e = go (is_sum s) (all_of rest) refl e
   where
     rest : List Bool
     rest = is_magic s ∷ is_version s ∷ rules (header_at s) ∷ []
 
-    taken : Bool → Bool → Parsed
-    taken sum t = cond sum (cond t (record { answer = Answer.Accepted; header = header_at s }) (refused 3)) (refused 4)
-
-    go : (sum t : Bool) → all_of rest ≡ t → (taken sum t).answer ≡ Answer.Accepted → (rules (taken sum t).header ≡ true) × ((taken sum t).header ≡ header_at s)
-    go true true q r = (clause 2 rest q, refl)
-    go true false q r = let z : ◌≡◌ {A = ℕ} 0 1 = cc in absurd (omega arith)
-    go false t q r = let z : ◌≡◌ {A = ℕ} 0 1 = cc in absurd (omega arith)
+    go : (sum t : Bool) → all_of rest ≡ t → cond sum (cond t (Ok (header_at s)) (Err Refusal.Unsupported)) (Err Refusal.Corrupt) ≡ Ok h → (rules h ≡ true) × (h ≡ header_at s)
+    go true true q r = let same : header_at s ≡ h = cc in (rw (← same) (clause 2 rest q), cc)
+    go true false q r = (cc, cc)
+    go false t q r = (cc, cc)
 
 -- ---- a located tile
 
-pub located : (h : Header) (e : List ℕ) {o l : ℕ} → locate_of h e ≡ Located.Tile o l → (0 < l) × ((h.«data» ≤ o) × (o + l ≤ h.total))
+pub located : (h : Header) (e : List ℕ) {o l : ℕ} → locate_of h e ≡ Ok (Some (o, l)) → (0 < l) × ((h.«data» ≤ o) × (o + l ≤ h.total))
 unfolding locate_of
 located h e {o} {l} r = go (eqb length' 0) (leb h.«data» offset && leb (offset + length') h.total) refl refl r
   where
@@ -257,27 +251,31 @@ located h e {o} {l} r = go (eqb length' 0) (leb h.«data» offset && leb (offset
     length' : ℕ
     length' = u32_at e 4
 
+    tile : Result (Option (ℕ × ℕ)) Refusal
+    tile = Ok (Some (offset, length'))
+
     go :
         (none lies : Bool) →
         eqb length' 0 ≡ none →
         (leb h.«data» offset && leb (offset + length') h.total) ≡ lies →
-        cond none Located.NoTile (cond lies (Located.Tile offset length') (Located.Refused 4)) ≡ Located.Tile o l →
+        cond none (Ok None) (cond lies tile (Err Refusal.Corrupt)) ≡ Ok (Some (o, l)) →
         (0 < l) × ((h.«data» ≤ o) × (o + l ≤ h.total))
     go true lies p q r = let z : ◌≡◌ {A = ℕ} 0 1 = cc in absurd (omega arith)
     go false false p q r = let z : ◌≡◌ {A = ℕ} 0 1 = cc in absurd (omega arith)
     go false true p q r =
-        let at : offset ≡ o = cc in
-        let long : length' ≡ l = cc in
+        let same : ◌≡◌ {A = ℕ × ℕ} (offset, length') (o, l) = cc in
+        let at : offset ≡ o = ap (λ (t : ℕ × ℕ). t.0) same in
+        let long : length' ≡ l = ap (λ (t : ℕ × ℕ). t.1) same in
         let start = leb-true h.«data» offset (and_left (leb h.«data» offset) (leb (offset + length') h.total) q) in
         let end = leb-true (offset + length') h.total (and_right (leb h.«data» offset) (leb (offset + length') h.total) q) in
         (omega (arith, eqb-false length' 0 p), (omega arith, omega arith))
 
 -- ---- a range of a lent pack
 
-pub read_at : (pack : List ℕ) (offset len : ℕ) {a : ℕ} → read pack offset len ≡ Range.At a → (a ≡ offset) × (offset + len ≤ length pack)
+pub read_at : (pack : List ℕ) (offset len : ℕ) {a : ℕ} → read pack offset len ≡ Ok a → (a ≡ offset) × (offset + len ≤ length pack)
 unfolding read
 read_at pack offset len {a} e = go (leb (offset + len) (length pack)) refl e
   where
-    go : (t : Bool) → leb (offset + len) (length pack) ≡ t → cond t (Range.At offset) (Range.Refused 2) ≡ Range.At a → (a ≡ offset) × (offset + len ≤ length pack)
+    go : (t : Bool) → leb (offset + len) (length pack) ≡ t → cond t (Ok offset) (Err Refusal.PastPack) ≡ Ok a → (a ≡ offset) × (offset + len ≤ length pack)
     go true q r = (cc, leb-true (offset + len) (length pack) q)
-    go false q r = let z : ◌≡◌ {A = ℕ} 0 1 = cc in absurd (omega arith)
+    go false q r = cc

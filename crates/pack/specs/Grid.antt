@@ -1,6 +1,6 @@
 -- The grid of tiles and its directory: `pack.rs`, key, checked, origin, entry, locate, and reading a lent pack.
 -- Each public function is refused with 12 where the header breaks a rule, then 8 for a point beyond 360 degrees, then 9 for a key outside the grid (document 01, "Refused").
-use Rattle.std.specs.Prelude.{ℕ, ◌+◌, ◌*◌, ◌/◌, Bool, ◌&&◌, cond, List, leb, ltb, eqb, ℤ, pos, negsuc, ◌+ℤ◌, ◌-ℤ◌, length}
+use Rattle.std.specs.Prelude.{ℕ, ◌+◌, ◌*◌, ◌/◌, Bool, ◌&&◌, cond, List, leb, ltb, eqb, ℤ, pos, negsuc, ◌+ℤ◌, ◌-ℤ◌, length, Option, Some, None, Result, Ok, Err}
 use Rattle.std.specs.Int.Signed.{lt_z, le_z}
 use Rattle.pack.specs.Offsets as At
 use Rattle.pack.specs.Bytes.{u32_at}
@@ -8,16 +8,7 @@ use Rattle.pack.specs.Sector.{rules}
 use Rattle.pack.specs.declared.Header.{Header}
 use Rattle.pack.specs.declared.TileKey.{TileKey}
 use Rattle.pack.specs.declared.Corner.{Corner}
-use Rattle.pack.specs.declared.Keyed.{Keyed}
-use Rattle.pack.specs.declared.Keyed.TheVariants as Keyed
-use Rattle.pack.specs.declared.Origin.{Origin}
-use Rattle.pack.specs.declared.Origin.TheVariants as Origin
-use Rattle.pack.specs.declared.Offset.{Offset}
-use Rattle.pack.specs.declared.Offset.TheVariants as Offset
-use Rattle.pack.specs.declared.Located.{Located}
-use Rattle.pack.specs.declared.Located.TheVariants as Located
-use Rattle.pack.specs.declared.Range.{Range}
-use Rattle.pack.specs.declared.Range.TheVariants as Range
+use Rattle.refusal.specs.declared.Refusal.{Refusal}
 
 -- ---- points and keys
 
@@ -40,9 +31,9 @@ abbrev pub natural : ℤ → ℕ
 natural (pos n) = n
 natural (negsuc n) = 0
 
-unfoldable pub checked_of : Header → ℤ → ℤ → Keyed
+unfoldable pub checked_of : Header → ℤ → ℤ → Option TileKey
 checked_of h row col =
-    cond (within row h.rows && within col h.cols) (Keyed.In (record { row = natural row; col = natural col })) Keyed.Outside
+    cond (within row h.rows && within col h.cols) (Some (record { row = natural row; col = natural col })) None
 
 -- z divided by n and rounded down: negative where z is
 abbrev pub floor_of : ℤ → ℕ → ℤ
@@ -50,9 +41,9 @@ floor_of (pos a) n = pos (a / n)
 floor_of (negsuc a) n = negsuc (a / n)
 
 -- the tile that holds a point; a size of 0 holds none
-unfoldable pub key_of : Header → ℤ → ℤ → Keyed
+unfoldable pub key_of : Header → ℤ → ℤ → Option TileKey
 key_of h lat lon =
-    cond (eqb h.tile 0) Keyed.Outside (checked_of h (floor_of (lat -ℤ h.south) h.tile) (floor_of (lon -ℤ h.west) h.tile))
+    cond (eqb h.tile 0) None (checked_of h (floor_of (lat -ℤ h.south) h.tile) (floor_of (lon -ℤ h.west) h.tile))
 
 -- ---- corners and entries
 
@@ -69,32 +60,36 @@ unfoldable pub entry_of : Header → TileKey → ℕ
 entry_of h k = h.directory + (k.row * h.cols + k.col) * 8
 
 -- a directory entry: offset and length; length 0 means no tile, offset unread; else it lies within data and total, or is refused with 4
-unfoldable pub locate_of : Header → List ℕ → Located
+unfoldable pub locate_of : Header → List ℕ → Result (Option (ℕ × ℕ)) Refusal
 locate_of h e =
-    cond (eqb (u32_at e At.length_at) 0) Located.NoTile
+    cond (eqb (u32_at e At.length_at) 0) (Ok None)
     (cond (leb h.«data» (u32_at e At.offset_at) && leb (u32_at e At.offset_at + u32_at e At.length_at) h.total)
-    (Located.Tile (u32_at e At.offset_at) (u32_at e At.length_at))
-    (Located.Refused 4))
+    (Ok (Some (u32_at e At.offset_at, u32_at e At.length_at)))
+    (Err Refusal.Corrupt))
 
 -- ---- the public functions, with their refusals
 
-unfoldable pub key : Header → ℤ → ℤ → Keyed
-key h lat lon = cond (rules h) (cond (is_point lat lon) (key_of h lat lon) (Keyed.Refused 8)) (Keyed.Refused 12)
+-- a header that a call is given, with 12 where it breaks a rule
+abbrev pub given : Header → Result Unit Refusal
+given h = cond (rules h) (Ok tt) (Err Refusal.BadState)
 
-unfoldable pub checked : Header → ℤ → ℤ → Keyed
-checked h row col = cond (rules h) (checked_of h row col) (Keyed.Refused 12)
+unfoldable pub key : Header → ℤ → ℤ → Result (Option TileKey) Refusal
+key h lat lon = cond (rules h) (cond (is_point lat lon) (Ok (key_of h lat lon)) (Err Refusal.OutOfRange)) (Err Refusal.BadState)
 
-unfoldable pub origin : Header → TileKey → Origin
-origin h k = cond (rules h) (cond (in_grid h k) (Origin.At (corner_of h k)) (Origin.Refused 9)) (Origin.Refused 12)
+unfoldable pub checked : Header → ℤ → ℤ → Result (Option TileKey) Refusal
+checked h row col = cond (rules h) (Ok (checked_of h row col)) (Err Refusal.BadState)
 
-unfoldable pub entry : Header → TileKey → Offset
-entry h k = cond (rules h) (cond (in_grid h k) (Offset.At (entry_of h k)) (Offset.Refused 9)) (Offset.Refused 12)
+unfoldable pub origin : Header → TileKey → Result Corner Refusal
+origin h k = cond (rules h) (cond (in_grid h k) (Ok (corner_of h k)) (Err Refusal.OutsideGrid)) (Err Refusal.BadState)
 
-unfoldable pub locate : Header → List ℕ → Located
-locate h e = cond (rules h) (locate_of h e) (Located.Refused 12)
+unfoldable pub entry : Header → TileKey → Result ℕ Refusal
+entry h k = cond (rules h) (cond (in_grid h k) (Ok (entry_of h k)) (Err Refusal.OutsideGrid)) (Err Refusal.BadState)
+
+unfoldable pub locate : Header → List ℕ → Result (Option (ℕ × ℕ)) Refusal
+locate h e = cond (rules h) (locate_of h e) (Err Refusal.BadState)
 
 -- ---- a lent pack
 
 -- len bytes from offset on, where the pack has them; 2 where they pass its end
-unfoldable pub read : List ℕ → ℕ → ℕ → Range
-read pack offset len = cond (leb (offset + len) (length pack)) (Range.At offset) (Range.Refused 2)
+unfoldable pub read : List ℕ → ℕ → ℕ → Result ℕ Refusal
+read pack offset len = cond (leb (offset + len) (length pack)) (Ok offset) (Err Refusal.PastPack)

@@ -3,5 +3,3 @@ pub mod Bytes
 pub mod Offsets
 pub mod Sector
 pub mod Grid
--- The number of each answer.
-pub mod Numbers

@@ -1,13 +1,13 @@
 -- The pack's header: document 01, "pack.rs". A sector of 512 bytes, its fields by their offsets, and the rules as a list of named clauses.
 -- The clauses over a parsed header are also what number 12 tests of a header that is given.
-use Rattle.std.specs.Prelude.{ℕ, ◌+◌, ◌*◌, Bool, true, ◌&&◌, cond, List, [], ◌∷◌, leb, ltb, eqb, ℤ, pos, negsuc, ◌+ℤ◌, take}
+use Rattle.std.specs.Prelude.{ℕ, ◌+◌, ◌*◌, Bool, true, ◌&&◌, cond, List, [], ◌∷◌, leb, ltb, eqb, ℤ, pos, negsuc, ◌+ℤ◌, take, Result, Ok, Err}
 use Rattle.std.specs.Int.Signed.{le_z}
+use Rattle.refusal.specs.declared.Refusal.TheVariants as Refusal
 use Rattle.crc.specs.Fcs.{crc32}
 use Rattle.pack.specs.Offsets as At
 use Rattle.pack.specs.Bytes.{u16_at, u32_at, i32_at, u64_at}
 use Rattle.pack.specs.declared.Header.{Header}
-use Rattle.pack.specs.declared.Answer.TheVariants.{Accepted, Refused}
-use Rattle.pack.specs.declared.Parsed.{Parsed}
+use Rattle.refusal.specs.declared.Refusal.{Refusal}
 
 abbrev pub all_of : List Bool → Bool
 all_of [] = true
@@ -84,8 +84,16 @@ rules h = all_of (rules_of h)
 
 -- ---- parse
 
-abbrev pub empty : Header
-empty = record {
+-- 4 for the CRC, then 3 for any other rule
+unfoldable pub parse : List ℕ → Result Header Refusal
+parse s =
+    cond (is_sum s)
+    (cond (all_of (is_magic s ∷ is_version s ∷ rules (header_at s) ∷ [])) (Ok (header_at s)) (Err Refusal.Unsupported))
+    (Err Refusal.Corrupt)
+
+-- the header that an answer of `parse` holds, which for a refused sector is one whose fields are all 0
+abbrev pub no_header : Header
+no_header = record {
   tile = 0;
   south = pos 0;
   west = pos 0;
@@ -100,12 +108,6 @@ empty = record {
   attribution_len = 0;
 }
 
-abbrev pub refused : ℕ → Parsed
-refused n = record { answer = Refused n; header = empty }
-
--- 4 for the CRC, then 3 for any other rule; a refused sector has no header, all fields 0
-unfoldable pub parse : List ℕ → Parsed
-parse s =
-    cond (is_sum s)
-    (cond (all_of (is_magic s ∷ is_version s ∷ rules (header_at s) ∷ [])) (record { answer = Accepted; header = header_at s }) (refused 3))
-    (refused 4)
+abbrev pub header_in : Result Header Refusal → Header
+header_in (Ok h) = h
+header_in (Err refusal) = no_header

@@ -3,50 +3,31 @@
 ghost use Rattle.std.specs.Prelude.{◌≡◌, ◌*◌, ◌<◌, pos, ◌+ℤ◌};
 ghost use Rattle.pack.specs.Grid as Grid;
 
-use crate::{Corner, Header, Keyed, Located, TileKey};
+use crate::{Corner, Header, TileKey};
+use refusal::Refusal;
 
 // Whether a point is one that number 8 doesn't refuse.
 pub fn is_point(lat: i32, lon: i32) -> bool
     ensures { result ≡ Grid.is_point lat lon }
 {
-    if lat < -360000000 {
-        return false;
-    }
-    if 360000000 < lat {
-        return false;
-    }
-    if lon < -360000000 {
-        return false;
-    }
-    lon <= 360000000
+    (-360000000..=360000000).contains(&lat) && (-360000000..=360000000).contains(&lon)
 }
 
 pub fn in_grid(header: Header, key: TileKey) -> bool
     ensures { result ≡ Grid.in_grid header key }
 {
-    if key.row < header.rows {
-        return key.col < header.cols;
-    }
-    false
+    key.row < header.rows && key.col < header.cols
 }
 
 // A row and a column that lie in the grid.
-pub fn checked_of(header: Header, row: i64, col: i64) -> Keyed
+#[tactic(auto, using(std::proofs::lemmas::Bool::Decides::nat_tests), unfolding(crate::specs::Grid::checked_of))]
+pub fn checked_of(header: Header, row: i64, col: i64) -> Option<TileKey>
     ensures { result ≡ Grid.checked_of header row col }
 {
-    if row < 0 {
-        return Keyed::Outside;
+    if row < 0 || header.rows as i64 <= row || col < 0 || header.cols as i64 <= col {
+        return None;
     }
-    if header.rows as i64 <= row {
-        return Keyed::Outside;
-    }
-    if col < 0 {
-        return Keyed::Outside;
-    }
-    if header.cols as i64 <= col {
-        return Keyed::Outside;
-    }
-    Keyed::In(TileKey {
+    Some(TileKey {
         row: row as u16,
         col: col as u16,
     })
@@ -64,12 +45,13 @@ fn floor_of(z: i64, n: u32) -> i64
 }
 
 // The tile that holds a point.
-pub fn key_of(header: Header, lat: i32, lon: i32) -> Keyed
+#[tactic(auto, using(std::proofs::lemmas::Bool::Decides::nat_tests), unfolding(crate::specs::Grid::key_of))]
+pub fn key_of(header: Header, lat: i32, lon: i32) -> Option<TileKey>
     ensures { result ≡ Grid.key_of header lat lon }
 {
     let tile = header.tile;
     if tile == 0 {
-        return Keyed::Outside;
+        return None;
     }
     let row = floor_of((lat as i64) - (header.south as i64), tile);
     let col = floor_of((lon as i64) - (header.west as i64), tile);
@@ -88,6 +70,7 @@ fn along(from: i32, count: u16, size: u32) -> i32
 }
 
 // The south-west corner of a tile.
+#[tactic(auto, using(std::proofs::lemmas::Bool::Decides::nat_tests), unfolding(crate::specs::Grid::corner_of))]
 pub fn corner_of(header: Header, key: TileKey) -> Corner
     ensures { result ≡ Grid.corner_of header key }
 {
@@ -98,6 +81,7 @@ pub fn corner_of(header: Header, key: TileKey) -> Corner
 }
 
 // Where a tile's directory entry stands.
+#[tactic(auto, using(std::proofs::lemmas::Bool::Decides::nat_tests), unfolding(crate::specs::Grid::entry_of))]
 pub fn entry_of(header: Header, key: TileKey) -> u64
     ensures { result ≡ Grid.entry_of header key }
 {
@@ -105,19 +89,17 @@ pub fn entry_of(header: Header, key: TileKey) -> u64
 }
 
 // A directory entry's tile.
-pub fn locate_of(header: Header, entry: &[u8; 8]) -> Located
+#[tactic(auto, using(std::proofs::lemmas::Bool::Decides::nat_tests), unfolding(crate::specs::Grid::locate_of))]
+pub fn locate_of(header: Header, entry: &[u8; 8]) -> Result<Option<(u32, u32)>, Refusal>
     ensures { result ≡ Grid.locate_of header entry.now }
 {
     let offset = crate::bytes::u32_at(entry, 0);
     let length = crate::bytes::u32_at(entry, 4);
     if length == 0 {
-        return Located::NoTile;
+        return Ok(None);
     }
-    if offset < header.data {
-        return Located::Refused(4);
+    if offset < header.data || (header.total as u64) < (offset as u64) + (length as u64) {
+        return Err(Refusal::Corrupt);
     }
-    if (header.total as u64) < (offset as u64) + (length as u64) {
-        return Located::Refused(4);
-    }
-    Located::Tile(offset, length)
+    Ok(Some((offset, length)))
 }

@@ -14,18 +14,20 @@ ghost use Rattle.std.specs.Prelude.{◌≡◌, ◌*◌};
 ghost use Rattle.pack.specs.Sector as Sector;
 ghost use Rattle.pack.specs.Grid as Grid;
 
+use refusal::Refusal;
+
 pub const HEADER_BYTES: usize = 512;
 
 pub const ENTRY_BYTES: usize = 8;
 
 // A tile by grid row (from the south) and column (from the west).
-#[derive(Clone, Copy)]
+#[derive(Clone, Copy, PartialEq, Eq, Debug)]
 pub struct TileKey {
     pub row: u16,
     pub col: u16,
 }
 
-#[derive(Clone, Copy)]
+#[derive(Clone, Copy, PartialEq, Eq, Debug)]
 pub struct Header {
     // Tile side in micro-degrees.
     pub tile: u32,
@@ -44,74 +46,23 @@ pub struct Header {
     pub attribution_len: u32,
 }
 
-// How a sector was taken: accepted, or refused with a number.
-#[derive(Clone, Copy)]
-pub enum Answer {
-    Accepted,
-    Refused(u32),
-}
-
-// The header stands beside the answer, all zero where it was refused: an enum that holds it could never hold an array.
-#[derive(Clone, Copy)]
-pub struct Parsed {
-    pub answer: Answer,
-    pub header: Header,
-}
-
-// A tile's key, none where the place is outside the grid, or the refusal's number.
-#[derive(Clone, Copy)]
-pub enum Keyed {
-    In(TileKey),
-    Outside,
-    Refused(u32),
-}
-
 // The south-west corner of a tile, micro-degrees.
-#[derive(Clone, Copy)]
+#[derive(Clone, Copy, PartialEq, Eq, Debug)]
 pub struct Corner {
     pub south: i32,
     pub west: i32,
 }
 
-#[derive(Clone, Copy)]
-pub enum Origin {
-    At(Corner),
-    Refused(u32),
-}
-
-#[derive(Clone, Copy)]
-pub enum Offset {
-    At(u64),
-    Refused(u32),
-}
-
-// A directory entry's tile, offset and length; none where it has no roads.
-#[derive(Clone, Copy)]
-pub enum Located {
-    Tile(u32, u32),
-    NoTile,
-    Refused(u32),
-}
-
-// Where bytes of a lent pack start.
-#[derive(Clone, Copy)]
-pub enum Range {
-    At(usize),
-    Refused(u32),
-}
-
 // `len` bytes from `offset` on in a lent pack: 2 where they pass its end.
-pub fn read(pack: &[u8], offset: u64, len: usize) -> Range
+#[tactic(auto, using(std::proofs::lemmas::Bool::Decides::nat_tests), unfolding(crate::specs::Grid::read))]
+pub fn read(pack: &[u8], offset: u64, len: usize) -> Result<usize, Refusal>
     ensures { result ≡ Grid.read pack.now offset len }
 {
     let size = pack.len() as u64;
-    if size < offset {
-        return Range::Refused(2);
+    if size < offset || size - offset < len as u64 {
+        return Err(Refusal::PastPack);
     }
-    if size - offset < len as u64 {
-        return Range::Refused(2);
-    }
-    Range::At(offset as usize)
+    Ok(offset as usize)
 }
 
 // Whether `tiles` tiles from `from` on stay within 360 degrees of 0.
@@ -155,55 +106,20 @@ fn is_sum(sector: &[u8; 512]) -> bool
 fn is_magic(sector: &[u8; 512]) -> bool
     ensures { result ≡ Sector.is_magic sector.now }
 {
-    if bytes::u32_at(sector, 0) != 0x414e4156 {
-        return false;
-    }
-    if bytes::u32_at(sector, 4) != 0x5245542d {
-        return false;
-    }
-    if bytes::u32_at(sector, 8) != 0x4e494152 {
-        return false;
-    }
-    bytes::u32_at(sector, 12) == 0
-}
-
-fn refused(number: u32) -> Parsed
-    ensures { result ≡ Sector.refused number }
-{
-    Parsed {
-        answer: Answer::Refused(number),
-        header: Header {
-            tile: 0,
-            south: 0,
-            west: 0,
-            rows: 0,
-            cols: 0,
-            directory: 0,
-            data: 0,
-            total: 0,
-            tiles: 0,
-            created: 0,
-            attribution_offset: 0,
-            attribution_len: 0,
-        },
-    }
+    bytes::u32_at(sector, 0) == 0x414e4156
+        && bytes::u32_at(sector, 4) == 0x5245542d
+        && bytes::u32_at(sector, 8) == 0x4e494152
+        && bytes::u32_at(sector, 12) == 0
 }
 
 impl Header {
     // The rules of a header: `parse` refuses a sector that breaks one with 3, and a call that is given such a header answers 12.
+    #[tactic(auto, using(std::proofs::lemmas::Bool::Decides::nat_tests), unfolding(crate::specs::Sector::rules))]
     pub fn rules(self) -> bool
         ensures { result ≡ Sector.rules self }
     {
-        if self.tile == 0 {
-            return false;
-        }
-        if 65535 < self.tile {
-            return false;
-        }
-        if self.rows == 0 {
-            return false;
-        }
-        if self.cols == 0 {
+        let entries = (self.rows as u64) * (self.cols as u64) * 8;
+        if self.tile == 0 || 65535 < self.tile || self.rows == 0 || self.cols == 0 {
             return false;
         }
         if !spans(self.south, self.rows, self.tile) {
@@ -212,92 +128,89 @@ impl Header {
         if !spans(self.west, self.cols, self.tile) {
             return false;
         }
-        let entries = (self.rows as u64) * (self.cols as u64) * 8;
-        if (self.directory as u64) + entries != self.data as u64 {
-            return false;
+        (self.directory as u64) + entries == self.data as u64 && self.data <= self.total
+    }
+
+    // A header that a call is given: 12 where it breaks a rule.
+    fn given(self) -> Result<(), Refusal>
+        ensures { result ≡ Grid.given self }
+    {
+        if self.rules() {
+            Ok(())
+        } else {
+            Err(Refusal::BadState)
         }
-        self.data <= self.total
     }
 
     // The header of a sector: 4 for its CRC, then 3 for any other rule.
-    pub fn parse(sector: &[u8; 512]) -> Parsed
+    #[tactic(auto, unfolding(crate::specs::Sector::parse))]
+    pub fn parse(sector: &[u8; 512]) -> Result<Header, Refusal>
         ensures { result ≡ Sector.parse sector.now }
     {
         if !is_sum(sector) {
-            return refused(4);
+            return Err(Refusal::Corrupt);
         }
-        if !is_magic(sector) {
-            return refused(3);
-        }
-        if bytes::u16_at(sector, 16) != 2 {
-            return refused(3);
+        if !is_magic(sector) || bytes::u16_at(sector, 16) != 2 {
+            return Err(Refusal::Unsupported);
         }
         let header = header_at(sector);
         if !header.rules() {
-            return refused(3);
+            return Err(Refusal::Unsupported);
         }
-        Parsed {
-            answer: Answer::Accepted,
-            header,
-        }
+        Ok(header)
     }
 
     // The tile that holds a point, if it lies in the grid.
-    pub fn key(self, lat: i32, lon: i32) -> Keyed
+    #[tactic(auto, unfolding(crate::specs::Grid::key))]
+    pub fn key(self, lat: i32, lon: i32) -> Result<Option<TileKey>, Refusal>
         ensures { result ≡ Grid.key self lat lon }
     {
-        if !self.rules() {
-            return Keyed::Refused(12);
-        }
+        self.given()?;
         if !grid::is_point(lat, lon) {
-            return Keyed::Refused(8);
+            return Err(Refusal::OutOfRange);
         }
-        grid::key_of(self, lat, lon)
+        Ok(grid::key_of(self, lat, lon))
     }
 
     // The key of a row and a column, if they lie in the grid.
-    pub fn checked(self, row: i64, col: i64) -> Keyed
+    #[tactic(auto, unfolding(crate::specs::Grid::checked))]
+    pub fn checked(self, row: i64, col: i64) -> Result<Option<TileKey>, Refusal>
         ensures { result ≡ Grid.checked self row col }
     {
-        if !self.rules() {
-            return Keyed::Refused(12);
-        }
-        grid::checked_of(self, row, col)
+        self.given()?;
+        Ok(grid::checked_of(self, row, col))
     }
 
     // The south-west corner of a tile.
-    pub fn origin(self, key: TileKey) -> Origin
+    #[tactic(auto, unfolding(crate::specs::Grid::origin))]
+    pub fn origin(self, key: TileKey) -> Result<Corner, Refusal>
         ensures { result ≡ Grid.origin self key }
     {
-        if !self.rules() {
-            return Origin::Refused(12);
-        }
+        self.given()?;
         if !grid::in_grid(self, key) {
-            return Origin::Refused(9);
+            return Err(Refusal::OutsideGrid);
         }
-        Origin::At(grid::corner_of(self, key))
+        Ok(grid::corner_of(self, key))
     }
 
     // Byte offset of a tile's directory entry.
-    pub fn entry(self, key: TileKey) -> Offset
+    #[tactic(auto, unfolding(crate::specs::Grid::entry))]
+    pub fn entry(self, key: TileKey) -> Result<u64, Refusal>
         ensures { result ≡ Grid.entry self key }
     {
-        if !self.rules() {
-            return Offset::Refused(12);
-        }
+        self.given()?;
         if !grid::in_grid(self, key) {
-            return Offset::Refused(9);
+            return Err(Refusal::OutsideGrid);
         }
-        Offset::At(grid::entry_of(self, key))
+        Ok(grid::entry_of(self, key))
     }
 
-    // A directory entry's tile: 4 where it does not lie between data and total.
-    pub fn locate(self, entry: &[u8; 8]) -> Located
+    // A directory entry's tile, offset and length, none for no roads: 4 where it does not lie between data and total.
+    #[tactic(auto, unfolding(crate::specs::Grid::locate))]
+    pub fn locate(self, entry: &[u8; 8]) -> Result<Option<(u32, u32)>, Refusal>
         ensures { result ≡ Grid.locate self entry.now }
     {
-        if !self.rules() {
-            return Located::Refused(12);
-        }
+        self.given()?;
         grid::locate_of(self, entry)
     }
 }

@@ -1,34 +1,32 @@
-// The cases of the printed page besides document 01's example, through the same function: no sample, 501 samples on all their pages, 50, 51, all equal, both ends of 16 bits,
+// The cases of the printed page besides the sample, through the same function: no sample, 501 samples on all their pages, 50, 51, all equal, both ends of 16 bits,
 // the last page number, 502 samples, an output that is longer than the page, and one that is a byte too short.
 #![tactic(auto)]
 
 ghost use Rattle.std.specs.Prelude.{◌≡◌, length};
 
-use profile_text::page::Printed;
-use std::io;
+use profile_text::page::page;
+use refusal::Refusal;
+use std::{array, io};
 
 // The heading and fifty lines, of 41 bytes each.
 const PAGE: usize = 2091;
 
-fn refused(rt: &impl Print, number: u32) -> io::Result<()> {
-    println!(rt; "refused {number}")
+fn refused(rt: &impl Print, e: Refusal) -> io::Result<()> {
+    println!(rt; "refused {}", e.number())
 }
 
 fn show(rt: &impl Print, samples: &[i16], p: u32) -> io::Result<()> {
     let mut out = [0u8; PAGE];
-    let printed = profile_text::page::page(samples, p, &mut out);
-    match printed {
-        Printed::Length(len) => rt.write_all(&out[..len]),
-        Printed::Refused(number) => refused(rt, number),
+    match page(samples, p, &mut out) {
+        Ok(len) => rt.write_all(&out[..len]),
+        Err(e) => refused(rt, e),
     }
 }
 
 // Page 0 into an output, and all that the output holds then.
 fn show_whole(rt: &impl Print, samples: &[i16], out: &mut [u8]) -> io::Result<()> {
-    let printed = profile_text::page::page(samples, 0, out);
-    match printed {
-        Printed::Length(_) => {}
-        Printed::Refused(number) => refused(rt, number)?,
+    if let Err(e) = page(samples, 0, out) {
+        refused(rt, e)?;
     }
     rt.write_all(out)?;
     println!(rt)
@@ -38,20 +36,12 @@ fn show_whole(rt: &impl Print, samples: &[i16], out: &mut [u8]) -> io::Result<()
 fn uneven() -> [i16; 502]
     ensures { 502 ≡ length result }
 {
-    let mut out = [0i16; 502];
-    let mut i: u32 = 0;
-    while i < 502 {
-        out[i as usize] = num::cast::i16_of_i32((i * 1237) as i32);
-        i += 1;
-    }
-    out
+    array::from_fn(|i| (i as i16).wrapping_mul(1237))
 }
 
 fn show_all(rt: &impl Print, samples: &[i16]) -> io::Result<()> {
-    let mut p: u32 = 0;
-    while p < 12 {
+    for p in 0..12 {
         show(rt, samples, p)?;
-        p += 1;
     }
     Ok(())
 }
@@ -59,7 +49,7 @@ fn show_all(rt: &impl Print, samples: &[i16]) -> io::Result<()> {
 fn main(rt: HostRuntime) -> io::Result<()> {
     let uneven = uneven();
     show_all(&rt, &uneven[0..501])?;
-    show(&rt, &uneven[0..0], 0)?;
+    show(&rt, &[], 0)?;
     show(&rt, &uneven[0..50], 0)?;
     show(&rt, &uneven[0..50], 1)?;
     show(&rt, &uneven[0..51], 0)?;
@@ -70,8 +60,8 @@ fn main(rt: HostRuntime) -> io::Result<()> {
     show(&rt, &flat, 0)?;
     let ends = [-32768i16, 32767, 0, -1];
     show(&rt, &ends, 0)?;
-    let mut long = [45u8; 210];
+    let mut long = [b'-'; 210];
     show_whole(&rt, &ends, &mut long)?;
-    let mut short = [45u8; 204];
+    let mut short = [b'-'; 204];
     show_whole(&rt, &ends, &mut short)
 }

@@ -7,10 +7,8 @@ use mathlib.Core.Logic.{◌⊎◌, inl, inr, ⊎_elim}
 use native.Mathlib.Omega.{arith}
 use denote.Enum.Declared.{tag_of}
 use Rattle.cache.specs.declared.Lookup.{Lookup}
-use Rattle.cache.specs.declared.Lookup.TheVariants as Lookup
 use Rattle.cache.specs.contracts.Lookup as Lookups
 use Rattle.predict.specs.declared.Ending.{Ending}
-use Rattle.predict.specs.declared.Ending.TheVariants as Ending
 use Rattle.predict.specs.contracts.Ending as Endings
 use Rattle.predict.specs.Walk.{goes_on}
 
@@ -26,9 +24,8 @@ ended (Ending.Stops end) h = refl
 ended (Ending.Need key) h = refl
 ended Ending.Stale h = refl
 
--- no bytes, and not the answer that they no longer pass
+-- no bytes
 pub asked : (l : Lookup) → (lookup_tag l ≡ 1) ⊎ (lookup_tag l ≡ 2) → (l ≡ Lookup.Missing) ⊎ (l ≡ Lookup.Absent)
 asked (Lookup.Ready first len) h = absurd (⊎_elim (λ z. omega arith) (λ z. omega arith) h)
 asked Lookup.Missing h = inl refl
 asked Lookup.Absent h = inr refl
-asked (Lookup.Refused number) h = absurd (⊎_elim (λ z. omega arith) (λ z. omega arith) h)

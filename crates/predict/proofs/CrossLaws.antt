@@ -8,12 +8,11 @@ use mathlib.Core.List.{List}
 use lib.Dec.{ltb}
 use lib.IntN.{pos, ◌+ℤ◌}
 use lib.ListN.{get_or}
+use Rattle.std.specs.Prelude.{Option, Some, None}
 use Rattle.num.specs.Fold.{up_to}
 use Rattle.num.proofs.FoldLaws.{up_agrees}
 use Rattle.pack.specs.Grid.{checked_of}
 use Rattle.pack.specs.declared.TileKey.{TileKey}
-use Rattle.pack.specs.declared.Keyed.{Keyed}
-use Rattle.pack.specs.declared.Keyed.TheVariants as Keyed
 use Rattle.cache.specs.Direct.{Look, ready, missing, absent, stale, settled, Agree}
 use Rattle.cache.specs.Reader.{Reader, plain}
 use Rattle.predict.specs.declared.Choices.{Choices}
@@ -22,7 +21,6 @@ use Rattle.predict.specs.declared.twins.TwinList.{TwinList}
 use Rattle.predict.specs.Twins.{no_twin}
 use Rattle.predict.specs.declared.Arrival.{Arrival}
 use Rattle.predict.specs.declared.Ending.{Ending}
-use Rattle.predict.specs.declared.Ending.TheVariants as Ending
 use Rattle.predict.specs.Cross.{Ways, consider_at, twin_look, twin_key, going_over, step_over, cross_to, cross_over}
 
 -- ---- two readers
@@ -58,11 +56,10 @@ module _ {S T : Type 0} (rd : Reader S) (rd' : Reader T) (R : S → T → Type 0
     look_simulates absent x y key twin h e = record { choices = h.choices; blocked = h.blocked; ending = refl; carried = h.carried }
     look_simulates stale x y key twin h e = record { choices = h.choices; blocked = h.blocked; ending = refl; carried = h.carried }
 
-    key_simulates : (k : Keyed) (x : Ways S) (y : Ways T) (twin : Twin) → Alike R x y → Alike R (twin_key rd a v k x twin) (twin_key rd' a v k y twin)
-    key_simulates (Keyed.In key) x y twin h =
+    key_simulates : (k : Option TileKey) (x : Ways S) (y : Ways T) (twin : Twin) → Alike R x y → Alike R (twin_key rd a v k x twin) (twin_key rd' a v k y twin)
+    key_simulates (Some key) x y twin h =
         rw (at x.carried y.carried key h.carried) (look_simulates (rd.at x.carried key) x y key twin h refl)
-    key_simulates Keyed.Outside x y twin h = record { choices = h.choices; blocked = refl; ending = h.ending; carried = h.carried }
-    key_simulates (Keyed.Refused number) x y twin h = h
+    key_simulates None x y twin h = record { choices = h.choices; blocked = refl; ending = h.ending; carried = h.carried }
 
     going_simulates : (ending : Ending) (x : Ways S) (y : Ways T) (twin : Twin) → Alike R x y
         → Alike R (going_over rd a v ending x twin) (going_over rd' a v ending y twin)
@@ -113,11 +110,10 @@ module _ (one two : TileKey → Look) (agree : Agree one two) (a : Arrival) (v :
   look_agrees absent q same x key twin e = absurd (true≢false (sym e))
   look_agrees stale q same x key twin e = absurd (true≢false (sym e))
 
-  key_agrees : (k : Keyed) (x : Ways (List TileKey)) (twin : Twin) → is_settled (twin_key (plain one) a v k x twin).ending ≡ true
+  key_agrees : (k : Option TileKey) (x : Ways (List TileKey)) (twin : Twin) → is_settled (twin_key (plain one) a v k x twin).ending ≡ true
       → twin_key (plain two) a v k x twin ≡ twin_key (plain one) a v k x twin
-  key_agrees (Keyed.In key) x twin e = look_agrees (one key) (two key) (agree key) x key twin e
-  key_agrees Keyed.Outside x twin e = refl
-  key_agrees (Keyed.Refused number) x twin e = refl
+  key_agrees (Some key) x twin e = look_agrees (one key) (two key) (agree key) x key twin e
+  key_agrees None x twin e = refl
 
   -- settled after the tile: then before it too, and the second look takes the same step
   going_agrees : (ending : Ending) (x : Ways (List TileKey)) (twin : Twin) → x.ending ≡ ending

@@ -2,6 +2,7 @@
 -- Rust's plain ones. `part_way_exact`: a point part of the way between two places of the grid. `place_exact`: the start's place, which is such a point.
 -- `back_exact`: the point 25 m back, between two points passed, which are places of the grid too (`walk_near`). `less_exact`: a point's height less the
 -- rider's. The idea: places lie within 361 degrees, so two are less than 2 ^ 30 apart, which is a float; a part of it is no more.
+use Rattle.std.specs.Prelude.{Some}
 use Prim.Native.Nat.{ℕ, zero, suc, ◌+◌, ◌-◌, ◌≤◌, ◌<◌}
 use mathlib.Core.Path.{◌≡◌, refl, subst, sym}
 use mathlib.Core.Bool.{Bool, true, false, ◌&&◌, cond}
@@ -39,7 +40,6 @@ use Rattle.matcher.specs.declared.Matched.{Matched}
 use Rattle.cache.specs.Runs.{span}
 use Rattle.cache.specs.Direct.{Look, ready, missing, absent, stale}
 use Rattle.cache.specs.Reader.{Reader}
-use Rattle.cache.specs.declared.victim.Found.TheVariants as Found
 use Rattle.predict.specs.declared.History.{History}
 use Rattle.predict.specs.declared.Track.{Track}
 use Rattle.predict.specs.declared.Trip.{Trip}
@@ -49,7 +49,6 @@ use Rattle.predict.specs.Incoming.{first, shifted, kept, push, point_at, distanc
 use Rattle.predict.specs.Vertex.{Along, node_at, step_of, reached, passed, advanced, vertex_step, vertices, to_end}
 use Rattle.predict.specs.declared.End.TheVariants as End
 use Rattle.predict.specs.declared.Ending.{Ending}
-use Rattle.predict.specs.declared.Ending.TheVariants as Ending
 use Rattle.predict.specs.declared.Walk.{Walk}
 use Rattle.predict.specs.declared.Way.{Way}
 use Rattle.predict.specs.Meets.{meet}
@@ -310,7 +309,7 @@ back_part_lem from to distance = by (lt from to)
 
 -- the point 25 m back along the road
 pub back_exact : (h : History) (i : ℕ) (distance : Float) → AllNear h
-    → back_by (Found.At i) h distance
+    → back_by (Some i) h distance
     ≡ plain_between (point_at h i) (point_at h (i + 1)) (back_part (distance_at h i) (distance_at h (i + 1)) distance)
 back_exact h i distance all =
     between_exact (point_at h i) (point_at h (i + 1)) (back_part (distance_at h i) (distance_at h (i + 1)) distance)

@@ -1,6 +1,8 @@
 -- The turns of the edge loop of `edges`. One edge is the definition's: where the walk ends on it (`step_ended`), at its horizon
 -- (`step_over`) and at its junction (`step_on`), by the points of the leg (`points_on`, `points_over`). A walk that ended is the whole
 -- (`walk_whole`). The idea: an edge that a walk goes on along was answered with bytes, and the points stay as they are once the road is over.
+use Rattle.refusal.specs.declared.Refusal.{Refusal}
+use Rattle.std.specs.Prelude.{Result, Ok, Err}
 use Prim.Native.Nat.{ℕ, ◌+◌, ◌-◌, ◌<◌, ◌≤◌}
 use mathlib.Core.Path.{◌≡◌, refl, sym, ap, ◌∙◌}
 use mathlib.Core.Bool.{Bool, true, false, cond, true≢false}
@@ -11,7 +13,6 @@ use lib.Ieee.{Float}
 use Rattle.tile.specs.Layout as Layout
 use Rattle.tile.specs.declared.Head.{Head}
 use Rattle.cache.specs.declared.Lookup.{Lookup}
-use Rattle.cache.specs.declared.Lookup.TheVariants as Lookup
 use Rattle.cache.specs.Direct.{Look, ready, missing, absent, stale}
 use Rattle.cache.specs.Ages.{Hit, look_up, bytes_of}
 use Rattle.cache.specs.Reader.{Reader, in_bytes, in_looks}
@@ -62,15 +63,15 @@ module _ {S : Type 0} (rd : Reader S) (trip : Trip) (budget : ℕ) (o : Onto) (k
   look_ended stale e = refl
 
   -- on an edge whose tile was answered in pages
-  look_going : (arena : List ℕ) (l : Lookup) → goes_on (enter_look (in_bytes l arena) o.visited o.met o.walk budget).walk.ending ≡ true
+  look_going : (arena : List ℕ) (l : Result Lookup Refusal) → goes_on (enter_look (in_bytes l arena) o.visited o.met o.walk budget).walk.ending ≡ true
       → edge_look rd trip budget (in_bytes l arena) (run_of o k s hs)
       ≡ driven rd trip budget (enter_look (in_bytes l arena) o.visited o.met o.walk budget) k (rd.found s o.walk.way.tile)
       (bytes_of arena (first_of l) (len_of l)) hs
   unfolding with_ending
-  look_going arena (Lookup.Ready first len) e = rw e
-  look_going arena Lookup.Missing e = absurd (true≢false (sym e))
-  look_going arena Lookup.Absent e = absurd (true≢false (sym e))
-  look_going arena (Lookup.Refused number) e = absurd (true≢false (sym e))
+  look_going arena (Ok (Lookup.Ready first len)) e = rw e
+  look_going arena (Ok Lookup.Missing) e = absurd (true≢false (sym e))
+  look_going arena (Ok Lookup.Absent) e = absurd (true≢false (sym e))
+  look_going arena (Err number) e = absurd (true≢false (sym e))
 
 -- ---- what the code gives back, and leaves in the lists that it is lent
 

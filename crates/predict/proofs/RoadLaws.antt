@@ -1,5 +1,6 @@
 -- Two readers that answer the same, while what they carry stays related, give the same road (`forecast_simulates`). Two looks that
 -- agree give the same road where it finishes at the first (`predict_agrees`). The idea: the same of the walk, by cases of the start's one lookup.
+use Rattle.std.proofs.Common.{Option, Some, None}
 use Prim.Native.Nat.{ℕ}
 use mathlib.Core.Path.{◌≡◌, refl, sym, ap}
 use mathlib.Core.Bool.{Bool, true, false, cond, true≢false}
@@ -11,8 +12,6 @@ use Rattle.pack.specs.declared.TileKey.{TileKey}
 use Rattle.tile.specs.Layout as Layout
 use Rattle.cache.specs.Direct.{Look, ready, missing, absent, stale, settled, Agree}
 use Rattle.cache.specs.Reader.{Reader, plain}
-use Rattle.matcher.specs.declared.Forward.{Forward}
-use Rattle.matcher.specs.declared.Forward.TheVariants as Forward
 use Rattle.matcher.specs.declared.Matched.{Matched}
 use Rattle.matcher.specs.Score.{same_id}
 use Rattle.predict.specs.declared.Track.{Track}
@@ -20,14 +19,12 @@ use Rattle.predict.specs.declared.Trip.{Trip}
 use Rattle.predict.specs.declared.ridden.Behind.{Behind}
 use Rattle.predict.specs.Start.{start_ok}
 use Rattle.predict.specs.declared.Ending.{Ending}
-use Rattle.predict.specs.declared.Ending.TheVariants as Ending
 use Rattle.predict.specs.Meets.{budget}
 use Rattle.predict.proofs.CrossLaws.{is_settled}
 use Rattle.predict.specs.declared.Walk.{Walk}
 use Rattle.predict.specs.Walk.{Run}
 use Rattle.predict.proofs.WalkLaws.{AlikeRun, walk_simulates, walk_agrees}
 use Rattle.predict.specs.declared.Outcome.{Outcome}
-use Rattle.predict.specs.declared.Outcome.TheVariants as Outcome
 use Rattle.predict.specs.Predict.{outcome_by, outcome, Forecast, forecast_of, trip_of}
 use Rattle.predict.specs.Predict.{road_over, nothing, tile_over, start_look, directed_over, forecast_over}
 use Rattle.predict.specs.Relied.{is_finished, PredictAgrees}
@@ -87,10 +84,10 @@ module _ {S T : Type 0} (rd : Reader S) (rd' : Reader T) (R : S → T → Type 0
     start_simulates absent h m forward horizon s t r e samples behind = nothing_simulates (Outcome.Need m.tile.key) s t r samples behind
     start_simulates stale h m forward horizon s t r e samples behind = nothing_simulates (Outcome.Refused 12) s t r samples behind
 
-    directed_simulates : (forward : Forward) (h : Header) (m : Matched) (horizon : Float) (s : S) (t : T) → R s t → (samples behind : List ℤ)
+    directed_simulates : (forward : Option Bool) (h : Header) (m : Matched) (horizon : Float) (s : S) (t : T) → R s t → (samples behind : List ℤ)
         → AlikeForecast R (directed_over rd n forward h m horizon s samples behind) (directed_over rd' n forward h m horizon t samples behind)
-    directed_simulates Forward.Unknown h m horizon s t r samples behind = record { answer = refl; samples = refl; behind = refl; carried = r }
-    directed_simulates (Forward.Is forward) h m horizon s t r samples behind =
+    directed_simulates None h m horizon s t r samples behind = record { answer = refl; samples = refl; behind = refl; carried = r }
+    directed_simulates (Some forward) h m horizon s t r samples behind =
         rw (at s t m.tile.key r) (start_simulates (rd.at s m.tile.key) h m forward horizon s t r refl samples behind)
 
     pub forecast_simulates : (h : Header) (m : Matched) (horizon : Float) (s : S) (t : T) → R s t → (samples behind : List ℤ)
@@ -142,11 +139,11 @@ module _ (one two : TileKey → Look) (agree : Agree one two) (n : ℕ) where
   start_agrees absent q same h m forward horizon s samples behind e = absurd (true≢false (sym e))
   start_agrees stale q same h m forward horizon s samples behind e = absurd (true≢false (sym e))
 
-  directed_agrees : (forward : Forward) (h : Header) (m : Matched) (horizon : Float) (s : List TileKey) (samples behind : List ℤ)
+  directed_agrees : (forward : Option Bool) (h : Header) (m : Matched) (horizon : Float) (s : List TileKey) (samples behind : List ℤ)
       → is_finished (directed_over (plain one) n forward h m horizon s samples behind).answer ≡ true
       → directed_over (plain two) n forward h m horizon s samples behind ≡ directed_over (plain one) n forward h m horizon s samples behind
-  directed_agrees Forward.Unknown h m horizon s samples behind e = refl
-  directed_agrees (Forward.Is forward) h m horizon s samples behind e =
+  directed_agrees None h m horizon s samples behind e = refl
+  directed_agrees (Some forward) h m horizon s samples behind e =
       start_agrees (one m.tile.key) (two m.tile.key) (agree m.tile.key) h m forward horizon s samples behind e
 
 pub predict_agrees : PredictAgrees

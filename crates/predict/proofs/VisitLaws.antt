@@ -1,6 +1,7 @@
 -- The edges followed last. `was_visited` looks at the places that are taken alone, and answers as a look at all 128 does, which is the Rust's
 -- `visited.contains`: a place that isn't taken holds 0, which is no edge + 1 (`Taken`). So it is at the start (`taken_nothing`), `visit` leaves it
 -- so (`taken_visit`), and so it is after any edges of a road, over whatever the tiles are read from (`visited_all`).
+use Rattle.std.specs.Prelude.{is_some}
 use Prim.Native.Nat.{ℕ, ◌+◌, ◌<◌, ◌≤◌, ◌%◌, max}
 use mathlib.Core.Path.{◌≡◌, sym, ap, ◌∙◌}
 use mathlib.Core.Bool.{Bool, true, false, ◌&&◌, cond}
@@ -17,7 +18,7 @@ use Rattle.pack.specs.declared.TileKey.{TileKey}
 use Rattle.cache.specs.Direct.{Look, ready, missing, absent, stale}
 use Rattle.cache.specs.Reader.{Reader}
 use Rattle.cache.specs.Runs.{span}
-use Rattle.cache.specs.Search.{lowest, is_found}
+use Rattle.cache.specs.Search.{lowest}
 use Rattle.cache.proofs.Below.{below_or}
 use Rattle.cache.proofs.SearchLaws.{lowest_same, lowest_end}
 use Rattle.predict.specs.declared.Track.{Track}
@@ -125,10 +126,10 @@ module _ (d : List ℕ) (key : TileKey) (edge : ℕ) (t : Taken d) where
       (λ (h : 128 ≤ i). rw (le-ltb i 128 h))
       (below_or i 128)
 
-  taken_all : was_visited d key edge ≡ is_found (lowest (λ (i : ℕ). is_followed d i key edge) 128)
+  taken_all : was_visited d key edge ≡ is_some (lowest (λ (i : ℕ). is_followed d i key edge) 128)
   unfolding was_visited
   taken_all =
-      ap is_found
+      ap is_some
       (sym (lowest_end stands_at (get_or d 385 0) 128 t.few none_past)
       ∙ lowest_same stands_at (λ (i : ℕ). is_followed d i key edge) 128 (λ (i : ℕ) (h : i < 128). rw (lt-ltb i 128 h)))
 
@@ -174,5 +175,5 @@ module _ {S : Type 0} (rd : Reader S) (trip : Trip) (budget : ℕ) where
         up_keeps (λ (x : Run S) (i : ℕ). edge_step rd trip budget x) (begun w t s hs) TakenRun n taken_nothing (λ (i : ℕ) (h : i < n). taken_step)
 
     pub visited_all : (key : TileKey) (edge : ℕ)
-        → was_visited road.visited key edge ≡ is_found (lowest (λ (i : ℕ). is_followed road.visited i key edge) 128)
+        → was_visited road.visited key edge ≡ is_some (lowest (λ (i : ℕ). is_followed road.visited i key edge) 128)
     visited_all key edge = taken_all road.visited key edge taken_road

@@ -21,7 +21,6 @@ use Rattle.predict.specs.declared.Trip.{Trip}
 use Rattle.predict.specs.Vertex.{Along}
 use Rattle.predict.specs.declared.Decision.{Decision}
 use Rattle.predict.specs.declared.Ending.{Ending}
-use Rattle.predict.specs.declared.Ending.TheVariants as Ending
 use Rattle.predict.specs.Cross.{Ways}
 use Rattle.predict.specs.Decide.{decide}
 use Rattle.predict.proofs.CrossLaws.{Alike, is_settled, up_simulates, over_simulates, cross_settles}

@@ -1,15 +1,14 @@
 -- The ways on from every tile that shares the junction's node: `predict.rs`, `predict`, the loop over `boundary_twins`. A tile outside the grid
 -- or missing blocks the road; one that is not loaded ends it with its key, and one that no longer passes with 12. `cross_over` is written over
 -- any reader.
-use Rattle.std.specs.Prelude.{ℕ, Bool, true, false, cond, List, ltb, ℤ, pos, ◌+ℤ◌, get_or}
+use Rattle.refusal.specs.declared.Refusal.{Refusal}
+use Rattle.std.specs.Prelude.{Result}
+use Rattle.std.specs.Prelude.{Option, Some, None}
+use Rattle.std.specs.Prelude.{ℕ, Bool, true, false, cond, List, ltb, pos, ◌+ℤ◌, get_or}
 use Rattle.num.specs.Fold.{up_to}
 use Rattle.pack.specs.Grid.{checked_of}
 use Rattle.pack.specs.declared.TileKey.{TileKey}
-use Rattle.pack.specs.declared.Keyed.{Keyed}
-use Rattle.pack.specs.declared.Keyed.TheVariants as Keyed
 use Rattle.tile.specs.Readers.{node_at}
-use Rattle.tile.specs.declared.Found.{Found}
-use Rattle.tile.specs.declared.Found.TheVariants as Found
 use Rattle.cache.specs.Direct.{Look, ready, missing, absent, stale}
 use Rattle.cache.specs.declared.Lookup.{Lookup}
 use Rattle.cache.specs.Reader.{Reader, in_bytes, in_looks}
@@ -20,7 +19,6 @@ use Rattle.predict.specs.Twins.{no_twin}
 use Rattle.predict.specs.declared.Arrival.{Arrival}
 use Rattle.predict.specs.declared.Crossing.{Crossing}
 use Rattle.predict.specs.declared.Ending.{Ending}
-use Rattle.predict.specs.declared.Ending.TheVariants as Ending
 use Rattle.predict.specs.Consider.{consider}
 
 -- the ways on so far, whether one may lie off the map, how the lookups ended, and what they carry
@@ -30,9 +28,9 @@ pub record Ways (S : Type 0) : Type 0 where
   pub ending : Ending
   pub carried : S
 
-abbrev pub consider_by : Found → Choices → Arrival → List ℕ → List ℕ → TileKey → Choices
-consider_by (Found.At node) c a v bs key = consider c a v bs key node
-consider_by Found.Nothing c a v bs key = c
+abbrev pub consider_by : Option ℕ → Choices → Arrival → List ℕ → List ℕ → TileKey → Choices
+consider_by (Some node) c a v bs key = consider c a v bs key node
+consider_by None c a v bs key = c
 
 -- the tile's own node at the same point, if it has one
 abbrev pub consider_at : Choices → Arrival → List ℕ → List ℕ → TileKey → Twin → Choices
@@ -56,10 +54,9 @@ module _ {S : Type 0} (rd : Reader S) (a : Arrival) (v : List ℕ) where
   twin_look absent x key twin = ended x (Ending.Need key)
   twin_look stale x key twin = ended x Ending.Stale
 
-  abbrev pub twin_key : Keyed → Ways S → Twin → Ways S
-  twin_key (Keyed.In key) x twin = twin_look (rd.at x.carried key) x key twin
-  twin_key Keyed.Outside x twin = block x
-  twin_key (Keyed.Refused number) x twin = x
+  abbrev pub twin_key : Option TileKey → Ways S → Twin → Ways S
+  twin_key (Some key) x twin = twin_look (rd.at x.carried key) x key twin
+  twin_key None x twin = block x
 
   -- the tile a twin stands in, by its step in rows and columns
   abbrev pub twin_over : Ways S → Twin → Ways S
@@ -100,7 +97,7 @@ found_by missing x a v key twin = record { choices = x.choices; blocked = true; 
 found_by absent x a v key twin = ended_by x (Ending.Need key)
 found_by stale x a v key twin = ended_by x Ending.Stale
 
-abbrev pub twin_found : Crossing → Lookup → List ℕ → Arrival → List ℕ → TileKey → Twin → Crossing
+abbrev pub twin_found : Crossing → Result Lookup Refusal → List ℕ → Arrival → List ℕ → TileKey → Twin → Crossing
 twin_found x answer arena a v key twin = found_by (in_bytes answer arena) x a v key twin
 
 module _ (x : Crossing) (arena : List ℕ) (a : Arrival) (v : List ℕ) (s : List ℕ) (twin : Twin) where

@@ -10,7 +10,6 @@ use Rattle.predict.specs.declared.choose.Picked.{Picked}
 use Rattle.predict.specs.Choose.{pick}
 use Rattle.predict.specs.declared.Decision.{Decision}
 use Rattle.predict.specs.declared.End.{End}
-use Rattle.predict.specs.declared.End.TheVariants as End
 use Rattle.predict.specs.declared.Ending.TheVariants as Ending
 
 abbrev pub stop : Picked → End → Float → Decision

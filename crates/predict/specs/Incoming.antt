@@ -1,12 +1,11 @@
 -- The points passed last, and the heading at the end of an edge: `predict.rs`, `history` and `incoming`: "The road HEADING_SPAN_M back,
 -- interpolated on the segment that spans it (else the oldest point kept)". Each float operation is rounded once, in the Rust's order. Assumes
 -- nothing.
+use Rattle.std.specs.Prelude.{Option, Some, None}
 use Rattle.std.specs.Prelude.{ℕ, zero, suc, ◌+◌, ◌-◌, Bool, ◌&&◌, cond, List, ◌++◌, ltb, pos, Float, get_or, set, replicate, take, drop}
 use Rattle.std.specs.Float.{binary32}
 use Rattle.std.specs.Float.Ieee.{sub, div, lt, le}
 use Rattle.num.specs.Order.{clamp}
-use Rattle.cache.specs.declared.victim.Found.{Found}
-use Rattle.cache.specs.declared.victim.Found.TheVariants as Found
 use Rattle.geo.specs.declared.Point.{Point}
 use Rattle.geo.specs.Flat.{whole, metres_of, length_of, bearing_of}
 use Rattle.predict.specs.declared.History.{History}
@@ -47,12 +46,12 @@ abbrev pub is_back : History → Float → ℕ → Bool
 is_back h distance i = ltb i 16 && le (whole 25) (sub binary32 distance (distance_at h i))
 
 -- the highest number below n that has p
-unfoldable pub highest : (ℕ → Bool) → ℕ → Found
-highest p zero = Found.Nothing
-highest p (suc n) = cond (p n) (Found.At n) (highest p n)
+unfoldable pub highest : (ℕ → Bool) → ℕ → Option ℕ
+highest p zero = None
+highest p (suc n) = cond (p n) (Some n) (highest p n)
 
 -- the latest point with one after it that lies 25 m or more back along the road
-unfoldable pub back_at : History → Float → Found
+unfoldable pub back_at : History → Float → Option ℕ
 back_at h distance = highest (λ (i : ℕ). is_back h distance i) (h.len - 1)
 
 -- how far from one point to the next the road 25 m back lies
@@ -60,9 +59,9 @@ abbrev pub back_part : Float → Float → Float → Float
 back_part from to distance =
     cond (lt from to) (clamp (div binary32 (sub binary32 (sub binary32 distance (whole 25)) from) (sub binary32 to from)) (whole 0) (whole 1)) (whole 0)
 
-abbrev pub back_by : Found → History → Float → Point
-back_by Found.Nothing h distance = point_at h 0
-back_by (Found.At i) h distance =
+abbrev pub back_by : Option ℕ → History → Float → Point
+back_by None h distance = point_at h 0
+back_by (Some i) h distance =
     between (point_at h i) (point_at h (i + 1)) (back_part (distance_at h i) (distance_at h (i + 1)) distance)
 
 unfoldable pub back_of : History → Float → Point

@@ -1,9 +1,10 @@
 -- The tiles that the road touches: "Memory is answered when a 97th tile is met, or when pages pass max(1, page count - 12)" (document 01;
 -- `predict.rs`, `tiles` and `page_budget`). A tile counts once. They stand in 194 numbers: at place i the row + 1, 0 where none stands yet, and at
 -- 96 + i the column; at 192 how many tiles they are, at 193 the pages that they take.
+use Rattle.std.specs.Prelude.{is_some}
 use Rattle.std.specs.Prelude.{ℕ, ◌+◌, ◌-◌, max, Bool, true, false, ◌&&◌, cond, List, eqb, ltb, leb, get_or, set, replicate}
 use Rattle.pack.specs.declared.TileKey.{TileKey}
-use Rattle.cache.specs.Search.{lowest, is_found}
+use Rattle.cache.specs.Search.{lowest}
 
 abbrev pub nothing_met : List ℕ
 nothing_met = replicate 194 0
@@ -23,7 +24,7 @@ is_met m i key = eqb (get_or m i 0) (key.row + 1) && eqb (get_or m (96 + i) 0) k
 
 -- `tiles.contains(..)`; no place past the 96th holds a tile
 unfoldable pub has_met : List ℕ → TileKey → Bool
-has_met m key = is_found (lowest (λ (i : ℕ). ltb i 96 && is_met m i key) (tiles_of m))
+has_met m key = is_some (lowest (λ (i : ℕ). ltb i 96 && is_met m i key) (tiles_of m))
 
 -- MAX_TILES is 96
 abbrev pub has_room : List ℕ → ℕ → ℕ → Bool

@@ -2,7 +2,9 @@
 -- shares it. `predict` is it at the cache's look, with what the lookups did to clock and ages. Order (document 01, "Refused"): 12; 9 for the
 -- start's key; without direction Uncertain, before any lookup; the late 12, 5, 6 and 10 of the start; then 12 late or 5 at any lookup of the
 -- walk. Every height of both arrays is given in every case. Any horizon is accepted.
-use Rattle.std.specs.Prelude.{ℕ, Bool, false, not, cond, List, [], eqb, ℤ, pos, Float, length}
+use Rattle.refusal.specs.declared.Refusal.{Refusal}
+use Rattle.std.specs.Prelude.{Result}
+use Rattle.std.specs.Prelude.{ℕ, Bool, false, not, cond, List, [], eqb, ℤ, pos, Float, length, Option, Some, None}
 use Rattle.std.specs.Float.{binary32}
 use Rattle.std.specs.Float.Ieee.{to_unsigned, mul, div}
 use Rattle.num.specs.Order.{clamp}
@@ -19,8 +21,6 @@ use Rattle.cache.specs.Direct.{Look, ready, missing, absent, stale, look, looked
 use Rattle.cache.specs.declared.Lookup.{Lookup}
 use Rattle.cache.specs.Ages.{aged}
 use Rattle.cache.specs.Reader.{Reader, plain, in_bytes, in_looks}
-use Rattle.matcher.specs.declared.Forward.{Forward}
-use Rattle.matcher.specs.declared.Forward.TheVariants as Forward
 use Rattle.matcher.specs.declared.Heading.TheVariants as Heading
 use Rattle.matcher.specs.declared.Matched.{Matched}
 use Rattle.matcher.specs.Score.{same_id}
@@ -33,15 +33,12 @@ use Rattle.predict.specs.Start.{start_ok, first_of, place}
 use Rattle.predict.specs.Incoming.{first}
 use Rattle.predict.specs.Ridden as Ridden
 use Rattle.predict.specs.declared.End.{End}
-use Rattle.predict.specs.declared.End.TheVariants as End
 use Rattle.predict.specs.declared.Ending.{Ending}
-use Rattle.predict.specs.declared.Ending.TheVariants as Ending
 use Rattle.predict.specs.Meets.{budget}
 use Rattle.predict.specs.declared.Track.{Track}
 use Rattle.predict.specs.declared.Walk.{Walk}
 use Rattle.predict.specs.Walk.{Run, walk_over}
 use Rattle.predict.specs.declared.Outcome.{Outcome}
-use Rattle.predict.specs.declared.Outcome.TheVariants as Outcome
 use Rattle.predict.specs.declared.Predicted.{Predicted}
 use Rattle.predict.specs.declared.Prediction.{Prediction}
 
@@ -138,9 +135,9 @@ module _ {S : Type 0} (rd : Reader S) (n : ℕ) where
   start_over h m forward horizon s samples behind = start_look (rd.at s m.tile.key) h m forward horizon s samples behind
 
   -- without a direction nothing is looked up
-  abbrev pub directed_over : Forward → Header → Matched → Float → S → List ℤ → List ℤ → Forecast S
-  directed_over Forward.Unknown h m horizon s samples behind = nothing uncertain s samples behind
-  directed_over (Forward.Is forward) h m horizon s samples behind = start_over h m forward horizon s samples behind
+  abbrev pub directed_over : Option Bool → Header → Matched → Float → S → List ℤ → List ℤ → Forecast S
+  directed_over None h m horizon s samples behind = nothing uncertain s samples behind
+  directed_over (Some forward) h m horizon s samples behind = start_over h m forward horizon s samples behind
 
   unfoldable pub forecast_over : Header → Matched → Float → S → List ℤ → List ℤ → Forecast S
   forecast_over h m horizon s samples behind = directed_over m.forward h m horizon s samples behind
@@ -213,7 +210,7 @@ started_look absent looks arena n h m forward horizon samples behind =
     nothing (in_looks arena h.tile) n (Outcome.Need m.tile.key) looks samples behind
 started_look stale looks arena n h m forward horizon samples behind = nothing (in_looks arena h.tile) n (Outcome.Refused 12) looks samples behind
 
-unfoldable pub started_by : List ℕ → List ℕ → ℕ → Header → Lookup → Matched → Bool → Float → List ℤ → List ℤ → Forecast (List ℕ)
+unfoldable pub started_by : List ℕ → List ℕ → ℕ → Header → Result Lookup Refusal → Matched → Bool → Float → List ℤ → List ℤ → Forecast (List ℕ)
 started_by looks arena n h answer m forward horizon samples behind = started_look (in_bytes answer arena) looks arena n h m forward horizon samples behind
 
 -- over the numbers that lookups go by, for the crates above (`looks_predict`)

@@ -5,7 +5,6 @@ use Rattle.pack.specs.declared.TileKey.{TileKey}
 use Rattle.cache.specs.Direct.{Look, Agree}
 use Rattle.matcher.specs.declared.Matched.{Matched}
 use Rattle.predict.specs.declared.Outcome.{Outcome}
-use Rattle.predict.specs.declared.Outcome.TheVariants as Outcome
 use Rattle.predict.specs.Predict.{predict_over}
 
 -- ended with a road, by 6 or by 10 (document 01: "a road is finished where working it out ends other than by 5, 12")

@@ -1,8 +1,9 @@
 -- The edges followed last: `predict.rs`, `visited`. VISITED is 128: past it the oldest goes. They stand in 386 numbers: at place i the edge + 1, 0
 -- where none stands yet; at 128 + i and 256 + i its tile's row and column; at 384 the place that the next one takes; at 385 how many places are taken, the first ones.
+use Rattle.std.specs.Prelude.{is_some}
 use Rattle.std.specs.Prelude.{ℕ, ◌+◌, ◌%◌, max, Bool, ◌&&◌, List, eqb, ltb, get_or, set, replicate}
 use Rattle.pack.specs.declared.TileKey.{TileKey}
-use Rattle.cache.specs.Search.{lowest, is_found}
+use Rattle.cache.specs.Search.{lowest}
 
 abbrev pub nothing_visited : List ℕ
 nothing_visited = replicate 386 0
@@ -18,4 +19,4 @@ is_followed d i key edge = eqb (get_or d i 0) (edge + 1) && (eqb (get_or d (128 
 
 -- `visited.contains(..)`, among the places taken, which are 128 at most: the same of all 128 is `visited_all` (proofs/VisitLaws)
 unfoldable pub was_visited : List ℕ → TileKey → ℕ → Bool
-was_visited d key edge = is_found (lowest (λ (i : ℕ). ltb i 128 && is_followed d i key edge) (get_or d 385 0))
+was_visited d key edge = is_some (lowest (λ (i : ℕ). ltb i 128 && is_followed d i key edge) (get_or d 385 0))

@@ -2,6 +2,8 @@
 -- once, over any reader: `walk_to` knows no cache, and the direct engine shares it. `follow` is it at the code's lookups. A tile that is not
 -- loaded ends the walk with its key, one that no longer passes with 12; a missing tile of an edge that is taken ends it with its key too, as in
 -- the Rust.
+use Rattle.refusal.specs.declared.Refusal.{Refusal}
+use Rattle.std.specs.Prelude.{Result, Ok, Err}
 use Rattle.std.specs.Prelude.{ℕ, ◌%◌, Bool, true, false, cond, List, ℤ, Float, length}
 use Rattle.num.specs.Fold.{up_to}
 use Rattle.pack.specs.declared.Header.{Header}
@@ -11,11 +13,9 @@ use Rattle.tile.specs.Layout as Layout
 use Rattle.tile.specs.declared.Edge.{Edge}
 use Rattle.cache.specs.Direct.{Look, ready, missing, absent, stale}
 use Rattle.cache.specs.declared.Lookup.{Lookup}
-use Rattle.cache.specs.declared.Lookup.TheVariants as Lookup
 use Rattle.cache.specs.Ages.{look_up}
 use Rattle.cache.specs.Reader.{Reader, in_bytes, in_looks}
 use Rattle.matcher.specs.declared.Heading.{Heading}
-use Rattle.matcher.specs.declared.Heading.TheVariants as Heading
 use Rattle.predict.specs.declared.Way.{Way}
 use Rattle.predict.specs.declared.cost.Bound.{Bound}
 use Rattle.predict.specs.declared.cost.Road.{Road}
@@ -32,7 +32,6 @@ use Rattle.predict.specs.declared.Crossing.{Crossing}
 use Rattle.predict.specs.declared.Decision.{Decision}
 use Rattle.predict.specs.declared.End.TheVariants as End
 use Rattle.predict.specs.declared.Ending.{Ending}
-use Rattle.predict.specs.declared.Ending.TheVariants as Ending
 use Rattle.predict.specs.Visits.{nothing_visited, visit}
 use Rattle.predict.specs.Meets.{nothing_met, meet}
 use Rattle.predict.specs.Consider.{consider}
@@ -277,17 +276,17 @@ module _ {S : Type 0} (rd : Reader S) (trip : Trip) (budget : ℕ) where
 -- ---- the code's
 
 -- where an answer in pages stands
-abbrev pub first_of : Lookup → ℕ
-first_of (Lookup.Ready first len) = first
-first_of Lookup.Missing = 0
-first_of Lookup.Absent = 0
-first_of (Lookup.Refused number) = 0
+abbrev pub first_of : Result Lookup Refusal → ℕ
+first_of (Ok (Lookup.Ready first len)) = first
+first_of (Ok Lookup.Missing) = 0
+first_of (Ok Lookup.Absent) = 0
+first_of (Err number) = 0
 
-abbrev pub len_of : Lookup → ℕ
-len_of (Lookup.Ready first len) = len
-len_of Lookup.Missing = 0
-len_of Lookup.Absent = 0
-len_of (Lookup.Refused number) = 0
+abbrev pub len_of : Result Lookup Refusal → ℕ
+len_of (Ok (Lookup.Ready first len)) = len
+len_of (Ok Lookup.Missing) = 0
+len_of (Ok Lookup.Absent) = 0
+len_of (Err number) = 0
 
 -- the walk on its edge, where the tile stands, and the numbers that are lent
 pub record Entering : Type 0 where
@@ -297,13 +296,13 @@ pub record Entering : Type 0 where
   pub met : List ℕ
 
 -- by the answer of a lookup
-abbrev pub entered_at : Onto → Lookup → Entered
+abbrev pub entered_at : Onto → Result Lookup Refusal → Entered
 entered_at o answer = record { walk = o.walk; first = first_of answer; len = len_of answer }
 
-abbrev pub entered_by : List ℕ → List ℕ → Walk → Lookup → List ℕ → ℕ → Onto
+abbrev pub entered_by : List ℕ → List ℕ → Walk → Result Lookup Refusal → List ℕ → ℕ → Onto
 entered_by v m w answer arena budget = enter_look (in_bytes answer arena) v m w budget
 
-abbrev pub entering_of : Onto → Lookup → List ℕ → Entering
+abbrev pub entering_of : Onto → Result Lookup Refusal → List ℕ → Entering
 entering_of o answer looks = record { entered = entered_at o answer; looks = looks; visited = o.visited; met = o.met }
 
 unfoldable pub enter : List ℕ → List ℕ → List ℕ → Walk → List ℕ → ℕ → ℕ → Entering
@@ -312,7 +311,7 @@ enter looks v m w arena size budget =
     cond (goes_on w.ending) (entering_of (entered_by v m w hit.answer arena budget) hit.answer hit.looks)
     (record { entered = record { walk = w; first = 0; len = 0 }; looks = looks; visited = v; met = m })
 
-abbrev pub next_by : Walk → Lookup → List ℕ → Walk
+abbrev pub next_by : Walk → Result Lookup Refusal → List ℕ → Walk
 next_by w answer arena = next_look (in_bytes answer arena) w
 
 unfoldable pub decided : List ℕ → List ℕ → ℕ → Walk → Decision → Stride (List ℕ)

@@ -72,11 +72,9 @@ pub(crate) fn pick(c: Choices) -> Picked
         best: none,
         second: 1.0 / 0.0,
     };
-    let mut i = 0;
-    while i < 12 {
+    for i in 0..12 {
         let choice = c.v[i];
         p = pick_step(p, n, i, choice);
-        i += 1;
     }
     p
 }

@@ -7,8 +7,8 @@ ghost use Rattle.predict.specs.Cross as Cross;
 use crate::twins::{Twin, TwinList};
 use crate::{Arrival, Choices, Crossing, Ending};
 use cache::Lookup;
-use pack::{Keyed, TileKey};
-use tile::Found;
+use pack::TileKey;
+use refusal::Refusal;
 
 // The ways on of a tile where it has the node.
 fn consider_at(
@@ -22,8 +22,8 @@ fn consider_at(
     ensures { result ≡ Cross.consider_at c a visited.now bytes.now key twin }
 {
     match tile::read::node_at(bytes, twin.x, twin.y) {
-        Found::At(node) => crate::consider::consider(c, a, visited, bytes, key, node),
-        Found::Nothing => c,
+        Some(node) => crate::consider::consider(c, a, visited, bytes, key, node),
+        None => c,
     }
 }
 
@@ -42,7 +42,7 @@ fn ended(x: Crossing, ending: Ending) -> Crossing
 // What the lookup of a tile that shares the node gives.
 fn twin_found(
     x: Crossing,
-    answer: Lookup,
+    answer: Result<Lookup, Refusal>,
     arena: &[u8],
     a: Arrival,
     visited: &[u32; crate::VISITED],
@@ -53,13 +53,13 @@ fn twin_found(
 {
     let mut d = x;
     match answer {
-        Lookup::Missing => {
+        Ok(Lookup::Missing) => {
             d.blocked = true;
             d
         }
-        Lookup::Absent => ended(x, Ending::Need(key)),
-        Lookup::Refused(_) => ended(x, Ending::Stale),
-        Lookup::Ready(first, len) => {
+        Ok(Lookup::Absent) => ended(x, Ending::Need(key)),
+        Err(_) => ended(x, Ending::Stale),
+        Ok(Lookup::Ready(first, len)) => {
             let old = d.choices;
             let choices = consider_at(
                 old,
@@ -86,7 +86,7 @@ fn stepped(at: u16, step: i64) -> i64
 }
 
 // The tile that a twin stands in.
-fn key_of(a: Arrival, twin: Twin) -> Keyed
+fn key_of(a: Arrival, twin: Twin) -> Option<TileKey>
     ensures { result ≡ checked_of a.header (pos a.way.tile.row +ℤ twin.row) (pos a.way.tile.col +ℤ twin.col) }
 {
     let way = a.way;
@@ -110,17 +110,16 @@ fn twin_step(
     ensures looks_after { looks.new ≡ (Cross.twin_step x arena.now a visited.now looks.old twin).carried }
 {
     match key_of(a, twin) {
-        Keyed::In(key) => {
+        Some(key) => {
             let header = a.header;
             let answer = cache::ages::look_up(looks, arena, header.tile, key);
             twin_found(x, answer, arena, a, visited, key, twin)
         }
-        Keyed::Outside => {
+        None => {
             let mut d = x;
             d.blocked = true;
             d
         }
-        Keyed::Refused(_) => x,
     }
 }
 
@@ -167,15 +166,13 @@ pub(crate) fn cross(
         blocked: false,
         ending: Ending::Going,
     };
-    let mut i = 0;
-    while i < 8 {
+    for i in 0..8 {
         // No tile is left.
         if twins.len <= i {
             return x;
         }
         let twin = twins.v[i];
         x = cross_step(x, arena, a, visited, looks, twin, i, twins.len);
-        i += 1;
     }
     x
 }

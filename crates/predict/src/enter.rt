@@ -4,6 +4,7 @@ ghost use Rattle.predict.specs.Walk as Walks;
 
 use crate::{End, Ending, Walk};
 use cache::Lookup;
+use refusal::Refusal;
 
 // The walk on its edge, and where the tile's bytes stand in the arena.
 #[derive(Drop)]
@@ -55,7 +56,7 @@ fn on_edge(
 // What the lookup of the edge's tile gives.
 fn entered_by(
     w: Walk,
-    answer: Lookup,
+    answer: Result<Lookup, Refusal>,
     arena: &[u8],
     budget: usize,
     visited: &mut [u32; crate::VISITED],
@@ -68,12 +69,12 @@ fn entered_by(
     let way = w.way;
     let key = way.tile;
     match answer {
-        Lookup::Ready(first, len) => {
+        Ok(Lookup::Ready(first, len)) => {
             let bytes = cache::ages::run_bytes(arena, first, len);
             let walk = on_edge(w, budget, cache::runs::span(bytes.len()), visited, met);
             Entered { walk, first, len }
         }
-        Lookup::Refused(_) => {
+        Err(_) => {
             let walk = with_ending(w, Ending::Stale);
             Entered {
                 walk,
@@ -81,7 +82,7 @@ fn entered_by(
                 len: 0,
             }
         }
-        Lookup::Missing | Lookup::Absent => {
+        Ok(Lookup::Missing) | Ok(Lookup::Absent) => {
             let walk = with_ending(w, Ending::Need(key));
             Entered {
                 walk,

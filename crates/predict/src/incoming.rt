@@ -3,7 +3,6 @@ ghost use Rattle.std.specs.Prelude.{◌≡◌, [], length};
 ghost use Rattle.predict.specs.Incoming as Incoming;
 
 use crate::History;
-use cache::victim::Found;
 use geo::Point;
 
 // The history of a road of which one point was passed.
@@ -36,10 +35,8 @@ fn shift(v: &mut [i32; 16])
     ensures { v.new ≡ Incoming.shifted v.old }
 {
     sixteen(*v);
-    let mut i = 0;
-    while i < 15 {
+    for i in 0..15 {
         v[i] = v[i + 1];
-        i += 1;
     }
 }
 
@@ -48,10 +45,8 @@ fn shift_distances(v: &mut [f32; 16])
     ensures { v.new ≡ Incoming.shifted v.old }
 {
     sixteen_distances(*v);
-    let mut i = 0;
-    while i < 15 {
+    for i in 0..15 {
         v[i] = v[i + 1];
-        i += 1;
     }
 }
 
@@ -90,23 +85,23 @@ pub(crate) fn more(n: usize) -> usize
 }
 
 // The latest point with one after it that lies 25 m or more back along the road.
-fn back_at(v: &[f32; 16], len: usize, distance: f32) -> Found
+fn back_at(v: &[f32; 16], len: usize, distance: f32) -> Option<usize>
     ensures { result ≡ Incoming.back_at (record { lats = []; lons = []; distances = v.now; len = len }) distance }
 {
     sixteen_distances(*v);
     if len == 0 {
-        return Found::Nothing;
+        return None;
     }
     let mut i = len - 1;
     while 0 < i {
         i -= 1;
         if i < 16 {
             if distance - v[i] >= 25.0 {
-                return Found::At(i);
+                return Some(i);
             }
         }
     }
-    Found::Nothing
+    None
 }
 
 // How far along the way from one point to the next the road 25 m back lies.
@@ -155,8 +150,8 @@ fn back_of(
     ensures { result ≡ Incoming.back_of (record { lats = lats.now; lons = lons.now; distances = distances.now; len = len }) distance }
 {
     match back_at(distances, len, distance) {
-        Found::Nothing => point_at(lats, lons, 0),
-        Found::At(i) => {
+        None => point_at(lats, lons, 0),
+        Some(i) => {
             crate::start::between(
                 point_at(lats, lons, i),
                 point_at(lats, lons, i + 1),

@@ -29,15 +29,13 @@ fn has_met(met: &[u64; crate::MET], key: TileKey) -> bool
     ensures { result ≡ Meets.has_met met.now key }
 {
     let n = met[192] as usize;
-    let mut i = 0;
-    while i < n {
+    for i in 0..n {
         if 96 <= i {
             return false;
         }
         if is_met(met, i, key) {
             return true;
         }
-        i += 1;
     }
     false
 }

@@ -8,8 +8,9 @@ use crate::ridden::Behind;
 use crate::{End, Ending, Followed, Mark, Outcome, Predicted, Prediction, Track, Trip, Walk, Way};
 use cache::{Cache, Lookup};
 use geo::Point;
-use matcher::{Forward, Heading, Matched};
+use matcher::{Heading, Matched};
 use pack::Header;
+use refusal::Refusal;
 use tile::Edge;
 
 pub(crate) fn refused(c: Cache, number: u32) -> Predicted
@@ -229,7 +230,7 @@ fn started_by(
     arena: &[u8],
     header: Header,
     pages: usize,
-    answer: Lookup,
+    answer: Result<Lookup, Refusal>,
     start: Matched,
     forward: bool,
     horizon_m: f32,
@@ -245,10 +246,10 @@ fn started_by(
     let id = start.tile;
     let key = id.key;
     match answer {
-        Lookup::Missing => Outcome::Rematch,
-        Lookup::Absent => Outcome::Need(key),
-        Lookup::Refused(_) => Outcome::Refused(12),
-        Lookup::Ready(first, len) => {
+        Ok(Lookup::Missing) => Outcome::Rematch,
+        Ok(Lookup::Absent) => Outcome::Need(key),
+        Err(_) => Outcome::Refused(12),
+        Ok(Lookup::Ready(first, len)) => {
             let trip = Trip {
                 header,
                 horizon_m,
@@ -280,8 +281,8 @@ pub fn from_looks(
 {
     let forward = start.forward;
     match forward {
-        Forward::Unknown => no_direction(),
-        Forward::Is(along) => {
+        None => no_direction(),
+        Some(along) => {
             let id = start.tile;
             let found = cache::ages::look_up(looks, arena, header.tile, id.key);
             started_by(

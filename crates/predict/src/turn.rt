@@ -8,6 +8,7 @@ use crate::outgoing::Leg;
 use crate::{Arrival, Course, Crossing, Decision, Ending, Walk};
 use cache::Lookup;
 use matcher::Heading;
+use refusal::Refusal;
 use tile::Edge;
 
 // The walk with another heading of entry and of approach.
@@ -114,13 +115,13 @@ fn taken(w: Walk, d: Decision) -> Walk
 }
 
 // What the lookup of the next edge's tile gives.
-fn next_by(w: Walk, answer: Lookup, arena: &[u8]) -> Walk
+fn next_by(w: Walk, answer: Result<Lookup, Refusal>, arena: &[u8]) -> Walk
     ensures { result ≡ Walks.next_by w answer arena.now }
 {
     let way = w.way;
     let key = way.tile;
     match answer {
-        Lookup::Ready(first, len) => {
+        Ok(Lookup::Ready(first, len)) => {
             let next = tile::raw::edge(cache::ages::run_bytes(arena, first, len), way.edge);
             let old = w.road;
             let road = road_of(old, next);
@@ -128,8 +129,8 @@ fn next_by(w: Walk, answer: Lookup, arena: &[u8]) -> Walk
             d.road = road;
             d
         }
-        Lookup::Refused(_) => crate::enter::with_ending(w, Ending::Stale),
-        Lookup::Missing | Lookup::Absent => crate::enter::with_ending(w, Ending::Need(key)),
+        Err(_) => crate::enter::with_ending(w, Ending::Stale),
+        Ok(Lookup::Missing) | Ok(Lookup::Absent) => crate::enter::with_ending(w, Ending::Need(key)),
     }
 }
 

@@ -106,10 +106,8 @@ pub(crate) fn boundary_twins(x: u16, y: u16, size: u16) -> TwinList
     ensures { result ≡ Twins.boundary_twins x y size }
 {
     let mut t = no_twins();
-    let mut i = 0;
-    while i < 9 {
+    for i in 0..9 {
         t = twin_step(t, i, x, y, size);
-        i += 1;
     }
     t
 }

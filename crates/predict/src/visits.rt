@@ -51,15 +51,13 @@ pub(crate) fn was_visited(visited: &[u32; crate::VISITED], key: TileKey, edge: u
     ensures { result ≡ Visits.was_visited visited.now key edge }
 {
     let n = wide(visited[385]);
-    let mut i = 0;
-    while i < n {
+    for i in 0..n {
         if 128 <= i {
             return false;
         }
         if is_followed(visited, i, key, edge) {
             return true;
         }
-        i += 1;
     }
     false
 }

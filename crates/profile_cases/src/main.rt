@@ -1,13 +1,14 @@
-// The cases of `profile` besides document 01's example, through the same function: no input, one sample, the ends of 16 bits, small values of either sign, halves and
+// The cases of `profile` besides the sample, through the same function: no input, one sample, the ends of 16 bits, small values of either sign, halves and
 // what lies beside them, an odd byte, 501 samples and 502. Then whole metres of every 16-bit number.
 #![tactic(auto)]
 
 ghost use Rattle.std.specs.Prelude.{◌≤◌};
 
+use profile_text::ROOM;
 use std::io;
 
 fn show(rt: &impl Print, input: &[u8]) -> io::Result<()> {
-    let mut out = [0u8; 6026];
+    let mut out = [0u8; ROOM];
     let len = profile_text::text(input, &mut out);
     rt.write_all(&out[..len])
 }
@@ -17,24 +18,23 @@ fn unlike(dm: i16, metres: i16) -> u32
     ensures { result ≤ 1 }
 {
     if profile_text::whole_metres(dm) == metres {
-        return 0;
+        0
+    } else {
+        1
     }
-    1
 }
 
 // How many of all 16-bit numbers have other whole metres than a count by single decimetres from zero, upward and downward: the first metre
 // begins with the fifth decimetre, and each tenth one begins another.
 fn differing() -> u32 {
-    let mut dm: u32 = 0;
     let mut metres: u32 = 0;
     let mut since: u32 = 5;
     let mut found: u32 = 0;
-    while dm < 32768 {
+    for dm in 0..32768u32 {
         found += unlike(dm as i16, metres as i16);
         metres += (since + 1) / 10;
         since = (since + 1) % 10;
-        found += unlike(-1 - (dm as i16), 0 - (metres as i16));
-        dm += 1;
+        found += unlike(-1 - (dm as i16), -(metres as i16));
     }
     found
 }

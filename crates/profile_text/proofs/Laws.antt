@@ -1,5 +1,5 @@
 -- Laws of the text and of its writers. Texts that are put one behind the other are put as one: none, one byte, two texts, the next byte of a text
--- (`append_none`, `append_one`, `append_more`, `append_next`), and what is put from 0 on is how the buffer begins (`whole`).
+-- (`append_none`, `append_one`, `append_part`, `append_more`, `append_next`), and what is put from 0 on is how the buffer begins (`whole`).
 -- Numbers in decimal by their last digit (`decimal_one`, `decimal_more`), and how long they are (`decimal_some`, `length-decimal`, `number_ends`). How long whole
 -- metres of 16 bits are (`length_metres`), a line (`length-line`), the lines of one sample more (`lines_more`), and samples by index (`length-samples`, `sample_at`).
 use Prim.Native.Nat.{ℕ, zero, suc, ◌+◌, ◌*◌, ◌/◌, ◌%◌, ◌^◌, ◌<◌, ◌≤◌}
@@ -14,6 +14,8 @@ use lib.Seq.{take-suc, take-suc-set, drop-set-lt, drop-drop}
 use lib.Dec.{ltb}
 use lib.IntN.{ℤ, pos, negsuc}
 use lib.Signed.{mag}
+use borrow.Rule.Slice.PartMut.{put_mid}
+use Rattle.std.proofs.lemmas.Slice.{take-put_mid, drop-put_mid}
 use borrow.Author.Tests.{lt-ltb, le-ltb}
 use Rattle.num.specs.Cast.{signed16}
 use Rattle.profile_text.specs.Text.{digits, decimal, signed, whole_metres, line, lines_by, samples}
@@ -27,6 +29,11 @@ append_none xs at = record { ends = omega arith; stands = sym (append-nil (take 
 
 pub append_one : (xs : List ℕ) (at b : ℕ) → at < length xs → Appended xs at (b ∷ []) (set xs at b) (at + 1)
 append_one xs at b h = record { ends = omega arith; stands = rw add-one (take-suc-set xs at b h); rest = drop-set-lt (at + 1) xs at b (omega arith) }
+
+-- a text in the place of a part of the buffer
+pub append_part : (xs ys : List ℕ) (at k r : ℕ) → r ≡ at + length ys → k ≡ length ys → r ≤ length xs → Appended xs at ys (put_mid at k xs ys) r
+append_part xs ys at k r e f h =
+    record { ends = e; stands = take-put_mid at k xs ys r e (omega arith); rest = drop-put_mid at k xs ys r (omega arith) (omega arith) (sym f) }
 
 drop_further : (n m : ℕ) (xs ys : List ℕ) → drop n xs ≡ drop n ys → drop (n + m) xs ≡ drop (n + m) ys
 drop_further n m xs ys e = sym (drop-drop m n xs) ∙ ap (drop m) e ∙ drop-drop m n ys

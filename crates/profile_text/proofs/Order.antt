@@ -1,6 +1,6 @@
 -- Heights in their order, for omega, which reads no ℤ: z is `up z` less `dn z`, two numbers of ℕ of which one is 0. How far one lies above another (`gap`, `gap_is`), and the lowest and the
 -- highest of a list (`lowest_each`, `highest_each`).
-use Prim.Native.Nat.{ℕ, zero, suc, ◌+◌, ◌-◌, ◌<◌, ◌≤◌}
+use Prim.Native.Nat.{ℕ, zero, suc, ◌+◌, ◌<◌, ◌≤◌}
 use mathlib.Core.Path.{◌≡◌, refl, sym}
 use mathlib.Core.Bool.{Bool, true, false, cond, true≢false}
 use mathlib.Core.List.{List, [], ◌∷◌}

@@ -15,8 +15,8 @@ use borrow.Author.Tests.{lt-ltb, le-ltb, ltb-true, ltb-false, eq-eqb, ne_eqb}
 use Rattle.profile_text.specs.Codes.{codes}
 use Rattle.profile_text.specs.Text.{decimal, lines_by}
 use Rattle.profile_text.specs.Page.{right_in, left_in, tenths, rise, bar_length, ahead, bar, page_line, page_heading, lowest, highest, page_of, page, refusal, answer, printed, written}
-use Rattle.profile_text.specs.declared.page.Printed.{Printed}
-use Rattle.profile_text.specs.declared.page.Printed.TheVariants as Printed
+use Rattle.std.specs.Prelude.{Result, Ok, Err}
+use Rattle.refusal.specs.declared.Refusal.{Refusal}
 use Rattle.profile_text.proofs.Laws.{decimal_one, length-decimal}
 use Rattle.profile_text.proofs.Order.{gap, le_parts, le_trans, lowest_each, highest_each}
 
@@ -156,29 +156,29 @@ module _ (zs : List ℤ) (p : ℕ) where
 -- ---- the answer
 
 module _ (zs : List ℤ) (p : ℕ) where
-  pub too_many : (out : List ℕ) → 501 < length zs → (Printed.Refused 12 ≡ printed zs p (length out)) × (out ≡ written zs p out)
+  pub too_many : (out : List ℕ) → 501 < length zs → (Err Refusal.BadState ≡ printed zs p (length out)) × (out ≡ written zs p out)
   unfolding printed written refusal
   too_many out h = rw (lt-ltb 501 (length zs) h) (refl, refl)
 
   module _ (few : length zs ≤ 501) (out : List ℕ) where
-    pub too_short : length out < length (page p zs) → (Printed.Refused 14 ≡ printed zs p (length out)) × (out ≡ written zs p out)
+    pub too_short : length out < length (page p zs) → (Err Refusal.NoRoom ≡ printed zs p (length out)) × (out ≡ written zs p out)
     unfolding printed written refusal
     too_short h = rw (le-ltb 501 (length zs) few, lt-ltb (length out) (length (page p zs)) h) (refl, refl)
 
-    pub fits : length (page p zs) ≤ length out → (Printed.Length (length (page p zs)) ≡ printed zs p (length out)) × (page p zs ++ drop (length (page p zs)) out ≡ written zs p out)
+    pub fits : length (page p zs) ≤ length out → (Ok (length (page p zs)) ≡ printed zs p (length out)) × (page p zs ++ drop (length (page p zs)) out ≡ written zs p out)
     unfolding printed written refusal
     fits h = rw (le-ltb 501 (length zs) few, le-ltb (length out) (length (page p zs)) h) (refl, refl)
 
 -- a page that was written has its place in the output
-length_of : Printed → ℕ
-length_of (Printed.Length n) = n
-length_of (Printed.Refused k) = 0
+length_of : Result ℕ Refusal → ℕ
+length_of (Ok n) = n
+length_of (Err e) = 0
 
-pub printed_fits : (zs : List ℤ) (p room : ℕ) {n : ℕ} → Printed.Length n ≡ printed zs p room → n ≤ room
+pub printed_fits : (zs : List ℤ) (p room : ℕ) {n : ℕ} → Ok n ≡ printed zs p room → n ≤ room
 unfolding printed refusal length_of
 printed_fits zs p room {n} e = rw (ap length_of e) (go (ltb 501 (length zs)) (ltb room (length (page p zs))) refl)
   where
-    go : (s t : Bool) → ltb room (length (page p zs)) ≡ t → length_of (answer (cond s 12 (cond t 14 0)) (length (page p zs))) ≤ room
+    go : (s t : Bool) → ltb room (length (page p zs)) ≡ t → length_of (answer (cond s (Err Refusal.BadState) (cond t (Err Refusal.NoRoom) (Ok tt))) (length (page p zs))) ≤ room
     go true t e = omega arith
     go false true e = omega arith
     go false false e = ltb-false room (length (page p zs)) e

@@ -1,17 +1,11 @@
 -- What the program `drive` prints for a fix: its number, how the last step ended, the match (row, column, edge, direction, metres from the road),
 -- how many heights lie ahead, why there are no more, and the confidence. Text is a list of ASCII codes.
-use Rattle.std.specs.Prelude.{ℕ, ◌/◌, ◌%◌, List, [], ◌∷◌, ◌++◌}
+use Rattle.std.specs.Prelude.{ℕ, ◌/◌, ◌%◌, Bool, true, false, Option, Some, None, List, [], ◌∷◌, ◌++◌}
 use Rattle.profile_text.specs.Codes.{codes}
 use Rattle.profile_text.specs.Text.{decimal}
 use Rattle.profile_text.specs.declared.drive.Status.{Status}
-use Rattle.profile_text.specs.declared.drive.Status.TheVariants as Status
-use Rattle.profile_text.specs.declared.drive.Way.{Way}
-use Rattle.profile_text.specs.declared.drive.Way.TheVariants as Way
 use Rattle.profile_text.specs.declared.drive.End.{End}
-use Rattle.profile_text.specs.declared.drive.End.TheVariants as End
 use Rattle.profile_text.specs.declared.drive.Place.{Place}
-use Rattle.profile_text.specs.declared.drive.MaybePlace.{MaybePlace}
-use Rattle.profile_text.specs.declared.drive.MaybePlace.TheVariants as MaybePlace
 use Rattle.profile_text.specs.declared.drive.FixLine.{FixLine}
 
 -- ---- figures and names, each with the blank behind it
@@ -30,10 +24,10 @@ status Status.NoPack = codes "no-pack "
 status Status.OffMap = codes "off-map "
 status Status.Refused = codes "refused "
 
-unfoldable pub way : Way → List ℕ
-way Way.Unknown = codes "- "
-way Way.Forward = codes "forward "
-way Way.Back = codes "back "
+unfoldable pub way : Option Bool → List ℕ
+way None = codes "- "
+way (Some true) = codes "forward "
+way (Some false) = codes "back "
 
 unfoldable pub end : End → List ℕ
 end End.Horizon = codes "horizon "
@@ -46,12 +40,12 @@ end End.Memory = codes "memory "
 -- ---- the line
 
 unfoldable pub place : Place → List ℕ
-place p = field p.row ++ (field p.col ++ (field p.edge ++ (way p.way ++ metres p.offset_dm)))
+place p = field p.row ++ (field p.col ++ (field p.edge ++ (way p.forward ++ metres p.offset_dm)))
 
 -- without a match "-" for each figure
-unfoldable pub matched : MaybePlace → List ℕ
-matched MaybePlace.Nothing = codes "- - - - - "
-matched (MaybePlace.At p) = place p
+unfoldable pub matched : Option Place → List ℕ
+matched None = codes "- - - - - "
+matched (Some p) = place p
 
 -- samples, end, confidence, and a line end
 unfoldable pub road : ℕ → End → ℕ → List ℕ

@@ -1,10 +1,9 @@
--- The printed profile page: document 02, request 2. Lines and columns, over the heights of the whole road in decimetres. Text is a list of ASCII codes.
-use Rattle.std.specs.Prelude.{ℕ, zero, suc, ◌-◌, ◌*◌, ◌/◌, ◌%◌, cond, List, [], ◌∷◌, ◌++◌, ltb, eqb, length, take, drop, replicate, ℤ, pos, negsuc, nat_abs, ◌-ℤ◌}
+-- The printed profile page. Lines and columns, over the heights of the whole road in decimetres. Text is a list of ASCII codes.
+use Rattle.std.specs.Prelude.{ℕ, ◌-◌, ◌*◌, ◌/◌, ◌%◌, cond, Result, Ok, Err, is_ok, List, [], ◌∷◌, ◌++◌, ltb, eqb, length, take, drop, replicate, ℤ, pos, negsuc, nat_abs, ◌-ℤ◌}
 use Rattle.std.specs.Int.Signed.{lt_z}
 use Rattle.profile_text.specs.Codes.{codes}
 use Rattle.profile_text.specs.Text.{decimal, lines_by}
-use Rattle.profile_text.specs.declared.page.Printed.{Printed}
-use Rattle.profile_text.specs.declared.page.Printed.TheVariants as Printed
+use Rattle.refusal.specs.declared.Refusal.{Refusal}
 
 -- ---- columns
 
@@ -88,18 +87,18 @@ page p zs = page_of zs (50 * p) (take 50 (drop (50 * p) zs))
 
 -- ---- the answer
 
--- 0 where nothing is refused; 12: more samples than a road has; 14: output too short
-unfoldable pub refusal : List ℤ → ℕ → ℕ → ℕ
-refusal zs p room = cond (ltb 501 (length zs)) 12 (cond (ltb room (length (page p zs))) 14 0)
+-- more samples than a road has; output too short
+unfoldable pub refusal : List ℤ → ℕ → ℕ → Result Unit Refusal
+refusal zs p room = cond (ltb 501 (length zs)) (Err Refusal.BadState) (cond (ltb room (length (page p zs))) (Err Refusal.NoRoom) (Ok tt))
 
-abbrev pub answer : ℕ → ℕ → Printed
-answer zero n = Printed.Length n
-answer (suc k) n = Printed.Refused (suc k)
+abbrev pub answer : Result Unit Refusal → ℕ → Result ℕ Refusal
+answer (Ok u) n = Ok n
+answer (Err e) n = Err e
 
 -- the page's length
-unfoldable pub printed : List ℤ → ℕ → ℕ → Printed
+unfoldable pub printed : List ℤ → ℕ → ℕ → Result ℕ Refusal
 printed zs p room = answer (refusal zs p room) (length (page p zs))
 
 -- the output begins with the page and is else as it was; refused, it is all as it was
 unfoldable pub written : List ℤ → ℕ → List ℕ → List ℕ
-written zs p out = cond (eqb (refusal zs p (length out)) 0) (page p zs ++ drop (length (page p zs)) out) out
+written zs p out = cond (is_ok (refusal zs p (length out))) (page p zs ++ drop (length (page p zs)) out) out

@@ -1,4 +1,4 @@
--- What the program `profile` prints, from the bytes of its input: document 01, "Program `profile`", with document 02's request 3. Text is a list of ASCII codes.
+-- What the program `profile` prints, from the bytes of its input. Text is a list of ASCII codes.
 use Rattle.std.specs.Prelude.{ℕ, zero, suc, ◌+◌, ◌-◌, ◌*◌, ◌/◌, ◌%◌, ◌≤◌, ◌≡◌, ◌&&◌, cond, List, [], ◌∷◌, ◌++◌, leb, ltb, eqb, length, ℤ, pos, negsuc, neg_ℤ, nat_abs, ◌-ℤ◌, ◌*ℤ◌}
 use Rattle.num.specs.Cast.{signed16}
 use Rattle.profile_text.specs.Codes.{codes}
@@ -19,7 +19,7 @@ abbrev pub signed : ℤ → List ℕ
 signed (pos n) = decimal n
 signed (negsuc n) = 45 ∷ decimal (suc n)
 
--- ---- whole metres: document 02, request 3, "rounded to nearest, halves away from zero"
+-- ---- whole metres, rounded to nearest, halves away from zero
 
 -- m is the whole number of metres nearest to z decimetres; of two as near it is the one further from zero
 pub record Rounded (z m : ℤ) : Type 0 where

@@ -3,10 +3,10 @@ ghost use Rattle.std.specs.Prelude.{◌≡◌, ◌++◌, ◌+◌, ◌≤◌, len
 ghost use Rattle.profile_text.specs.Drive as Drive;
 ghost use Rattle.profile_text.specs.Appended.{Appended};
 
-use crate::{put, put_bytes, put_number};
+use crate::{ROOM, put, put_bytes, put_number};
 
 // How the last step after a fix ended.
-#[derive(Clone, Copy)]
+#[derive(Clone, Copy, PartialEq, Eq, Debug)]
 pub enum Status {
     Idle,
     Working,
@@ -15,16 +15,8 @@ pub enum Status {
     Refused,
 }
 
-// The direction along the matched edge.
-#[derive(Clone, Copy)]
-pub enum Way {
-    Unknown,
-    Forward,
-    Back,
-}
-
 // Why the road ahead ends.
-#[derive(Clone, Copy)]
+#[derive(Clone, Copy, PartialEq, Eq, Debug)]
 pub enum End {
     Horizon,
     Fork,
@@ -34,28 +26,23 @@ pub enum End {
     Memory,
 }
 
-// A match: its tile, its edge, and how far the fix lies from the road, in decimetres.
-#[derive(Clone, Copy)]
+// A match: its tile, its edge, the direction along it, where that is known, and how far the fix lies from the road, in decimetres.
+#[derive(Clone, Copy, PartialEq, Eq, Debug)]
 pub struct Place {
     pub row: u16,
     pub col: u16,
     pub edge: u16,
-    pub way: Way,
+    pub forward: Option<bool>,
     pub offset_dm: u16,
 }
 
-#[derive(Clone, Copy)]
-pub enum MaybePlace {
-    Nothing,
-    At(Place),
-}
-
-#[derive(Clone, Copy)]
+// What the line says of a fix.
+#[derive(Clone, Copy, PartialEq, Eq, Debug)]
 pub struct FixLine {
     // The fix's number, from 1.
     pub number: u16,
     pub status: Status,
-    pub place: MaybePlace,
+    pub place: Option<Place>,
     // Heights ahead, and why there are no more.
     pub samples: u16,
     pub end: End,
@@ -63,27 +50,29 @@ pub struct FixLine {
 }
 
 // A number and a blank.
-fn put_field(out: &mut [u8; 6026], at: usize, n: u16) -> usize
+#[tactic(auto, using(std::proofs::lemmas::Bool::Decides::nat_tests, crate::proofs::Laws::append_more, crate::proofs::Laws::number_ends), unfolding(crate::specs::Drive::field))]
+fn put_field(out: &mut [u8; ROOM], at: usize, n: u16) -> usize
     requires { at + 6 ≤ 6026 }
     ensures appended { Appended out.old at (Drive.field n) out.new result }
     ensures upper_bound { result ≤ at + 6 }
 {
     let next = put_number(out, at, n as u32);
-    put(out, next, 32)
+    put(out, next, b' ')
 }
 
 // Decimetres in metres, with one decimal.
-fn put_metres(out: &mut [u8; 6026], at: usize, dm: u16) -> usize
+fn put_metres(out: &mut [u8; ROOM], at: usize, dm: u16) -> usize
     requires { at + 12 ≤ 6026 }
     ensures appended { Appended out.old at (Drive.metres dm) out.new result }
     ensures upper_bound { result ≤ at + 12 }
 {
     let a = put_number(out, at, (dm / 10) as u32);
-    let b = put(out, a, 46);
+    let b = put(out, a, b'.');
     put_field(out, b, dm % 10)
 }
 
-fn put_status(out: &mut [u8; 6026], at: usize, status: Status) -> usize
+#[tactic(auto, unfolding(crate::specs::Drive::status, crate::specs::Codes::codes))]
+fn put_status(out: &mut [u8; ROOM], at: usize, status: Status) -> usize
     requires { at + 8 ≤ 6026 }
     ensures appended { Appended out.old at (Drive.status status) out.new result }
     ensures upper_bound { result ≤ at + 8 }
@@ -97,19 +86,21 @@ fn put_status(out: &mut [u8; 6026], at: usize, status: Status) -> usize
     }
 }
 
-fn put_way(out: &mut [u8; 6026], at: usize, way: Way) -> usize
+#[tactic(auto, unfolding(crate::specs::Drive::way, crate::specs::Codes::codes))]
+fn put_way(out: &mut [u8; ROOM], at: usize, forward: Option<bool>) -> usize
     requires { at + 8 ≤ 6026 }
-    ensures appended { Appended out.old at (Drive.way way) out.new result }
+    ensures appended { Appended out.old at (Drive.way forward) out.new result }
     ensures upper_bound { result ≤ at + 8 }
 {
-    match way {
-        Way::Unknown => put_bytes(out, at, b"- "),
-        Way::Forward => put_bytes(out, at, b"forward "),
-        Way::Back => put_bytes(out, at, b"back "),
+    match forward {
+        None => put_bytes(out, at, b"- "),
+        Some(true) => put_bytes(out, at, b"forward "),
+        Some(false) => put_bytes(out, at, b"back "),
     }
 }
 
-fn put_end(out: &mut [u8; 6026], at: usize, end: End) -> usize
+#[tactic(auto, unfolding(crate::specs::Drive::end, crate::specs::Codes::codes))]
+fn put_end(out: &mut [u8; ROOM], at: usize, end: End) -> usize
     requires { at + 10 ≤ 6026 }
     ensures appended { Appended out.old at (Drive.end end) out.new result }
     ensures upper_bound { result ≤ at + 10 }
@@ -124,7 +115,7 @@ fn put_end(out: &mut [u8; 6026], at: usize, end: End) -> usize
     }
 }
 
-fn put_place(out: &mut [u8; 6026], at: usize, p: Place) -> usize
+fn put_place(out: &mut [u8; ROOM], at: usize, p: Place) -> usize
     requires { at + 38 ≤ 6026 }
     ensures appended { Appended out.old at (Drive.place p) out.new result }
     ensures upper_bound { result ≤ at + 38 }
@@ -132,43 +123,40 @@ fn put_place(out: &mut [u8; 6026], at: usize, p: Place) -> usize
     let a = put_field(out, at, p.row);
     let b = put_field(out, a, p.col);
     let c = put_field(out, b, p.edge);
-    let way = p.way;
-    let d = put_way(out, c, way);
+    let d = put_way(out, c, p.forward);
     put_metres(out, d, p.offset_dm)
 }
 
 // Without a match a '-' for each of its figures.
-fn put_match(out: &mut [u8; 6026], at: usize, place: MaybePlace) -> usize
+#[tactic(auto, unfolding(crate::specs::Drive::matched, crate::specs::Codes::codes))]
+fn put_match(out: &mut [u8; ROOM], at: usize, place: Option<Place>) -> usize
     requires { at + 38 ≤ 6026 }
     ensures appended { Appended out.old at (Drive.matched place) out.new result }
     ensures upper_bound { result ≤ at + 38 }
 {
     match place {
-        MaybePlace::Nothing => put_bytes(out, at, b"- - - - - "),
-        MaybePlace::At(p) => put_place(out, at, p),
+        None => put_bytes(out, at, b"- - - - - "),
+        Some(p) => put_place(out, at, p),
     }
 }
 
-fn put_road(out: &mut [u8; 6026], at: usize, samples: u16, end: End, confidence: u8) -> usize
+fn put_road(out: &mut [u8; ROOM], at: usize, samples: u16, end: End, confidence: u8) -> usize
     requires { at + 22 ≤ 6026 }
     ensures { Appended out.old at (Drive.road samples end confidence) out.new result }
 {
     let a = put_field(out, at, samples);
     let b = put_end(out, a, end);
     let c = put_number(out, b, confidence as u32);
-    put(out, c, 10)
+    put(out, c, b'\n')
 }
 
 // The line of a fix: its length, and `out` begins with it. What follows in `out` is as it was.
-pub fn fix_line(f: FixLine, out: &mut [u8; 6026]) -> usize
+pub fn fix_line(f: FixLine, out: &mut [u8; ROOM]) -> usize
     ensures value { result ≡ length (Drive.fix_line f) }
     ensures out_after { out.new ≡ Drive.fix_line f ++ drop (length (Drive.fix_line f)) out.old }
 {
     let a = put_field(out, 0, f.number);
-    let status = f.status;
-    let b = put_status(out, a, status);
-    let place = f.place;
-    let c = put_match(out, b, place);
-    let end = f.end;
-    put_road(out, c, f.samples, end, f.confidence)
+    let b = put_status(out, a, f.status);
+    let c = put_match(out, b, f.place);
+    put_road(out, c, f.samples, f.end, f.confidence)
 }

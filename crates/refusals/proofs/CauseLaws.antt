@@ -5,69 +5,92 @@ use mathlib.Core.Path.{◌≡◌, refl, sym, ap, ◌∙◌, subst}
 use mathlib.Core.Bool.{Bool, true, false, ◌&&◌, cond}
 use mathlib.Core.List.{List, [], ◌∷◌}
 use native.Mathlib.Omega.{arith}
-use lib.Dec.{ltb}
-use borrow.Author.Tests.{ltb-true}
-use Rattle.pack.proofs.Laws.{and_left, and_right}
+use Rattle.std.specs.Prelude.{Result, Ok, Err}
+use Rattle.refusal.specs.Refusal.{number_of, number_of_result}
+use Rattle.refusal.specs.Refusal as Refusals
+use Rattle.refusal.specs.declared.Refusal.{Refusal}
+use Rattle.refusal.specs.declared.Refusal.TheVariants.{Media, PastPack, Unsupported, Corrupt, NotLoaded, NoStart, PastTile, OutOfRange, OutsideGrid, BadStart, NotAsked, BadState, BadValue, NoRoom}
 use Rattle.refusals.specs.Causes.{Cause, first_of, Refuses, Tests, NothingLent}
 
 -- the tests one after another, as the definitions write them
-abbrev pub tested : {A : Type 0} → List Cause → (ℕ → A) → A → A
+abbrev pub tested : {A : Type 0} → List Cause → (Refusal → A) → A → A
 tested [] refused core = core
-tested (c ∷ cs) refused core = cond c.asked (tested cs refused core) (refused c.number)
+tested (c ∷ cs) refused core = cond c.asked (tested cs refused core) (refused c.refusal)
 
--- no cause has number 0
-abbrev pub numbered : List Cause → Bool
-numbered [] = true
-numbered (c ∷ cs) = ltb 0 c.number && numbered cs
+-- no refusal has number 0
+pub number_positive : (e : Refusal) → 0 < number_of e
+number_positive Media = omega arith
+number_positive PastPack = omega arith
+number_positive Unsupported = omega arith
+number_positive Corrupt = omega arith
+number_positive NotLoaded = omega arith
+number_positive NoStart = omega arith
+number_positive PastTile = omega arith
+number_positive OutOfRange = omega arith
+number_positive OutsideGrid = omega arith
+number_positive BadStart = omega arith
+number_positive NotAsked = omega arith
+number_positive BadState = omega arith
+number_positive BadValue = omega arith
+number_positive NoRoom = omega arith
 
-module _ {A : Type 0} (refused : ℕ → A) where
-  either_there : (b : Bool) (n f : ℕ) (rest : A) → (0 < f → rest ≡ refused f) → 0 < cond b f n → cond b rest (refused n) ≡ refused (cond b f n)
-  either_there true n f rest later some = later some
-  either_there false n f rest later some = refl
+module _ {A : Type 0} (refused : Refusal → A) where
+  -- what a first cause gives: its refusal
+  record There (first : ℕ) (answer : A) : Type 0 where
+    refusal : Refusal
+    number : first ≡ number_of refusal
+    is : answer ≡ refused refusal
 
-  first_there : (core : A) (cs : List Cause) → 0 < first_of cs → tested cs refused core ≡ refused (first_of cs)
+  either_there : (b : Bool) (e : Refusal) (f : ℕ) (rest : A) → (0 < f → There f rest) → 0 < cond b f (number_of e)
+      → There (cond b f (number_of e)) (cond b rest (refused e))
+  either_there true e f rest later some = later some
+  either_there false e f rest later some = record { refusal = e; number = refl; is = refl }
+
+  first_there : (core : A) (cs : List Cause) → 0 < first_of cs → There (first_of cs) (tested cs refused core)
   unfolding first_of
   first_there core [] some = absurd (omega (arith, some))
-  first_there core (c ∷ cs) some = either_there c.asked c.number (first_of cs) _ (first_there core cs) some
+  first_there core (c ∷ cs) some = either_there c.asked c.refusal (first_of cs) _ (first_there core cs) some
 
-  neither_there : (b : Bool) (n f : ℕ) (core rest : A) → 0 < n → (f ≡ 0 → rest ≡ core) → cond b f n ≡ 0 → cond b rest (refused n) ≡ core
-  neither_there true n f core rest some later none = later none
-  neither_there false n f core rest some later none = absurd (omega (arith, some, none))
+  neither_there : (b : Bool) (e : Refusal) (f : ℕ) (core rest : A) → (f ≡ 0 → rest ≡ core) → cond b f (number_of e) ≡ 0 → cond b rest (refused e) ≡ core
+  neither_there true e f core rest later none = later none
+  neither_there false e f core rest later none = absurd (omega (arith, number_positive e, none))
 
-  none_there : (core : A) (cs : List Cause) → numbered cs ≡ true → first_of cs ≡ 0 → tested cs refused core ≡ core
+  none_there : (core : A) (cs : List Cause) → first_of cs ≡ 0 → tested cs refused core ≡ core
   unfolding first_of
-  none_there core [] n none = refl
-  none_there core (c ∷ cs) n none =
-      neither_there c.asked c.number (first_of cs) core _ (ltb-true 0 c.number (and_left (ltb 0 c.number) _ n))
-      (none_there core cs (and_right (ltb 0 c.number) _ n)) none
+  none_there core [] none = refl
+  none_there core (c ∷ cs) none = neither_there c.asked c.refusal (first_of cs) core _ (none_there core cs) none
 
 -- a call whose number and what it leaves are read off its whole result
-module _ {A : Type 0} (number : A → ℕ) (Kept : A → Type 0) (refused : ℕ → A) (core call : A) (cs : List Cause) where
-  pub tests : call ≡ tested cs refused core → numbered cs ≡ true → ((n : ℕ) → number (refused n) ≡ n) → ((n : ℕ) → Kept (refused n))
+module _ {A : Type 0} (number : A → ℕ) (Kept : A → Type 0) (refused : Refusal → A) (core call : A) (cs : List Cause) where
+  pub tests : call ≡ tested cs refused core → ((e : Refusal) → number (refused e) ≡ number_of e) → ((e : Refusal) → Kept (refused e))
       → Tests cs (number call) (Kept call) (call ≡ core)
-  tests q n is kept = record {
-    is = λ some. ap number (q ∙ first_there refused core cs some) ∙ is (first_of cs);
-    as_it_was = λ some. subst Kept (sym (q ∙ first_there refused core cs some)) (kept (first_of cs));
-    goes_on = λ none. q ∙ none_there refused core cs n none;
+  tests q is kept = record {
+    is = λ some. let first = first_there refused core cs some in ap number (q ∙ first.is) ∙ (is first.refusal ∙ sym first.number);
+    as_it_was = λ some. let first = first_there refused core cs some in subst Kept (sym (q ∙ first.is)) (kept first.refusal);
+    goes_on = λ none. q ∙ none_there refused core cs none;
   }
 
   -- where the core is not refused
-  pub refuses : call ≡ tested cs refused core → numbered cs ≡ true → ((n : ℕ) → number (refused n) ≡ n) → ((n : ℕ) → Kept (refused n))
+  pub refuses : call ≡ tested cs refused core → ((e : Refusal) → number (refused e) ≡ number_of e) → ((e : Refusal) → Kept (refused e))
       → (first_of cs ≡ 0 → number core ≡ 0) → Refuses cs (number call) (Kept call) (call ≡ core)
-  refuses q n is kept runs =
-      let t : Tests cs (number call) (Kept call) (call ≡ core) = tests q n is kept in
+  refuses q is kept runs =
+      let t : Tests cs (number call) (Kept call) (call ≡ core) = tests q is kept in
       record { is = by (first_of cs) refl; as_it_was = t.as_it_was; goes_on = t.goes_on }
     where
       by : (f : ℕ) → first_of cs ≡ f → number call ≡ first_of cs
-      by zero e = ap number (q ∙ none_there refused core cs n e) ∙ (runs e ∙ sym e)
-      by (suc k) e =
-          let some : 0 < first_of cs = omega (arith, e) in ap number (q ∙ first_there refused core cs some) ∙ is (first_of cs)
+      by zero e = ap number (q ∙ none_there refused core cs e) ∙ (runs e ∙ sym e)
+      by (suc k) e = (tests q is kept).is (omega (arith, e))
 
 -- and is lent nothing
-module _ {A : Type 0} (number : A → ℕ) (refused : ℕ → A) (core call : A) (cs : List Cause) where
-  pub plainly : call ≡ tested cs refused core → numbered cs ≡ true → ((n : ℕ) → number (refused n) ≡ n) → (first_of cs ≡ 0 → number core ≡ 0)
+module _ {A : Type 0} (number : A → ℕ) (refused : Refusal → A) (core call : A) (cs : List Cause) where
+  pub plainly : call ≡ tested cs refused core → ((e : Refusal) → number (refused e) ≡ number_of e) → (first_of cs ≡ 0 → number core ≡ 0)
       → Refuses cs (number call) NothingLent (call ≡ core)
-  plainly q n is runs = refuses number (λ (r : A). NothingLent) refused core call cs q n is (λ (k : ℕ). tt) runs
+  plainly q is runs = refuses number (λ (r : A). NothingLent) refused core call cs q is (λ (e : Refusal). tt) runs
+
+-- a call that answers a `Result`
+module _ {T : Type 0} (value : T) (call : Result T Refusal) (cs : List Cause) where
+  pub by_result : call ≡ tested cs Err (Ok value) → Refuses cs (number_of_result call) NothingLent (call ≡ Ok value)
+  by_result q = plainly number_of_result Err (Ok value) call cs q (λ e. refl) (λ z. refl)
 
 -- ---- tests in one, one after another
 
@@ -88,14 +111,28 @@ asked_at k [] = true
 asked_at zero (c ∷ cs) = c.asked
 asked_at (suc k) (c ∷ cs) = asked_at k cs
 
-met : (b : Bool) (n f : ℕ) → 0 < n → cond b f n ≡ 0 → (b ≡ true) × (f ≡ 0)
-met true n f some none = (refl, none)
-met false n f some none = absurd (omega (arith, some, none))
+met : (b : Bool) (e : Refusal) (f : ℕ) → cond b f (number_of e) ≡ 0 → (b ≡ true) × (f ≡ 0)
+met true e f none = (refl, none)
+met false e f none = absurd (omega (arith, number_positive e, none))
 
-pub asked_at_lem : (k : ℕ) (cs : List Cause) → numbered cs ≡ true → first_of cs ≡ 0 → asked_at k cs ≡ true
+pub asked_at_lem : (k : ℕ) (cs : List Cause) → first_of cs ≡ 0 → asked_at k cs ≡ true
 unfolding first_of
-asked_at_lem k [] n none = refl
-asked_at_lem zero (c ∷ cs) n none = (met c.asked c.number (first_of cs) (ltb-true 0 c.number (and_left (ltb 0 c.number) _ n)) none).0
-asked_at_lem (suc k) (c ∷ cs) n none =
-    asked_at_lem k cs (and_right (ltb 0 c.number) _ n)
-    (met c.asked c.number (first_of cs) (ltb-true 0 c.number (and_left (ltb 0 c.number) _ n)) none).1
+asked_at_lem k [] none = refl
+asked_at_lem zero (c ∷ cs) none = (met c.asked c.refusal (first_of cs) none).0
+asked_at_lem (suc k) (c ∷ cs) none = asked_at_lem k cs (met c.asked c.refusal (first_of cs) none).1
+
+-- ---- a list of tests that answers a `Result`
+
+abbrev pub pairs : List Cause → List (Bool × Refusal)
+pairs [] = []
+pairs (c ∷ cs) = (c.asked, c.refusal) ∷ pairs cs
+
+either_number : (b : Bool) (e : Refusal) (x : Result Unit Refusal) (f : ℕ) → number_of_result x ≡ f
+    → number_of_result (cond b x (Err e)) ≡ cond b f (number_of e)
+either_number true e x f q = q
+either_number false e x f q = refl
+
+pub number_first : (cs : List Cause) → number_of_result (Refusals.first_of (pairs cs)) ≡ first_of cs
+unfolding first_of
+number_first [] = refl
+number_first (c ∷ cs) = either_number c.asked c.refusal (Refusals.first_of (pairs cs)) (first_of cs) (number_first cs)

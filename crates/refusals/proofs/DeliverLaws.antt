@@ -1,5 +1,8 @@
 -- A delivery is refused with 11 exactly where it does not answer the open fetch (`deliver_tested`), and else never (`deliver_number`): in a state that
 -- number 12 does not name the fetch is the header's, or the next read towards the tile that is needed, which lies in the grid.
+use Rattle.std.specs.Prelude.{Option, Some, None}
+use Rattle.refusal.specs.Refusal.{number_of_result}
+use Rattle.std.specs.Prelude.{Result, Ok, Err}
 use Prim.Native.Nat.{ℕ}
 use mathlib.Core.Path.{◌≡◌, refl, sym, ap, ◌∙◌, subst}
 use mathlib.Core.Bool.{Bool, true, false, ◌&&◌, cond, true≢false}
@@ -7,30 +10,22 @@ use mathlib.Core.List.{List}
 use borrow.Author.Tests.{ltb-true, ltb-false, le-leb, lt-leb}
 use lib.Dec.{eqb, ltb, leb}
 use lib.ListN.{length}
+use Rattle.refusal.specs.Refusal.{number_of}
+use Rattle.refusal.specs.declared.Refusal.{Refusal}
 use Rattle.pack.specs.Grid.{in_grid}
 use Rattle.pack.specs.Sector.{parse}
-use Rattle.pack.specs.declared.Answer as Sector
-use Rattle.pack.specs.declared.Answer.TheVariants as SectorIs
 use Rattle.pack.specs.declared.Header.{Header}
 use Rattle.pack.specs.declared.TileKey.{TileKey}
 use Rattle.cache.specs.Keys.{same_key}
 use Rattle.cache.specs.Lookups.{next_step}
 use Rattle.cache.specs.Loads as Loads
 use Rattle.cache.specs.Loads.{fits, read_len}
-use Rattle.cache.specs.Numbers.{refused_progress}
 use Rattle.cache.specs.State.{is_entry, is_chunk, wants_chunk_of}
 use Rattle.cache.specs.declared.Cache.{Cache}
 use Rattle.cache.specs.declared.Loading.{Loading}
-use Rattle.cache.specs.declared.MaybeKey.{MaybeKey}
-use Rattle.cache.specs.declared.MaybeKey.TheVariants as MaybeKey
-use Rattle.cache.specs.declared.MaybeLoading.{MaybeLoading}
-use Rattle.cache.specs.declared.MaybeLoading.TheVariants as MaybeLoading
 use Rattle.cache.specs.declared.Pending.{Pending}
-use Rattle.cache.specs.declared.Pending.TheVariants as Pending
 use Rattle.cache.specs.declared.Progress.{Progress}
-use Rattle.cache.specs.declared.Progress.TheVariants as Progress
 use Rattle.cache.specs.declared.next.Next.{Next}
-use Rattle.cache.specs.declared.next.Next.TheVariants as Next
 use Rattle.cache.proofs.Below.{and_left, and_right}
 use Rattle.cache.proofs.FromLaws.{next_chunk}
 use Rattle.engine.specs.Calls as Calls
@@ -57,21 +52,21 @@ module _ (e : Engine) where
   unfolding header_failed
   failed_number number = either_number (eqb number 1 && ltb e.follower.failures 7) _ _ refl refl
 
-  parsed_number : (x : Sector.Answer) (h : Header) → number_of_status (header_parsed x e h).answer ≡ 0
-  parsed_number SectorIs.Accepted h = refl
-  parsed_number (SectorIs.Refused number) h = failed_number number
+  parsed_number : (x : Result Header Refusal) → number_of_status (header_parsed x e).answer ≡ 0
+  parsed_number (Ok h) = refl
+  parsed_number (Err refusal) = failed_number (number_of refusal)
 
   header_number : (failure : ℕ) (bs : List ℕ) → number_of_status (header_came e failure bs).answer ≡ 0
   unfolding header_came
   header_number failure bs =
-      let p = parse (sector_of bs) in either_number (eqb failure 0) _ _ (parsed_number p.answer p.header) (failed_number failure)
+      either_number (eqb failure 0) _ _ (parsed_number (parse (sector_of bs))) (failed_number failure)
 
-  loaded_number : (p : Progress) (c : Cache) → refused_progress p ≡ 0 → number_of_status (loaded_by p e c).answer ≡ 0
+  loaded_number : (p : Result Progress Refusal) (c : Cache) → number_of_result p ≡ 0 → number_of_status (loaded_by p e c).answer ≡ 0
   unfolding arrived load_failed
-  loaded_number Progress.Done c z = refl
-  loaded_number Progress.More c z = refl
-  loaded_number (Progress.Failed number) c z = either_number (ltb e.follower.failures 7) _ _ refl refl
-  loaded_number (Progress.Refused number) c z = z
+  loaded_number (Ok Progress.Done) c z = refl
+  loaded_number (Ok Progress.More) c z = refl
+  loaded_number (Ok (Progress.Failed number)) c z = either_number (ltb e.follower.failures 7) _ _ refl refl
+  loaded_number (Err number) c z = z
 
 -- ---- the header's fetch
 
@@ -94,11 +89,11 @@ entry_next (Next.Ready i) q = absurd (true≢false (sym q))
 entry_next Next.Missing q = absurd (true≢false (sym q))
 entry_next Next.NoPages q = absurd (true≢false (sym q))
 
-chunk_next : (c : Cache) (k : TileKey) (l : Loading) → c.loading ≡ MaybeLoading.Tile l → is_chunk (next_step c k) ≡ true → next_step c k ≡ Next.Chunk l
+chunk_next : (c : Cache) (k : TileKey) (l : Loading) → c.loading ≡ Some l → is_chunk (next_step c k) ≡ true → next_step c k ≡ Next.Chunk l
 chunk_next c k l q t = by (next_step c k) refl t
   where
     by : (n : Next) → next_step c k ≡ n → is_chunk n ≡ true → n ≡ Next.Chunk l
-    by (Next.Chunk m) r t = let s : c.loading ≡ MaybeLoading.Tile m = next_chunk k m c r in let same : m ≡ l = cc in ap Next.Chunk same
+    by (Next.Chunk m) r t = let s : c.loading ≡ Some m = next_chunk k m c r in let same : m ≡ l = cc in ap Next.Chunk same
     by Next.Entry r t = absurd (true≢false (sym t))
     by (Next.Ready i) r t = absurd (true≢false (sym t))
     by Next.Missing r t = absurd (true≢false (sym t))
@@ -132,21 +127,21 @@ module _ (e : Engine) (arena : List ℕ) (failure : ℕ) (bs : List ℕ) where
     fetch_open = (apart e (length arena) ok).pending
 
     -- the read of the tile needed
-    part_asks : (k : TileKey) (n : Next) → is_ready e.shared.phase ≡ true → e.follower.due.need ≡ MaybeKey.Key k → next_step c₁ k ≡ n
-        → refused_progress (Loads.stepped c₁ n arena h₁ k failure bs).answer ≡ 0 → Asks (fits (read_len n) failure (length bs)) (part_came e arena k failure bs)
+    part_asks : (k : TileKey) (n : Next) → is_ready e.shared.phase ≡ true → e.follower.due.need ≡ Some k → next_step c₁ k ≡ n
+        → number_of_result (Loads.stepped c₁ n arena h₁ k failure bs).answer ≡ 0 → Asks (fits (read_len n) failure (length bs)) (part_came e arena k failure bs)
     part_asks k n ready need q runs =
-        let held : need_ok e.shared (MaybeKey.Key k) ≡ true = rw need at need_known in
+        let held : need_ok e.shared (Some k) ≡ true = rw need at need_known in
         let grid : in_grid h₁ k ≡ true = rw (ready_is e.shared.phase ready) at held in
         let x = Loads.stepped c₁ n arena h₁ k failure bs in
         let is : part_came e arena k failure bs ≡ cond (fits (read_len n) failure (length bs)) (over (loaded e (Loads.told x)) x.arena) (over (refused e 11) arena)
         = rw (← q, part_is e arena k failure bs grid, grid) in
         subst (Asks (fits (read_len n) failure (length bs))) (sym is) (asks _ (over (loaded e (Loads.told x)) x.arena) (loaded_number e x.answer x.cache runs))
 
-    entry_asks : (key : TileKey) → c₁.pending ≡ Pending.Entry key → (x : MaybeKey) → e.follower.due.need ≡ x
+    entry_asks : (key : TileKey) → c₁.pending ≡ Pending.Entry key → (x : Option TileKey) → e.follower.due.need ≡ x
         → Asks (fits 8 failure (length bs)) (need_came_by x e arena failure bs)
-    entry_asks key p MaybeKey.Nothing need =
+    entry_asks key p None need =
         absurd (true≢false (sym (and_right (is_ready e.shared.phase) false (rw (p, need) at fetch_open))))
-    entry_asks key p (MaybeKey.Key k) need =
+    entry_asks key p (Some k) need =
         let fit : (is_ready e.shared.phase && same_key k key) ≡ true = rw (p, need) at fetch_open in
         let same : k ≡ key = same_key_lem k key (and_right (is_ready e.shared.phase) _ fit) in
         let entry : is_entry (next_step c₁ k) ≡ true
@@ -154,24 +149,24 @@ module _ (e : Engine) (arena : List ℕ) (failure : ℕ) (bs : List ℕ) where
         part_asks k Next.Entry (and_left (is_ready e.shared.phase) _ fit) need (entry_next (next_step c₁ k) entry)
         (stepped_runs c₁ arena h₁ k failure bs Next.Entry refl)
 
-    chunk_asks : (l : Loading) → c₁.pending ≡ Pending.Chunk → c₁.loading ≡ MaybeLoading.Tile l → (x : MaybeKey) → e.follower.due.need ≡ x
+    chunk_asks : (l : Loading) → c₁.pending ≡ Pending.Chunk → c₁.loading ≡ Some l → (x : Option TileKey) → e.follower.due.need ≡ x
         → Asks (fits (Loads.chunk_len l) failure (length bs)) (need_came_by x e arena failure bs)
-    chunk_asks l p q MaybeKey.Nothing need =
+    chunk_asks l p q None need =
         absurd (true≢false (sym (and_right (is_ready e.shared.phase) false (rw (p, need, q) at fetch_open))))
-    chunk_asks l p q (MaybeKey.Key k) need =
+    chunk_asks l p q (Some k) need =
         let fit : (is_ready e.shared.phase && same_key k l.key) ≡ true = rw (p, need, q) at fetch_open in
         let same : k ≡ l.key = same_key_lem k l.key (and_right (is_ready e.shared.phase) _ fit) in
         let wants : is_chunk (next_step c₁ l.key) ≡ true
-        = sym (ap (λ (y : MaybeLoading). wants_chunk_of y c₁) q) ∙ open_fits c₁ k (state_is e (length arena) ok) Pending.Chunk p in
+        = sym (ap (λ (y : Option Loading). wants_chunk_of y c₁) q) ∙ open_fits c₁ k (state_is e (length arena) ok) Pending.Chunk p in
         let next : next_step c₁ k ≡ Next.Chunk l = rw same (chunk_next c₁ l.key l q wants) in
         part_asks k (Next.Chunk l) (and_left (is_ready e.shared.phase) _ fit) need next
         (stepped_runs c₁ arena h₁ k failure bs (Next.Chunk l) refl)
 
-    load_asks : (x : MaybeLoading) → c₁.pending ≡ Pending.Chunk → c₁.loading ≡ x
+    load_asks : (x : Option Loading) → c₁.pending ≡ Pending.Chunk → c₁.loading ≡ x
         → Asks (answers (chunk_request x) failure (length bs)) (need_came_by e.follower.due.need e arena failure bs)
-    load_asks MaybeLoading.Nothing p q =
-        absurd (true≢false (sym (sym (ap (λ (y : MaybeLoading). wants_chunk_of y c₁) q) ∙ open_fits c₁ (record { row = 0; col = 0 }) (state_is e (length arena) ok) Pending.Chunk p)))
-    load_asks (MaybeLoading.Tile l) p q = chunk_asks l p q e.follower.due.need refl
+    load_asks None p q =
+        absurd (true≢false (sym (sym (ap (λ (y : Option Loading). wants_chunk_of y c₁) q) ∙ open_fits c₁ (record { row = 0; col = 0 }) (state_is e (length arena) ok) Pending.Chunk p)))
+    load_asks (Some l) p q = chunk_asks l p q e.follower.due.need refl
 
     open_asks : (x : Pending) → c₁.pending ≡ x → Asks (answers (request_of e.shared x) failure (length bs)) (delivered_by x e arena failure bs)
     open_asks Pending.Nothing p = no_fetch

@@ -1,52 +1,46 @@
 -- The causes that a lookup, a read or an entry brings: which they are by the next step towards a tile.
-use Prim.Native.Nat.{ℕ, ◌+◌}
+use Prim.Native.Nat.{ℕ, zero, suc, ◌+◌, ◌<◌}
 use mathlib.Core.Path.{◌≡◌, refl, sym, ◌∙◌}
-use mathlib.Core.Bool.{Bool, true, false, ◌&&◌, ◌||◌, cond, true≢false}
+use mathlib.Core.Bool.{Bool, true, false, not, ◌&&◌, ◌||◌, cond, true≢false}
 use mathlib.Core.List.{List, [], ◌∷◌}
 use native.Mathlib.Omega.{arith}
 use lib.Dec.{eqb, ltb, leb}
 use lib.ListN.{length}
+use borrow.Author.Tests.{eqb-true, ltb-false}
+use Rattle.std.specs.Prelude.{Option, Some, None, Result, Ok, Err}
+use Rattle.refusal.specs.declared.Refusal.{Refusal}
 use Rattle.pack.specs.Bytes.{u32_at}
 use Rattle.pack.specs.Offsets as At
 use Rattle.pack.specs.Grid.{in_grid, locate_of, entry_of}
-use Rattle.pack.specs.Numbers.{number_of_located}
+use Rattle.refusal.specs.Refusal.{number_of, number_of_result}
 use Rattle.pack.specs.declared.Header.{Header}
 use Rattle.pack.specs.declared.TileKey.{TileKey}
-use Rattle.pack.specs.declared.Located.{Located}
-use Rattle.pack.specs.declared.Located.TheVariants as Located
 use Rattle.cache.specs.Begin.{begun}
 use Rattle.cache.specs.Keys.{same_key}
 use Rattle.cache.specs.Lookups.{lands_on, touched, passes, len_at, got_ready, got_at, got, next_read, next_at, next_step}
 use Rattle.cache.specs.Direct.{ready, stale, look, look_at}
-use Rattle.cache.specs.Loads.{After, over, refused, failed, done, forgot, fetched, read_len, fits, takes, began_at, began, located, entry_step, chunk_len, chunk_step, stepped, stepped_from, dropped, pack_bytes}
+use Rattle.cache.specs.Loads.{missed, After, over, refused, failed, done, forgot, fetched, read_len, fits, takes, began_at, began, located, entry_step, chunk_len, chunk_step, stepped, stepped_from, dropped, pack_bytes}
 use Rattle.cache.specs.Calls.{got_nothing, load_from, fetch}
 use Rattle.cache.specs.State.{cache_ok}
-use Rattle.cache.specs.Numbers.{number_of_lookup, number_of_request, number_of_progress, refused_progress}
+use Rattle.cache.specs.Numbers.{number_of_progress}
 use Rattle.cache.specs.declared.Cache.{Cache}
 use Rattle.cache.specs.declared.Loaded.{Loaded}
 use Rattle.cache.specs.declared.Loading.{Loading}
-use Rattle.cache.specs.declared.MaybeLoading.{MaybeLoading}
-use Rattle.cache.specs.declared.MaybeLoading.TheVariants as MaybeLoading
 use Rattle.cache.specs.declared.Pages.{Pages}
-use Rattle.cache.specs.declared.Request.{Request}
-use Rattle.cache.specs.declared.Request.TheVariants as Request
 use Rattle.cache.specs.declared.look.Landing.{Landing}
-use Rattle.cache.specs.declared.look.Landing.TheVariants as Landing
 use Rattle.cache.specs.declared.next.Next.{Next}
-use Rattle.cache.specs.declared.next.Next.TheVariants as Next
-use Rattle.cache.specs.declared.victim.Found.{Found}
-use Rattle.cache.specs.declared.victim.Found.TheVariants as Found
 use Rattle.cache.proofs.FromLaws.{from_steps}
-use Rattle.refusals.specs.Causes.{◌unless◌, first_of, Refuses, NothingMore}
+use Rattle.refusals.specs.Causes.{Cause, ◌unless◌, first_of, Refuses, NothingMore}
+use Rattle.refusal.specs.declared.Refusal.TheVariants.{Media, PastPack, Corrupt}
 use Rattle.refusals.specs.Refusals.{entry_inside, entry_read, still_passes, in_pack}
 
 -- ---- an entry
 
-abbrev outside : Located
-outside = Located.Refused 4
+abbrev outside : Result (Option (ℕ × ℕ)) Refusal
+outside = Err Refusal.Corrupt
 
-abbrev located_by : Bool → Bool → ℕ → ℕ → Located
-located_by none inside offset len = cond none Located.NoTile (cond inside (Located.Tile offset len) outside)
+abbrev located_by : Bool → Bool → ℕ → ℕ → Result (Option (ℕ × ℕ)) Refusal
+located_by none inside offset len = cond none (Ok None) (cond inside (Ok (Some (offset, len))) outside)
 
 pub entry_refused : (h : Header) (e : List ℕ) → locate_of h e ≡ cond (entry_inside h e) (locate_of h e) outside
 unfolding locate_of
@@ -58,12 +52,12 @@ entry_refused h e =
     by false true = refl
     by false false = refl
 
-pub entry_number : (h : Header) (e : List ℕ) → entry_inside h e ≡ true → number_of_located (locate_of h e) ≡ 0
+pub entry_number : (h : Header) (e : List ℕ) → entry_inside h e ≡ true → number_of_result (locate_of h e) ≡ 0
 unfolding locate_of
 entry_number h e =
     by (eqb (u32_at e At.length_at) 0) (leb h.«data» (u32_at e At.offset_at) && leb (u32_at e At.offset_at + u32_at e At.length_at) h.total)
   where
-    by : (a b : Bool) → (a || b) ≡ true → number_of_located (located_by a b (u32_at e At.offset_at) (u32_at e At.length_at)) ≡ 0
+    by : (a b : Bool) → (a || b) ≡ true → number_of_result (located_by a b (u32_at e At.offset_at) (u32_at e At.length_at)) ≡ 0
     by true b i = refl
     by false true i = refl
     by false false i = absurd (true≢false (sym i))
@@ -71,28 +65,28 @@ entry_number h e =
 -- ---- a lookup
 
 module _ (c : Cache) (arena : List ℕ) (size : ℕ) (k : TileKey) where
-  pub got_refused : got c arena size k ≡ cond (still_passes (look c arena size k)) (got c arena size k) (got_nothing c 12)
+  pub got_refused : got c arena size k ≡ cond (still_passes (look c arena size k)) (got c arena size k) (got_nothing c Refusal.BadState)
   unfolding got look
   got_refused = by (lands_on c k)
     where
-      run : (i : ℕ) (t : Bool) (bs : List ℕ) → got_ready t c i ≡ cond (still_passes (cond t (ready bs) stale)) (got_ready t c i) (got_nothing c 12)
+      run : (i : ℕ) (t : Bool) (bs : List ℕ) → got_ready t c i ≡ cond (still_passes (cond t (ready bs) stale)) (got_ready t c i) (got_nothing c Refusal.BadState)
       run i true bs = refl
       run i false bs = refl
 
-      by : (x : Landing) → got_at x c arena size k ≡ cond (still_passes (look_at x c.pages.slots arena size k)) (got_at x c arena size k) (got_nothing c 12)
+      by : (x : Landing) → got_at x c arena size k ≡ cond (still_passes (look_at x c.pages.slots arena size k)) (got_at x c arena size k) (got_nothing c Refusal.BadState)
       by Landing.Missing = refl
       by Landing.Nothing = refl
       by (Landing.At i) = run i (passes arena i (len_at c i) k size) _
 
-  pub got_number : still_passes (look c arena size k) ≡ true → number_of_lookup (got c arena size k).answer ≡ 0
+  pub got_number : still_passes (look c arena size k) ≡ true → number_of_result (got c arena size k).answer ≡ 0
   unfolding got look
   got_number = by (lands_on c k)
     where
-      run : (i : ℕ) (t : Bool) (bs : List ℕ) → still_passes (cond t (ready bs) stale) ≡ true → number_of_lookup (got_ready t c i).answer ≡ 0
+      run : (i : ℕ) (t : Bool) (bs : List ℕ) → still_passes (cond t (ready bs) stale) ≡ true → number_of_result (got_ready t c i).answer ≡ 0
       run i true bs e = refl
       run i false bs e = absurd (true≢false (sym e))
 
-      by : (x : Landing) → still_passes (look_at x c.pages.slots arena size k) ≡ true → number_of_lookup (got_at x c arena size k).answer ≡ 0
+      by : (x : Landing) → still_passes (look_at x c.pages.slots arena size k) ≡ true → number_of_result (got_at x c arena size k).answer ≡ 0
       by Landing.Missing e = refl
       by Landing.Nothing e = refl
       by (Landing.At i) e = run i (passes arena i (len_at c i) k size) _ e
@@ -118,9 +112,9 @@ module _ (c : Cache) (arena : List ℕ) (size : ℕ) (k : TileKey) where
       own true l = refl
       own false l = refl
 
-      read : (m : MaybeLoading) → true ≡ next_passes (next_read m k)
-      read MaybeLoading.Nothing = refl
-      read (MaybeLoading.Tile l) = own (same_key l.key k) l
+      read : (m : Option Loading) → true ≡ next_passes (next_read m k)
+      read None = refl
+      read (Some l) = own (same_key l.key k) l
 
       none : (t : Bool) → true ≡ next_passes (cond t Next.NoPages (next_read c.loading k))
       none true = refl
@@ -134,10 +128,13 @@ module _ (c : Cache) (arena : List ℕ) (size : ℕ) (k : TileKey) where
 -- ---- a step of a load
 
 module _ (c : Cache) (arena : List ℕ) (h : Header) (k : TileKey) where
-  pub fetched_refused : (n : Next) → fetched c n arena h k ≡ cond (next_passes c arena h.tile k n) (fetched c n arena h k) (Request.Refused 12)
+  pub fetched_refused : (n : Next) → fetched c n arena h k ≡ cond (next_passes c arena h.tile k n) (fetched c n arena h k) (Err Refusal.BadState)
   fetched_refused (Next.Ready i) = by (passes arena i (len_at c i) k h.tile)
     where
-      by : (t : Bool) → cond t Request.Settled (Request.Refused 12) ≡ cond t (cond t Request.Settled (Request.Refused 12)) (Request.Refused 12)
+      settled : Result (Option (ℕ × ℕ)) Refusal
+      settled = Ok None
+
+      by : (t : Bool) → cond t settled (Err Refusal.BadState) ≡ cond t (cond t settled (Err Refusal.BadState)) (Err Refusal.BadState)
       by true = refl
       by false = refl
   fetched_refused Next.Missing = refl
@@ -145,7 +142,7 @@ module _ (c : Cache) (arena : List ℕ) (h : Header) (k : TileKey) where
   fetched_refused Next.Entry = refl
   fetched_refused (Next.Chunk l) = refl
 
-  pub fetched_number : (n : Next) → next_passes c arena h.tile k n ≡ true → number_of_request (fetched c n arena h k) ≡ 0
+  pub fetched_number : (n : Next) → next_passes c arena h.tile k n ≡ true → number_of_result (fetched c n arena h k) ≡ 0
   fetched_number (Next.Ready i) e = rw e
   fetched_number Next.Missing e = refl
   fetched_number Next.NoPages e = refl
@@ -154,10 +151,10 @@ module _ (c : Cache) (arena : List ℕ) (h : Header) (k : TileKey) where
 
   module _ (failure : ℕ) (bs : List ℕ) where
     pub stepped-refused : (n : Next) → stepped c n arena h k failure bs
-        ≡ cond (next_passes c arena h.tile k n) (stepped c n arena h k failure bs) (over (refused c 12) arena)
+        ≡ cond (next_passes c arena h.tile k n) (stepped c n arena h k failure bs) (over (refused c Refusal.BadState) arena)
     stepped-refused (Next.Ready i) = by (passes arena i (len_at c i) k h.tile) _
       where
-        by : (t : Bool) (d : Loaded) → over (cond t d (refused c 12)) arena ≡ cond t (over (cond t d (refused c 12)) arena) (over (refused c 12) arena)
+        by : (t : Bool) (d : Loaded) → over (cond t d (refused c Refusal.BadState)) arena ≡ cond t (over (cond t d (refused c Refusal.BadState)) arena) (over (refused c Refusal.BadState) arena)
         by true d = refl
         by false d = refl
     stepped-refused Next.Missing = refl
@@ -166,7 +163,7 @@ module _ (c : Cache) (arena : List ℕ) (h : Header) (k : TileKey) where
     stepped-refused (Next.Chunk l) = refl
 
   pub from_refused : (pack : List ℕ) (n : Next) → stepped_from c n arena h k pack
-      ≡ cond (next_passes c arena h.tile k n) (stepped_from c n arena h k pack) (over (refused c 12) arena)
+      ≡ cond (next_passes c arena h.tile k n) (stepped_from c n arena h k pack) (over (refused c Refusal.BadState) arena)
   from_refused pack (Next.Ready i) = stepped-refused 0 [] (Next.Ready i)
   from_refused pack Next.Missing = refl
   from_refused pack Next.NoPages = refl
@@ -175,57 +172,57 @@ module _ (c : Cache) (arena : List ℕ) (h : Header) (k : TileKey) where
 
   -- `fetch` and `load` in one, with their tests
   pub from_tested : (pack : List ℕ) → load_from c arena h k pack
-      ≡ cond (cache_ok c h (length arena)) (cond (in_grid h k) (stepped_from c (next_step c k) arena h k pack) (over (refused c 9) arena))
-      (over (refused c 12) arena)
+      ≡ cond (cache_ok c h (length arena)) (cond (in_grid h k) (stepped_from c (next_step c k) arena h k pack) (over (refused c Refusal.OutsideGrid) arena))
+      (over (refused c Refusal.BadState) arena)
   unfolding load_from fetch
   from_tested pack = by (cache_ok c h (length arena)) (in_grid h k) refl refl
     where
       by : (a b : Bool) → cache_ok c h (length arena) ≡ a → in_grid h k ≡ b → load_from c arena h k pack
-          ≡ cond a (cond b (stepped_from c (next_step c k) arena h k pack) (over (refused c 9) arena)) (over (refused c 12) arena)
+          ≡ cond a (cond b (stepped_from c (next_step c k) arena h k pack) (over (refused c Refusal.OutsideGrid) arena)) (over (refused c Refusal.BadState) arena)
       by true true ok grid = from_steps c arena h k pack ok grid
       by true false ok grid = rw (ok, grid)
       by false b ok grid = rw ok
 
 -- ---- what a step of a load answers
 
-either_after : (t : Bool) (x y : After) → refused_progress x.answer ≡ 0 → refused_progress y.answer ≡ 0 → refused_progress (cond t x y).answer ≡ 0
+either_after : (t : Bool) (x y : After) → number_of_result x.answer ≡ 0 → number_of_result y.answer ≡ 0 → number_of_result (cond t x y).answer ≡ 0
 either_after true x y p q = p
 either_after false x y p q = q
 
-either_loaded : (t : Bool) (x y : Loaded) → refused_progress x.answer ≡ 0 → refused_progress y.answer ≡ 0 → refused_progress (cond t x y).answer ≡ 0
+either_loaded : (t : Bool) (x y : Loaded) → number_of_result x.answer ≡ 0 → number_of_result y.answer ≡ 0 → number_of_result (cond t x y).answer ≡ 0
 either_loaded true x y p q = p
 either_loaded false x y p q = q
 
 module _ (k : TileKey) where
-  began_runs : (x : Found) (d : Cache) (g : Pages) (offset len : ℕ) → refused_progress (began_at x d g k offset len).answer ≡ 0
-  began_runs Found.Nothing d g offset len = refl
-  began_runs (Found.At slot) d g offset len = refl
+  began_runs : (x : Option ℕ) (d : Cache) (g : Pages) (offset len : ℕ) → number_of_result (began_at x d g k offset len).answer ≡ 0
+  began_runs None d g offset len = refl
+  began_runs (Some slot) d g offset len = refl
 
-  located_runs : (x : Located) (d : Cache) → refused_progress (located x d k).answer ≡ 0
+  located_runs : (x : Result (Option (ℕ × ℕ)) Refusal) (d : Cache) → number_of_result (located x d k).answer ≡ 0
   unfolding began
-  located_runs Located.NoTile d = refl
-  located_runs (Located.Refused number) d = refl
-  located_runs (Located.Tile offset len) d =
+  located_runs (Ok None) d = refl
+  located_runs (Err number) d = refl
+  located_runs (Ok (Some (offset, len))) d =
       let b = begun d.pages k len in either_loaded (ltb 49152 len) _ _ refl (began_runs b.at d b.pages offset len)
 
 module _ (c : Cache) (arena : List ℕ) (h : Header) (k : TileKey) where
-  entry_runs : (failure : ℕ) (bs : List ℕ) → refused_progress (entry_step c h k failure bs).answer ≡ 0
+  entry_runs : (failure : ℕ) (bs : List ℕ) → number_of_result (entry_step c h k failure bs).answer ≡ 0
   unfolding entry_step
   entry_runs failure bs = either_loaded (eqb failure 0) _ _ (located_runs k (locate_of h bs) (dropped c)) refl
 
-  chunk_runs : (l : Loading) (size failure : ℕ) (bs : List ℕ) → refused_progress (chunk_step c l arena size failure bs).answer ≡ 0
+  chunk_runs : (l : Loading) (size failure : ℕ) (bs : List ℕ) → number_of_result (chunk_step c l arena size failure bs).answer ≡ 0
   unfolding chunk_step
   chunk_runs l size failure bs = either_after (eqb failure 0) _ _ (either_after (ltb (l.done + chunk_len l) l.len) _ _ refl refl) refl
 
   pub stepped_runs : (failure : ℕ) (bs : List ℕ) (n : Next) → next_passes c arena h.tile k n ≡ true
-      → refused_progress (stepped c n arena h k failure bs).answer ≡ 0
+      → number_of_result (stepped c n arena h k failure bs).answer ≡ 0
   stepped_runs failure bs (Next.Ready i) e = rw e
   stepped_runs failure bs Next.Missing e = refl
   stepped_runs failure bs Next.NoPages e = refl
   stepped_runs failure bs Next.Entry e = entry_runs failure bs
   stepped_runs failure bs (Next.Chunk l) e = chunk_runs l h.tile failure bs
 
-  pub from_runs : (pack : List ℕ) (n : Next) → next_passes c arena h.tile k n ≡ true → refused_progress (stepped_from c n arena h k pack).answer ≡ 0
+  pub from_runs : (pack : List ℕ) (n : Next) → next_passes c arena h.tile k n ≡ true → number_of_result (stepped_from c n arena h k pack).answer ≡ 0
   from_runs pack (Next.Ready i) e = rw e
   from_runs pack Next.Missing e = refl
   from_runs pack Next.NoPages e = refl
@@ -239,27 +236,32 @@ module _ (c : Cache) (arena : List ℕ) (h : Header) (k : TileKey) where
 abbrev Dropped : Cache → List ℕ → After → Type 0
 Dropped c arena r = (r.cache ≡ dropped c) × (r.arena ≡ arena)
 
+-- the number of a step's answer, and what is left where it is a failure
+record FailsBy (c : Cache) (arena : List ℕ) (first : ℕ) (r : After) : Type 0 where
+  is : number_of_progress r.answer ≡ first
+  as_it_was : 0 < first → Dropped c arena r
+
 abbrev Fails : Cache → List ℕ → ℕ → Bool → Bool → After → Type 0
-Fails c arena failure came inside r =
-    Refuses ((failure unless came) ∷ (4 unless inside) ∷ []) (number_of_progress r.answer) (Dropped c arena r) NothingMore
+Fails c arena failure came inside r = FailsBy c arena (cond came (cond inside 0 4) (number_of (missed failure))) r
+
+told : (c : Cache) (arena : List ℕ) (cs : List Cause) {first : ℕ} {r : After} → FailsBy c arena first r → first_of cs ≡ first
+    → Refuses cs (number_of_progress r.answer) (Dropped c arena r) NothingMore
+told c arena cs f q = record { is = f.is ∙ sym q; as_it_was = λ some. f.as_it_was (omega (arith, q, some)); goes_on = λ none. tt }
 
 module _ (c : Cache) (arena : List ℕ) (failure : ℕ) where
   -- a step that answers no failure
   goes : (r : After) → number_of_progress r.answer ≡ 0 → Fails c arena failure true true r
-  unfolding first_of
-  goes r z = record { is = z; as_it_was = λ some. absurd (omega (arith, some)); goes_on = λ none. tt }
+  goes r z = record { is = z; as_it_was = λ some. absurd (omega (arith, some)) }
 
-  missed : (inside : Bool) → Fails c arena failure false inside (over (failed (dropped c) failure) arena)
-  unfolding first_of
-  missed inside = record { is = refl; as_it_was = λ some. (refl, refl); goes_on = λ none. tt }
+  unread : (inside : Bool) → Fails c arena failure false inside (over (failed (dropped c) (missed failure)) arena)
+  unread inside = record { is = refl; as_it_was = λ some. (refl, refl) }
 
-  outside_fails : Fails c arena failure true false (over (failed (dropped c) 4) arena)
-  unfolding first_of
-  outside_fails = record { is = refl; as_it_was = λ some. (refl, refl); goes_on = λ none. tt }
+  outside_fails : Fails c arena failure true false (over (failed (dropped c) Corrupt) arena)
+  outside_fails = record { is = refl; as_it_was = λ some. (refl, refl) }
 
-  began_fails : (x : Found) (d : Cache) (g : Pages) (k : TileKey) (offset len : ℕ) → number_of_progress (began_at x d g k offset len).answer ≡ 0
-  began_fails Found.Nothing d g k offset len = refl
-  began_fails (Found.At slot) d g k offset len = refl
+  began_fails : (x : Option ℕ) (d : Cache) (g : Pages) (k : TileKey) (offset len : ℕ) → number_of_progress (began_at x d g k offset len).answer ≡ 0
+  began_fails None d g k offset len = refl
+  began_fails (Some slot) d g k offset len = refl
 
   began_number : (k : TileKey) (offset len : ℕ) → number_of_progress (began (dropped c) k offset len).answer ≡ 0
   unfolding began
@@ -302,35 +304,64 @@ module _ (c : Cache) (arena : List ℕ) (h : Header) (k : TileKey) (failure : �
   fails_by Next.Entry f e = by (eqb failure 0)
     where
       by : (t : Bool) → Fails c arena failure t (entry_inside h bs)
-          (over (cond t (located (locate_of h bs) (dropped c) k) (failed (dropped c) failure)) arena)
+          (over (cond t (located (locate_of h bs) (dropped c) k) (failed (dropped c) (missed failure))) arena)
       by true = entry_fails c arena failure h k bs
-      by false = missed c arena failure (entry_inside h bs)
+      by false = unread c arena failure (entry_inside h bs)
   fails_by (Next.Chunk l) f e = by (eqb failure 0) _ (chunk_number c arena failure (ltb (l.done + chunk_len l) l.len) _ _ refl refl)
     where
-      by : (t : Bool) (x : After) → number_of_progress x.answer ≡ 0 → Fails c arena failure t true (cond t x (over (failed (dropped c) failure) arena))
+      by : (t : Bool) (x : After) → number_of_progress x.answer ≡ 0 → Fails c arena failure t true (cond t x (over (failed (dropped c) (missed failure)) arena))
       by true x z = goes c arena failure x z
-      by false x z = missed c arena failure true
+      by false x z = unread c arena failure true
+
+-- the causes in their order, by the number that was given: 1, 2 or none
+module _ (failure : ℕ) (inside : Bool) where
+  abbrev Firsts : Type 0
+  Firsts = first_of (Media unless not (eqb failure 1) ∷ PastPack unless not (eqb failure 2) ∷ Corrupt unless inside ∷ []) ≡ cond (eqb failure 0) (cond inside 0 4) (number_of (missed failure))
+
+  first_is : (n : ℕ) → failure ≡ n → n < 3 → Firsts
+  unfolding first_of
+  first_is zero e few = rw e
+  first_is (suc zero) e few = rw e
+  first_is (suc (suc zero)) e few = rw e
+  first_is (suc (suc (suc n))) e few = absurd (omega (arith, few))
+
+  failure_first : (len n : ℕ) → fits n failure len ≡ true → Firsts
+  failure_first len n f = first_is failure refl (by (eqb failure 0) (ltb 2 failure) refl refl)
+    where
+      by : (s t : Bool) → eqb failure 0 ≡ s → ltb 2 failure ≡ t → failure < 3
+      by true t e q = omega (arith, eqb-true failure 0 e)
+      by false false e q = omega (arith, ltb-false 2 failure q)
+      by false true e q = let none : false ≡ true = rw (e, q) at f in absurd (true≢false (sym none))
 
 pub step_fails : (c : Cache) (arena : List ℕ) (h : Header) (k : TileKey) (failure : ℕ) (bs : List ℕ)
     → takes (next_step c k) h k failure (length bs) ≡ true → in_grid h k ≡ true → still_passes (look c arena h.tile k) ≡ true
-    → Fails c arena failure (eqb failure 0) (entry_read (next_step c k) h bs) (stepped c (next_step c k) arena h k failure bs)
+    → let r = stepped c (next_step c k) arena h k failure bs in
+    Refuses (Media unless not (eqb failure 1) ∷ PastPack unless not (eqb failure 2) ∷ Corrupt unless entry_read (next_step c k) h bs ∷ [])
+    (number_of_progress r.answer) (Dropped c arena r) NothingMore
 step_fails c arena h k failure bs f grid e =
-    fails_by c arena h k failure bs (next_step c k) (rw grid at f) (sym (still_next c arena h.tile k) ∙ e)
+    let here : fits (read_len (next_step c k)) failure (length bs) ≡ true = rw grid at f in
+    told c arena _ (fails_by c arena h k failure bs (next_step c k) here (sym (still_next c arena h.tile k) ∙ e))
+    (failure_first failure (entry_read (next_step c k) h bs) (length bs) (read_len (next_step c k)) here)
+
+past_first : (came inside : Bool) → first_of (PastPack unless came ∷ Corrupt unless inside ∷ []) ≡ cond came (cond inside 0 4) (number_of (missed 2))
+unfolding first_of
+past_first came inside = refl
 
 pub from_fails : (c : Cache) (arena : List ℕ) (h : Header) (k : TileKey) (pack : List ℕ) → still_passes (look c arena h.tile k) ≡ true
-    → Fails c arena 2 (in_pack (fetched c (next_step c k) arena h k) pack) (entry_read (next_step c k) h (pack_bytes pack (entry_of h k) 8))
-    (stepped_from c (next_step c k) arena h k pack)
+    → let r = stepped_from c (next_step c k) arena h k pack in
+    Refuses (PastPack unless in_pack (fetched c (next_step c k) arena h k) pack ∷ Corrupt unless entry_read (next_step c k) h (pack_bytes pack (entry_of h k) 8) ∷ [])
+    (number_of_progress r.answer) (Dropped c arena r) NothingMore
 unfolding entry_step chunk_step
-from_fails c arena h k pack e = by (next_step c k) (sym (still_next c arena h.tile k) ∙ e)
+from_fails c arena h k pack e = told c arena _ (by (next_step c k) (sym (still_next c arena h.tile k) ∙ e)) (past_first _ _)
   where
     entry : (t : Bool) → Fails c arena 2 t (entry_inside h (pack_bytes pack (entry_of h k) 8))
         (over (cond t (entry_step c h k 0 (pack_bytes pack (entry_of h k) 8)) (entry_step c h k 2 [])) arena)
     entry true = entry_fails c arena 2 h k (pack_bytes pack (entry_of h k) 8)
-    entry false = missed c arena 2 (entry_inside h (pack_bytes pack (entry_of h k) 8))
+    entry false = unread c arena 2 (entry_inside h (pack_bytes pack (entry_of h k) 8))
 
-    chunk : (t : Bool) (x : After) → number_of_progress x.answer ≡ 0 → Fails c arena 2 t true (cond t x (over (failed (dropped c) 2) arena))
+    chunk : (t : Bool) (x : After) → number_of_progress x.answer ≡ 0 → Fails c arena 2 t true (cond t x (over (failed (dropped c) (missed 2)) arena))
     chunk true x z = goes c arena 2 x z
-    chunk false x z = missed c arena 2 true
+    chunk false x z = unread c arena 2 true
 
     by : (n : Next) → next_passes c arena h.tile k n ≡ true
         → Fails c arena 2 (in_pack (fetched c n arena h k) pack) (entry_read n h (pack_bytes pack (entry_of h k) 8)) (stepped_from c n arena h k pack)

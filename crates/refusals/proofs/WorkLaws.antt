@@ -1,4 +1,7 @@
 -- What the work of a match, a road and a step is refused with: the late 12 leaves all as it was, 5, 6 and 10 all but clock and ages.
+use Rattle.std.specs.Prelude.{Result, Ok, Err}
+use Rattle.refusal.specs.declared.Refusal.{Refusal}
+use Rattle.std.proofs.Common.{Option, Some, None}
 use Prim.Native.Nat.{ℕ, ◌+◌, ◌-◌, ◌<◌, ◌≤◌}
 use mathlib.Core.Path.{◌≡◌, refl, sym, ap, ◌∙◌, subst}
 use mathlib.Core.Bool.{Bool, true, false, not, cond, true≢false}
@@ -11,12 +14,8 @@ use lib.IntN.{ℤ, pos}
 use lib.ListN.{length, replicate, length-take, length-drop}
 use borrow.Author.Tests.{eq-eqb, lt-ltb}
 use Rattle.pack.specs.Grid.{in_grid, key_of, read}
-use Rattle.pack.specs.declared.Range.{Range}
-use Rattle.pack.specs.declared.Range.TheVariants as RangeIs
 use Rattle.pack.proofs.Laws.{read_at}
 use Rattle.pack.specs.declared.Header.{Header}
-use Rattle.pack.specs.declared.Keyed.{Keyed}
-use Rattle.pack.specs.declared.Keyed.TheVariants as Keyed
 use Rattle.pack.specs.declared.TileKey.{TileKey}
 use Rattle.tile.specs.Layout as Layout
 use Rattle.geo.specs.Flat.{whole}
@@ -27,17 +26,9 @@ use Rattle.cache.specs.Lookups.{lands_on, passes, len_at, got_ready, got_at, got
 use Rattle.cache.specs.Reader.{Reader, plain}
 use Rattle.cache.specs.declared.Cache.{Cache}
 use Rattle.cache.specs.declared.Loading.{Loading}
-use Rattle.cache.specs.declared.MaybeKey.{MaybeKey}
-use Rattle.cache.specs.declared.MaybeKey.TheVariants as MaybeKey
-use Rattle.cache.specs.declared.MaybeLoading.{MaybeLoading}
-use Rattle.cache.specs.declared.MaybeLoading.TheVariants as MaybeLoading
 use Rattle.cache.specs.declared.Pending.{Pending}
-use Rattle.cache.specs.declared.Pending.TheVariants as Pending
-use Rattle.cache.specs.declared.Request.TheVariants as Request
 use Rattle.cache.specs.declared.look.Landing.{Landing}
-use Rattle.cache.specs.declared.look.Landing.TheVariants as Landing
 use Rattle.cache.specs.declared.next.Next.{Next}
-use Rattle.cache.specs.declared.next.Next.TheVariants as Next
 use Rattle.cache.proofs.Below.{and_right}
 use Rattle.cache.proofs.FromLaws.{bytes_left}
 use Rattle.cache.proofs.LookLaws.{looked_aged}
@@ -46,9 +37,6 @@ use Rattle.matcher.specs.Settle.{matched}
 use Rattle.matcher.specs.Score.{same_id}
 use Rattle.matcher.specs.Numbers.{number_of_outcome as number_of_match}
 use Rattle.matcher.specs.declared.Current.{Current}
-use Rattle.matcher.specs.declared.Current.TheVariants as Current
-use Rattle.matcher.specs.declared.Forward.{Forward}
-use Rattle.matcher.specs.declared.Forward.TheVariants as Forward
 use Rattle.matcher.specs.declared.Heading.{Heading}
 use Rattle.matcher.specs.declared.Kept.{Kept}
 use Rattle.matcher.specs.declared.Matched.{Matched}
@@ -57,7 +45,6 @@ use Rattle.matcher.specs.declared.Outcome as MatchOutcome
 use Rattle.matcher.specs.declared.Outcome.TheVariants as Found
 use Rattle.matcher.specs.declared.Updated.{Updated}
 use Rattle.matcher.specs.declared.gather.Ending.{Ending}
-use Rattle.matcher.specs.declared.gather.Ending.TheVariants as Ending
 use Rattle.predict.specs.Start.{start_ok, place}
 use Rattle.predict.specs.Meets.{budget}
 use Rattle.predict.specs.Ridden as Ridden
@@ -85,17 +72,15 @@ use Rattle.engine.specs.declared.Engine.{Engine}
 use Rattle.engine.specs.declared.Fix.{Fix}
 use Rattle.engine.specs.declared.Follower.{Follower}
 use Rattle.engine.specs.declared.MaybeFix.{MaybeFix}
-use Rattle.engine.specs.declared.MaybeFix.TheVariants as MaybeFix
 use Rattle.engine.specs.declared.Phase.{Phase}
-use Rattle.engine.specs.declared.Phase.TheVariants as Phase
 use Rattle.engine.specs.declared.Status.{Status}
-use Rattle.engine.specs.declared.Status.TheVariants as Status
 use Rattle.engine.specs.declared.Stepped.{Stepped}
 use Rattle.engine.proofs.NeedLaws.{need_by, need_is}
 use Rattle.engine_states.proofs.KeptParts.{apart}
 use Rattle.engine_states.proofs.EngineKept.{state_is}
 use Rattle.engine_states.proofs.EngineClosed.{step_ok}
 use Rattle.engine_states.proofs.RefusedSame.{step_open}
+use Rattle.refusal.specs.declared.Refusal.TheVariants.{NotLoaded, NoStart, BadStart, BadState}
 use Rattle.refusals.specs.Causes.{◌unless◌, first_of, among, Tests, Works}
 use Rattle.refusals.specs.Refusals.{still_passes, is_loaded, is_there, is_same, starts_within, answers, open_fetch}
 use Rattle.refusals.proofs.DeliverLaws.{deliver_number}
@@ -186,10 +171,10 @@ module _ (rd : Reader (List TileKey)) (n : ℕ) where
   look_start absent h m forward horizon s samples behind = tt
   look_start stale h m forward horizon s samples behind = inl refl
 
-  directed_start : (x : Forward) (h : Header) (m : Matched) (horizon : Float) (s : List TileKey) (samples behind : List ℤ)
+  directed_start : (x : Option Bool) (h : Header) (m : Matched) (horizon : Float) (s : List TileKey) (samples behind : List ℤ)
       → OnlyStart (Predict.directed_over rd n x h m horizon s samples behind).answer
-  directed_start Forward.Unknown h m horizon s samples behind = tt
-  directed_start (Forward.Is forward) h m horizon s samples behind = look_start (rd.at s m.tile.key) h m forward horizon s samples behind
+  directed_start None h m horizon s samples behind = tt
+  directed_start (Some forward) h m horizon s samples behind = look_start (rd.at s m.tile.key) h m forward horizon s samples behind
 
 module _ (c : Cache) (arena : List ℕ) (h : Header) (m : Matched) (horizon : Float) (samples behind : List ℤ) where
   abbrev at₁ : TileKey → Look
@@ -221,7 +206,7 @@ module _ (c : Cache) (arena : List ℕ) (h : Header) (m : Matched) (horizon : Fl
       by Road.Rematch d s a = record { is = refl; as_it_was = λ some. (a, λ z. absurd (omega (arith, z))) }
       by (Road.Refused number) d s a = refused_by number d s a
 
-  pub predict_uncertain : m.forward ≡ Forward.Unknown
+  pub predict_uncertain : m.forward ≡ None
       → predicted_in c arena h m horizon samples behind ≡ Predict.untouched (Predict.no_direction c) samples behind
   unfolding predicted_in forecast_over looked
   predict_uncertain q = rw q
@@ -261,7 +246,7 @@ module _ (c : Cache) (arena : List ℕ) (h : Header) (m : Matched) (horizon : Fl
 
     abbrev StartTests : Look → Predict.After → Forecast (List TileKey) → Type 0
     StartTests l r f =
-        Tests (12 unless still_passes l ∷ 5 unless is_loaded l ∷ 6 unless is_there l ∷ 6 unless is_same l m ∷ 10 unless starts_within l m ∷ [])
+        Tests (BadState unless still_passes l ∷ NotLoaded unless is_loaded l ∷ NoStart unless is_there l ∷ NoStart unless is_same l m ∷ BadStart unless starts_within l m ∷ [])
         (number_of_road r.predicted.answer)
         ((r.predicted.cache ≡ (got c arena h.tile m.tile.key).cache) × ((r.samples ≡ samples) × (r.behind ≡ behind)))
         ((bs : List ℕ) → l ≡ ready bs → f
@@ -284,7 +269,7 @@ module _ (c : Cache) (arena : List ℕ) (h : Header) (m : Matched) (horizon : Fl
         left a b = cond a (cond b (road bs) (Predict.nothing (plain at₁) c.pages.count (Road.Refused 10) (m.tile.key ∷ []) samples behind))
             (Predict.nothing (plain at₁) c.pages.count Road.Rematch (m.tile.key ∷ []) samples behind)
 
-        by : (a b : Bool) → Tests (12 unless true ∷ 5 unless true ∷ 6 unless true ∷ 6 unless a ∷ 10 unless b ∷ [])
+        by : (a b : Bool) → Tests (BadState unless true ∷ NotLoaded unless true ∷ NoStart unless true ∷ NoStart unless a ∷ BadStart unless b ∷ [])
             (number_of_road (left a b).answer)
             (((left_by (left a b)).predicted.cache ≡ (got c arena h.tile m.tile.key).cache) × (((left a b).samples ≡ samples) × ((left a b).behind ≡ behind)))
             ((bs₂ : List ℕ) → ready bs ≡ ready bs₂ → left a b ≡ road bs₂)
@@ -292,12 +277,12 @@ module _ (c : Cache) (arena : List ℕ) (h : Header) (m : Matched) (horizon : Fl
         by true false = record { is = λ some. refl; as_it_was = λ some. (refl, (refl, refl)); goes_on = λ none. absurd (omega (arith, none)) }
         by false b = record { is = λ some. refl; as_it_was = λ some. (refl, (refl, refl)); goes_on = λ none. absurd (omega (arith, none)) }
 
-    pub predict_start : m.forward ≡ Forward.Is forward → StartTests (at₁ m.tile.key) (predicted_in c arena h m horizon samples behind)
+    pub predict_start : m.forward ≡ Some forward → StartTests (at₁ m.tile.key) (predicted_in c arena h m horizon samples behind)
         (Predict.predict_over at₁ c.pages.count h m horizon samples behind)
     unfolding predicted_in forecast_over
     predict_start q =
         subst (λ (f : Forecast (List TileKey)). StartTests (at₁ m.tile.key) (left_by f) f)
-        (sym (ap (λ (x : Forward). Predict.directed_over (plain at₁) c.pages.count x h m horizon [] samples behind) q)) (start_by (at₁ m.tile.key) refl)
+        (sym (ap (λ (x : Option Bool). Predict.directed_over (plain at₁) c.pages.count x h m horizon [] samples behind) q)) (start_by (at₁ m.tile.key) refl)
 
 -- ---- a step
 
@@ -349,10 +334,9 @@ module _ (e : Engine) (arena : List ℕ) where
         (match_late u.answer u (updated_stale f.matcher e.shared.cache arena e.shared.header (place_of fix) f.sight.heading))
         (either f.due.road _ _ (due_late f.matcher.current) (runs (ended e e.shared.cache f Status.Idle) refl))
 
-    fix_late : (k : Keyed) → Late (at_fix_by k e arena f fix)
-    fix_late (Keyed.In key) = grid_late
-    fix_late Keyed.Outside = runs (at_fix_by Keyed.Outside e arena f fix) refl
-    fix_late (Keyed.Refused number) = runs (at_fix_by (Keyed.Refused number) e arena f fix) refl
+    fix_late : (k : Option TileKey) → Late (at_fix_by k e arena f fix)
+    fix_late (Some key) = grid_late
+    fix_late None = runs (at_fix_by None e arena f fix) refl
 
   work_late : (m : MaybeFix) (f : Follower) → Late (worked_by m e arena f)
   unfolding at_fix
@@ -364,35 +348,35 @@ module _ (e : Engine) (arena : List ℕ) where
   unfolding arrived
   next_late key (Next.Ready i) = by (passes arena i (len_at e.shared.cache i) key e.shared.header.tile)
     where
-      by : (t : Bool) → Late (need_by (cond t Request.Settled (Request.Refused 12)) (Next.Ready i) e key)
-      by true = runs (need_by Request.Settled (Next.Ready i) e key) refl
+      by : (t : Bool) → Late (need_by (cond t (Ok None) (Err Refusal.BadState)) (Next.Ready i) e key)
+      by true = runs (need_by (Ok None) (Next.Ready i) e key) refl
       by false = late
-  next_late key Next.Missing = runs (need_by Request.Settled Next.Missing e key) refl
-  next_late key Next.NoPages = runs (need_by Request.Settled Next.NoPages e key) refl
+  next_late key Next.Missing = runs (need_by (Ok None) Next.Missing e key) refl
+  next_late key Next.NoPages = runs (need_by (Ok None) Next.NoPages e key) refl
   next_late key Next.Entry = runs (need_by (fetched e.shared.cache Next.Entry arena e.shared.header key) Next.Entry e key) refl
   next_late key (Next.Chunk l) = runs (need_by (fetched e.shared.cache (Next.Chunk l) arena e.shared.header key) (Next.Chunk l) e key) refl
 
   module _ (ok : engine_ok e (length arena) ≡ true) where
-    need_grid : (key : TileKey) → e.shared.phase ≡ Phase.Ready → e.follower.due.need ≡ MaybeKey.Key key → in_grid e.shared.header key ≡ true
+    need_grid : (key : TileKey) → e.shared.phase ≡ Phase.Ready → e.follower.due.need ≡ Some key → in_grid e.shared.header key ≡ true
     need_grid key on need =
         let known : need_ok e.shared e.follower.due.need ≡ true
         = and_right (leb e.follower.due.reloads (reload_limit e.shared.cache.pages.count)) _ (apart e (length arena) ok).holds.due in
         rw (need, on) at known
 
-    ready_late : e.shared.phase ≡ Phase.Ready → (m : MaybeKey) → e.follower.due.need ≡ m → Late (ready_by m e arena)
+    ready_late : e.shared.phase ≡ Phase.Ready → (m : Option TileKey) → e.follower.due.need ≡ m → Late (ready_by m e arena)
     unfolding worked
-    ready_late r (MaybeKey.Key key) need =
+    ready_late r (Some key) need =
         subst Late (sym (need_is e arena key (need_grid key r need) (state_is e (length arena) ok))) (next_late key (next_step e.shared.cache key))
-    ready_late r MaybeKey.Nothing need = work_late e.follower.sight.fix (counted e.follower)
+    ready_late r None need = work_late e.follower.sight.fix (counted e.follower)
 
     phase_late : (p : Phase) → e.shared.phase ≡ p → Late (started_by p e arena)
     phase_late Phase.Failed q = runs (started_by Phase.Failed e arena) refl
     phase_late Phase.Unread q = runs (started_by Phase.Unread e arena) refl
     phase_late Phase.Ready q = ready_late q e.follower.due.need refl
 
-    chunk_late : (x : MaybeLoading) → Late (record { answer = chunk_request x; engine = e })
-    chunk_late MaybeLoading.Nothing = late
-    chunk_late (MaybeLoading.Tile l) = runs (record { answer = chunk_request (MaybeLoading.Tile l); engine = e }) refl
+    chunk_late : (x : Option Loading) → Late (record { answer = chunk_request x; engine = e })
+    chunk_late None = late
+    chunk_late (Some l) = runs (record { answer = chunk_request (Some l); engine = e }) refl
 
     open_late : (p : Pending) → Late (stepped_by p e arena)
     unfolding started
@@ -417,9 +401,9 @@ module _ (e : Engine) (size : ℕ) (ok : engine_ok e size ≡ true) where
       by true = omega arith
       by false = omega arith
 
-  load_some : (x : MaybeLoading) (offset len : ℕ) → e.shared.cache.loading ≡ x → chunk_request x ≡ Status.Fetch offset len → 0 < len
-  load_some MaybeLoading.Nothing offset len q r = let z : ◌≡◌ {A = ℕ} 0 1 = cc in absurd (omega arith)
-  load_some (MaybeLoading.Tile l) offset len q r =
+  load_some : (x : Option Loading) (offset len : ℕ) → e.shared.cache.loading ≡ x → chunk_request x ≡ Status.Fetch offset len → 0 < len
+  load_some None offset len q r = let z : ◌≡◌ {A = ℕ} 0 1 = cc in absurd (omega arith)
+  load_some (Some l) offset len q r =
       let is : chunk_len l ≡ len = cc in omega (arith, is, chunk_some l (bytes_left e.shared.cache l (state_is e size ok) q))
 
   fetch_some : (x : Pending) (offset len : ℕ) → request_of e.shared x ≡ Status.Fetch offset len → 0 < len
@@ -447,13 +431,13 @@ module _ (e : Engine) (arena pack : List ℕ) (ok : engine_ok e (length arena) �
   unfolding Calls.deliver
   taken failure bs a = rw next_ok (deliver_number n₁ arena failure bs next_ok a)
 
-  range_taken : (offset len : ℕ) (x : Range) → read pack offset len ≡ x → (stepped e arena).answer ≡ Status.Fetch offset len
+  range_taken : (offset len : ℕ) (x : Result ℕ Refusal) → read pack offset len ≡ x → (stepped e arena).answer ≡ Status.Fetch offset len
       → number_of_status (Calls.answered_by x n₁ arena len pack).answer ≡ 0
-  range_taken offset len (RangeIs.At at) r a =
+  range_taken offset len (Ok at) r a =
       let there : (at ≡ offset) × (offset + len ≤ length pack) = read_at pack offset len r in
       let size : length (pack_bytes pack at len) ≡ len = simp (length-take, length-drop) (omega arith) in
       taken 0 (pack_bytes pack at len) (rw (opens offset len a, size) (eq-eqb len len refl))
-  range_taken offset len (RangeIs.Refused number) r a =
+  range_taken offset len (Err number) r a =
       let some : 0 < len = fetch_some n₁ (length arena) next_ok n₁.shared.cache.pending offset len (opens offset len a) in
       taken 2 [] (rw (opens offset len a) (lt-ltb 0 len some))
 

@@ -1,21 +1,23 @@
--- A call and its causes of refusal: document 01, "Refused".
+-- A call and its causes of refusal, each tested in turn: the first that is there gives the number.
+use Rattle.refusal.specs.Refusal.{number_of}
+use Rattle.refusal.specs.declared.Refusal.{Refusal}
 use Rattle.std.specs.Prelude.{ℕ, ◌<◌, ◌≡◌, Bool, true, ◌||◌, cond, List, [], ◌∷◌, eqb}
 
--- a number, and what is asked: the cause is there where this is not so
+-- a refusal, and what is asked: the cause is there where this is not so
 pub record Cause : Type 0 where
-  pub number : ℕ
+  pub refusal : Refusal
   pub asked : Bool
 
 infix 68 ◌unless◌
-abbrev pub ◌unless◌ : ℕ → Bool → Cause
-n unless b = record { number = n; asked = b }
+abbrev pub ◌unless◌ : Refusal → Bool → Cause
+e unless b = record { refusal = e; asked = b }
 
 -- the number of the first cause that is there, 0 where none is
 unfoldable pub first_of : List Cause → ℕ
 first_of [] = 0
-first_of (c ∷ cs) = cond c.asked (first_of cs) c.number
+first_of (c ∷ cs) = cond c.asked (first_of cs) (number_of c.refusal)
 
--- A call, of which these are all the causes: document 01's number of its answer; what is to hold where it is refused, that all lent is as it was; and what
+-- A call, of which these are all the causes: the number of its answer; what is to hold where it is refused, that all lent is as it was; and what
 -- it does where it is not.
 pub record Refuses (causes : List Cause) (number : ℕ) (AsItWas Does : Type 0) : Type 0 where
   pub is : number ≡ first_of causes

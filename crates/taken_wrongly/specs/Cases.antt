@@ -1,6 +1,7 @@
 -- Document 01, "Easily taken wrongly", of "These fail" the programs that answer otherwise in one place, and what requests 1, 3 and 7 of document 02 fix of orders, totals and rounding: each as a case of the
 -- definitions in which the wrong answer shows. The rest of both lists stands elsewhere: `from_e7` and `key` in the bench lines, engines that are always Working, always NoPack or hand the state
 -- back in `new_steps` of engine_states, and a whole road, computed, which is neither flat nor Memory, in `finished` of direct_witness.
+use Rattle.std.specs.Prelude.{Some, Ok}
 use Rattle.std.specs.Prelude.{ℕ, ◌+◌, ◌%◌, ◌^◌, ◌≡◌, true, false, List, [], ◌∷◌, ltb, pos, negsuc, Float, replicate, get_or}
 use Rattle.pack.specs.declared.TileKey.{TileKey}
 use Rattle.profile_text.specs.Text.{whole_metres}
@@ -14,7 +15,6 @@ use Rattle.cache.specs.declared.Cache.{Cache}
 use Rattle.cache.specs.declared.Loading.{Loading}
 use Rattle.cache.specs.declared.Pages.{Pages}
 use Rattle.cache.specs.declared.Progress.TheVariants as Progress
-use Rattle.cache.specs.declared.victim.Found.TheVariants as Found
 use Rattle.matcher.specs.Keeping.{no_candidate, insert}
 use Rattle.matcher.specs.declared.Candidate.{Candidate}
 use Rattle.matcher.specs.declared.Kept.{Kept}
@@ -87,7 +87,7 @@ node_at x y = record { x = x; y = y; z = 0 }
 
 pub record Cases : Type 0 where
   -- "Last of equal maxima over a reversed range is the lowest start."
-  pub lowest_start : victim four_empty 1 ≡ Found.At 0
+  pub lowest_start : victim four_empty 1 ≡ Some 0
   -- "Two equal lowest costs are a Fork, not the first of them."
   pub equal_costs_fork : (confidence : Float) → (decide (push (push no_choices (choice_of 3)) (choice_of 3)) false confidence).ending ≡ Ending.Stops Ends.Fork
   -- "Once eight are kept, a candidate as dear as the worst of them is dropped."
@@ -100,7 +100,7 @@ pub record Cases : Type 0 where
   -- "a load that marks the tile ready after its first chunk .., or Missing": a chunk that is not the last has more to come; no slot and no place of the ring changes, and no load is counted
   pub chunk_leaves_more : (c : Cache) (l : Loading) (arena : List ℕ) (size : ℕ) (bs : List ℕ) → ltb (l.done + Loads.chunk_len l) l.len ≡ true
       → let r = Loads.chunk_step c l arena size 0 bs in
-      (r.answer ≡ Progress.More) × ((r.cache.pages ≡ c.pages) × ((r.cache.missing ≡ c.missing) × (r.cache.loads ≡ c.loads)))
+      (r.answer ≡ Ok Progress.More) × ((r.cache.pages ≡ c.pages) × ((r.cache.missing ≡ c.missing) × (r.cache.loads ≡ c.loads)))
   -- "Memory for every road before an edge is walked": the first tile of one page fits, whatever the page count is
   pub first_tile_fits : (count : ℕ) (key : TileKey) → (meet nothing_met (budget count) key 1).fits ≡ true
   -- "one flat road for every match": a point 20 m on and 5 m up sets that height, where the sample at 0 m was set before

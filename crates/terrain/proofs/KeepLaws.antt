@@ -11,10 +11,8 @@ use Rattle.engine.specs.Deliver.{After}
 use Rattle.engine.specs.declared.Changed.{Changed}
 use Rattle.engine.specs.declared.Fix.{Fix}
 use Rattle.engine.specs.declared.Status.{Status}
-use Rattle.engine.specs.declared.Status.TheVariants as Status
 use Rattle.engine.specs.declared.Stepped.{Stepped}
 use Rattle.engine.specs.declared.Taken.{Taken}
-use Rattle.engine.specs.declared.Taken.TheVariants as Taken
 use Rattle.engine_states.specs.Refused.{is_refused, is_taken}
 use Rattle.engine_states.proofs.RefusedSame.{refused_same}
 use Rattle.terrain.specs.Host as Host

@@ -1,9 +1,10 @@
 -- How the leaves' answers that are an enum or a truth value cross to C.
+use Rattle.std.specs.Prelude.{Ok, Err, Float, Result}
+use Rattle.refusal.specs.Refusal.{number_of}
+use Rattle.refusal.specs.declared.Refusal.{Refusal}
 use Rattle.std.specs.Prelude.{ℕ, Bool, true, false, ℤ, pos, negsuc}
-use Rattle.num.specs.declared.order.Ordering.{Ordering}
-use Rattle.num.specs.declared.order.Ordering.TheVariants.{Less, Equal, Greater}
-use Rattle.angle.specs.declared.Degrees.{Degrees}
-use Rattle.angle.specs.declared.Degrees.TheVariants.{At, Refused}
+use Rattle.std.specs.declared.cmp.Ordering.{Ordering}
+use Rattle.std.specs.declared.cmp.Ordering.TheVariants.{Less, Equal, Greater}
 use Rattle.terrain.specs.Records.{zero}
 use Rattle.terrain.specs.declared.leaves.TerrainDegrees.{TerrainDegrees}
 
@@ -16,7 +17,7 @@ abbrev pub flag : Bool → ℕ
 flag true = 1
 flag false = 0
 
--- document 01's number of a refusal, 0 where there is none
-abbrev pub degrees_out : Degrees → TerrainDegrees
-degrees_out (At d) = record { number = 0; degrees = d }
-degrees_out (Refused n) = record { number = n; degrees = zero }
+-- a bearing and the number of its refusal, 0 where there is none
+abbrev pub degrees_out : Result Float Refusal → TerrainDegrees
+degrees_out (Ok d) = record { number = 0; degrees = d }
+degrees_out (Err e) = record { number = number_of e; degrees = zero }

@@ -5,7 +5,6 @@ use Rattle.std.specs.Float.{binary32}
 use Rattle.std.specs.Float.Ieee.{of_bits}
 use Rattle.pack.specs.declared.Header.{Header}
 use Rattle.matcher.specs.declared.Current.{Current}
-use Rattle.matcher.specs.declared.Current.TheVariants as Current
 use Rattle.matcher.specs.declared.Matched.{Matched}
 use Rattle.engine.specs.Calls as Calls
 use Rattle.engine.specs.Deliver.{After}
@@ -15,17 +14,12 @@ use Rattle.engine.specs.declared.Ahead.{Ahead}
 use Rattle.engine.specs.declared.AheadRead.{AheadRead}
 use Rattle.engine.specs.declared.Changed.{Changed}
 use Rattle.engine.specs.declared.Count.{Count}
-use Rattle.engine.specs.declared.Count.TheVariants as Count
 use Rattle.engine.specs.declared.Fix.{Fix}
 use Rattle.engine.specs.declared.HeadingRead.{HeadingRead}
-use Rattle.engine.specs.declared.HeadingRead.TheVariants as HeadingRead
 use Rattle.engine.specs.declared.Known.{Known}
-use Rattle.engine.specs.declared.Known.TheVariants as Known
 use Rattle.engine.specs.declared.Status.{Status}
-use Rattle.engine.specs.declared.Status.TheVariants as Status
 use Rattle.engine.specs.declared.Stepped.{Stepped}
 use Rattle.engine.specs.declared.Taken.{Taken}
-use Rattle.engine.specs.declared.Taken.TheVariants as Taken
 use Rattle.terrain.specs.declared.host.AheadTold.{AheadTold}
 use Rattle.terrain.specs.declared.host.CountTold.{CountTold}
 use Rattle.terrain.specs.declared.host.FixGiven.{FixGiven}

@@ -1,22 +1,17 @@
 -- The cache's calls on the cache in an engine's words: decoded, the library's own definition, encoded. Words that no engine has are refused with 12 and stay as they were.
+use Rattle.refusal.specs.Refusal.{number_of, number_of_result}
+use Rattle.refusal.specs.declared.Refusal.{Refusal}
+use Rattle.std.specs.Prelude.{Option, Some, None, Result, Ok, Err}
 use Rattle.std.specs.Prelude.{ℕ, cond, List}
 use Rattle.pack.specs.declared.Header.{Header}
 use Rattle.pack.specs.declared.TileKey.{TileKey}
 use Rattle.cache.specs.Calls as Calls
 use Rattle.cache.specs.Loads as Loads
 use Rattle.cache.specs.declared.Cache.{Cache}
-use Rattle.cache.specs.declared.Count.{Count}
-use Rattle.cache.specs.declared.Count.TheVariants as Count
 use Rattle.cache.specs.declared.Lookup.{Lookup}
-use Rattle.cache.specs.declared.Lookup.TheVariants as Lookup
 use Rattle.cache.specs.declared.Got.{Got}
 use Rattle.cache.specs.declared.Cleared.{Cleared}
-use Rattle.cache.specs.declared.Clearing.{Clearing}
-use Rattle.cache.specs.declared.Clearing.TheVariants as Clearing
-use Rattle.cache.specs.declared.Request.{Request}
-use Rattle.cache.specs.declared.Request.TheVariants as Request
 use Rattle.cache.specs.declared.Progress.{Progress}
-use Rattle.cache.specs.declared.Progress.TheVariants as Progress
 use Rattle.engine.specs.declared.Engine.{Engine}
 use Rattle.words.specs.Words.{words, engine_of, accepted}
 use Rattle.terrain.specs.declared.parts.TerrainCount.{TerrainCount}
@@ -26,40 +21,39 @@ use Rattle.terrain.specs.declared.parts.TerrainProgress.{TerrainProgress}
 
 -- ---- answers: a number, the variant's place in its enum, and the variant's fields
 
-abbrev pub count_out : Count → TerrainCount
-count_out (Count.Is n) = record { number = 0; count = n }
-count_out (Count.Refused n) = record { number = n; count = 0 }
+abbrev pub count_out : Result ℕ Refusal → TerrainCount
+count_out (Ok n) = record { number = 0; count = n }
+count_out (Err e) = record { number = number_of e; count = 0 }
 
 abbrev pub lookup : ℕ → ℕ → TerrainLookup
 lookup number tag = record { number = number; lookup = tag; first = 0; len = 0 }
 
-abbrev pub lookup_out : Lookup → TerrainLookup
-lookup_out (Lookup.Ready first len) = record { number = 0; lookup = 0; first = first; len = len }
-lookup_out Lookup.Missing = lookup 0 1
-lookup_out Lookup.Absent = lookup 0 2
-lookup_out (Lookup.Refused n) = lookup n 3
+abbrev pub lookup_out : Result Lookup Refusal → TerrainLookup
+lookup_out (Ok (Lookup.Ready first len)) = record { number = 0; lookup = 0; first = first; len = len }
+lookup_out (Ok Lookup.Missing) = lookup 0 1
+lookup_out (Ok Lookup.Absent) = lookup 0 2
+lookup_out (Err e) = lookup (number_of e) 3
 
 abbrev pub request : ℕ → ℕ → TerrainRequest
 request number tag = record { number = number; request = tag; offset = 0; len = 0 }
 
-abbrev pub request_out : Request → TerrainRequest
-request_out Request.Settled = request 0 0
-request_out (Request.Read offset len) = record { number = 0; request = 1; offset = offset; len = len }
-request_out (Request.Refused n) = request n 2
+abbrev pub request_out : Result (Option (ℕ × ℕ)) Refusal → TerrainRequest
+request_out (Ok None) = request 0 0
+request_out (Ok (Some (offset, len))) = record { number = 0; request = 1; offset = offset; len = len }
+request_out (Err e) = request (number_of e) 2
 
 abbrev pub progress : ℕ → ℕ → TerrainProgress
 progress number tag = record { number = number; progress = tag }
 
 -- the number of a failed step is why it failed: 1 or 2 for the read, 4 for the entry
-abbrev pub progress_out : Progress → TerrainProgress
-progress_out Progress.Done = progress 0 0
-progress_out Progress.More = progress 0 1
-progress_out (Progress.Failed n) = progress n 2
-progress_out (Progress.Refused n) = progress n 3
+abbrev pub progress_out : Result Progress Refusal → TerrainProgress
+progress_out (Ok Progress.Done) = progress 0 0
+progress_out (Ok Progress.More) = progress 0 1
+progress_out (Ok (Progress.Failed e)) = progress (number_of e) 2
+progress_out (Err e) = progress (number_of e) 3
 
-abbrev pub clearing_out : Clearing → ℕ
-clearing_out Clearing.Done = 0
-clearing_out (Clearing.Refused n) = n
+abbrev pub clearing_out : Result Unit Refusal → ℕ
+clearing_out r = number_of_result r
 
 -- ---- the words
 
@@ -79,26 +73,26 @@ after ws c = cond (accepted ws) (words (with_cache c (engine_of ws))) ws
 
 -- ---- the calls
 
-abbrev pub capacity : List ℕ → List ℕ → Count
-capacity ws arena = cond (accepted ws) (Calls.capacity (cache_of ws) arena) (Count.Refused 12)
+abbrev pub capacity : List ℕ → List ℕ → Result ℕ Refusal
+capacity ws arena = cond (accepted ws) (Calls.capacity (cache_of ws) arena) (Err Refusal.BadState)
 
-abbrev pub loads : List ℕ → List ℕ → Count
-loads ws arena = cond (accepted ws) (Calls.loads (cache_of ws) arena) (Count.Refused 12)
+abbrev pub loads : List ℕ → List ℕ → Result ℕ Refusal
+loads ws arena = cond (accepted ws) (Calls.loads (cache_of ws) arena) (Err Refusal.BadState)
 
-abbrev pub pages : List ℕ → List ℕ → Header → TileKey → Count
-pages ws arena h key = cond (accepted ws) (Calls.pages (cache_of ws) arena h key) (Count.Refused 12)
+abbrev pub pages : List ℕ → List ℕ → Header → TileKey → Result ℕ Refusal
+pages ws arena h key = cond (accepted ws) (Calls.pages (cache_of ws) arena h key) (Err Refusal.BadState)
 
 abbrev pub get : List ℕ → List ℕ → Header → TileKey → Got
-get ws arena h key = cond (accepted ws) (Calls.get (cache_of ws) arena h key) (Calls.got_nothing (cache_of ws) 12)
+get ws arena h key = cond (accepted ws) (Calls.get (cache_of ws) arena h key) (Calls.got_nothing (cache_of ws) Refusal.BadState)
 
 abbrev pub clear : List ℕ → List ℕ → Cleared
-clear ws arena = cond (accepted ws) (Calls.clear (cache_of ws) arena) (record { answer = Clearing.Refused 12; cache = cache_of ws })
+clear ws arena = cond (accepted ws) (Calls.clear (cache_of ws) arena) (record { answer = Err Refusal.BadState; cache = cache_of ws })
 
-abbrev pub fetch : List ℕ → List ℕ → Header → TileKey → Request
-fetch ws arena h key = cond (accepted ws) (Calls.fetch (cache_of ws) arena h key) (Request.Refused 12)
+abbrev pub fetch : List ℕ → List ℕ → Header → TileKey → Result (Option (ℕ × ℕ)) Refusal
+fetch ws arena h key = cond (accepted ws) (Calls.fetch (cache_of ws) arena h key) (Err Refusal.BadState)
 
 abbrev pub refused_load : List ℕ → List ℕ → Loads.After
-refused_load ws arena = Loads.over (Loads.refused (cache_of ws) 12) arena
+refused_load ws arena = Loads.over (Loads.refused (cache_of ws) Refusal.BadState) arena
 
 abbrev pub load : List ℕ → List ℕ → Header → TileKey → ℕ → List ℕ → Loads.After
 load ws arena h key failure bs = cond (accepted ws) (Calls.load (cache_of ws) arena h key failure bs) (refused_load ws arena)

@@ -1,19 +1,16 @@
 -- The matcher's and predict's calls for C, decoded, the library's own definition, encoded. A matcher is 22 words of its own, laid out as an engine's (specs/Words); a match goes by value,
 -- and is refused with 12 where its flag does not say one or its direction is none of the three. Words that nothing has are refused with 12 and stay as they were.
+use Rattle.std.specs.Prelude.{Option, Some, None}
+use Rattle.pack.specs.declared.TileKey.{TileKey}
 use Rattle.std.specs.Prelude.{ℕ, Bool, ◌&&◌, cond, List, [], ◌∷◌, eqb, leb, ltb, ℤ, Float}
 use Rattle.pack.specs.declared.Header.{Header}
-use Rattle.cache.specs.declared.MaybeKey.{MaybeKey}
-use Rattle.cache.specs.declared.MaybeKey.TheVariants as MaybeKey
 use Rattle.geo.specs.declared.Point.{Point}
 use Rattle.matcher.specs.Calls as Calls
 use Rattle.matcher.specs.State as State
 use Rattle.matcher.specs.Near.{key_at}
 use Rattle.matcher.specs.declared.Answer.{Answer}
-use Rattle.matcher.specs.declared.Answer.TheVariants as Answer
 use Rattle.matcher.specs.declared.CurrentRead.{CurrentRead}
-use Rattle.matcher.specs.declared.CurrentRead.TheVariants as CurrentRead
 use Rattle.matcher.specs.declared.Heading.{Heading}
-use Rattle.matcher.specs.declared.Heading.TheVariants as Heading
 use Rattle.matcher.specs.declared.Matched.{Matched}
 use Rattle.matcher.specs.declared.NearKey.{NearKey}
 use Rattle.matcher.specs.declared.NearKeys.{NearKeys}
@@ -68,9 +65,9 @@ abbrev pub answer_number : Answer → ℕ
 answer_number Answer.Accepted = 0
 answer_number (Answer.Refused n) = n
 
-abbrev pub near_key_by : MaybeKey → TerrainKey
-near_key_by MaybeKey.Nothing = no_key
-near_key_by (MaybeKey.Key k) = key_out k
+abbrev pub near_key_by : Option TileKey → TerrainKey
+near_key_by None = no_key
+near_key_by (Some k) = key_out k
 
 abbrev pub near_key : NearKey → TerrainKey
 near_key place = near_key_by place.key

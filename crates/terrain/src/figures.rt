@@ -7,7 +7,7 @@ ghost use Rattle.terrain.specs.Records as Records;
 ghost use Rattle.terrain.specs.Figures as Figures;
 
 use crate::records::{TerrainEdge, TerrainHeader, TerrainMetres, TerrainPoint};
-use geo::{EdgePoint, Figure, MetresRead, ProjectedRead};
+use refusal::Refusal;
 
 // A point of an edge with its elevation in decimetres.
 #[repr(C)]
@@ -41,13 +41,13 @@ pub struct TerrainProjectedRead {
     pub distance: f32,
 }
 
-fn figure_out(answer: Figure) -> TerrainFigure
+fn figure_out(answer: Result<f32, Refusal>) -> TerrainFigure
     ensures { result ≡ Figures.figure_out answer }
 {
     match answer {
-        Figure::Is(value) => TerrainFigure { number: 0, value },
-        Figure::Refused(n) => TerrainFigure {
-            number: n,
+        Ok(value) => TerrainFigure { number: 0, value },
+        Err(n) => TerrainFigure {
+            number: n.number(),
             value: 0.0,
         },
     }
@@ -65,7 +65,7 @@ pub fn terrain_edge_point(
     let e = crate::records::edge_of(edge);
     let answer = view::through::edge_point(bytes, h, e, index);
     match answer {
-        EdgePoint::At(p, z) => TerrainEdgePoint {
+        Ok((p, z)) => TerrainEdgePoint {
             number: 0,
             point: TerrainPoint {
                 lat: p.lat,
@@ -73,8 +73,8 @@ pub fn terrain_edge_point(
             },
             z_dm: z,
         },
-        EdgePoint::Refused(n) => TerrainEdgePoint {
-            number: n,
+        Err(n) => TerrainEdgePoint {
+            number: n.number(),
             point: TerrainPoint { lat: 0, lon: 0 },
             z_dm: 0,
         },
@@ -91,15 +91,15 @@ pub fn terrain_metres_from(
     let p = crate::records::point_of(point);
     let answer = p.metres_from(crate::records::point_of(origin), lon_um);
     match answer {
-        MetresRead::At(m) => TerrainMetresRead {
+        Ok(m) => TerrainMetresRead {
             number: 0,
             metres: TerrainMetres {
                 east: m.east,
                 north: m.north,
             },
         },
-        MetresRead::Refused(n) => TerrainMetresRead {
-            number: n,
+        Err(n) => TerrainMetresRead {
+            number: n.number(),
             metres: TerrainMetres {
                 east: 0.0,
                 north: 0.0,
@@ -127,13 +127,13 @@ pub fn terrain_project(p: TerrainMetres, a: TerrainMetres, b: TerrainMetres) -> 
     let second = crate::records::metres_of(b);
     let answer = geo::project(crate::records::metres_of(p), first, second);
     match answer {
-        ProjectedRead::At(r) => TerrainProjectedRead {
+        Ok(r) => TerrainProjectedRead {
             number: 0,
             fraction: r.fraction,
             distance: r.distance,
         },
-        ProjectedRead::Refused(n) => TerrainProjectedRead {
-            number: n,
+        Err(n) => TerrainProjectedRead {
+            number: n.number(),
             fraction: 0.0,
             distance: 0.0,
         },

@@ -9,8 +9,9 @@ ghost use Rattle.terrain.specs.Records as Records;
 ghost use Rattle.terrain.specs.Format as Format;
 
 use crate::records::{TerrainEdge, TerrainHeader, TerrainKey, TerrainNode, TerrainPoint};
-use pack::{Answer, Header, Keyed, Located, Offset, Origin, Range};
-use tile::{EdgeRead, Entries, EntryRead, Found, NodeRead, Parsed};
+use pack::{Header, TileKey};
+use refusal::Refusal;
+use tile::Node;
 
 // Where bytes of a pack start.
 #[repr(C)]
@@ -108,31 +109,31 @@ pub struct TerrainFound {
     pub index: u16,
 }
 
-fn keyed_out(answer: Keyed) -> TerrainKeyed
+fn keyed_out(answer: Result<Option<TileKey>, Refusal>) -> TerrainKeyed
     ensures { result ≡ Format.keyed_out answer }
 {
     let none = TerrainKey { row: 0, col: 0 };
     match answer {
-        Keyed::In(k) => TerrainKeyed {
+        Ok(Some(k)) => TerrainKeyed {
             number: 0,
             key: crate::records::key_out(k),
         },
-        Keyed::Outside => TerrainKeyed {
+        Ok(None) => TerrainKeyed {
             number: 256,
             key: none,
         },
-        Keyed::Refused(n) => TerrainKeyed {
-            number: n,
+        Err(n) => TerrainKeyed {
+            number: n.number(),
             key: none,
         },
     }
 }
 
-fn node_out(answer: NodeRead) -> TerrainNodeRead
+fn node_out(answer: Result<Node, Refusal>) -> TerrainNodeRead
     ensures { result ≡ Format.node_read_out answer }
 {
     match answer {
-        NodeRead::At(n) => TerrainNodeRead {
+        Ok(n) => TerrainNodeRead {
             number: 0,
             node: TerrainNode {
                 x: n.x,
@@ -140,8 +141,8 @@ fn node_out(answer: NodeRead) -> TerrainNodeRead
                 z: n.z,
             },
         },
-        NodeRead::Refused(k) => TerrainNodeRead {
-            number: k,
+        Err(k) => TerrainNodeRead {
+            number: k.number(),
             node: TerrainNode { x: 0, y: 0, z: 0 },
         },
     }
@@ -152,20 +153,26 @@ pub fn terrain_pack_read(pack: &[u8], offset: u64, len: usize) -> TerrainRange
 {
     let answer = pack::read(pack, offset, len);
     match answer {
-        Range::At(at) => TerrainRange { number: 0, at },
-        Range::Refused(n) => TerrainRange { number: n, at: 0 },
+        Ok(at) => TerrainRange { number: 0, at },
+        Err(n) => TerrainRange {
+            number: n.number(),
+            at: 0,
+        },
     }
 }
 
 pub fn terrain_header_parse(sector: &[u8; 512]) -> TerrainHeaderParsed
     ensures { result ≡ Format.header_parsed_out (Sector.parse sector.now) }
 {
-    let parsed = Header::parse(sector);
-    let header = crate::records::header_out(parsed.header);
-    let answer = parsed.answer;
-    match answer {
-        Answer::Accepted => TerrainHeaderParsed { number: 0, header },
-        Answer::Refused(n) => TerrainHeaderParsed { number: n, header },
+    match Header::parse(sector) {
+        Ok(h) => TerrainHeaderParsed {
+            number: 0,
+            header: crate::records::header_out(h),
+        },
+        Err(e) => TerrainHeaderParsed {
+            number: e.number(),
+            header: crate::records::no_header(),
+        },
     }
 }
 
@@ -189,13 +196,13 @@ pub fn terrain_header_origin(header: TerrainHeader, key: TerrainKey) -> TerrainO
     let h = crate::records::header_of(header);
     let answer = h.origin(crate::records::key_of(key));
     match answer {
-        Origin::At(c) => TerrainOrigin {
+        Ok(c) => TerrainOrigin {
             number: 0,
             south: c.south,
             west: c.west,
         },
-        Origin::Refused(n) => TerrainOrigin {
-            number: n,
+        Err(n) => TerrainOrigin {
+            number: n.number(),
             south: 0,
             west: 0,
         },
@@ -208,8 +215,11 @@ pub fn terrain_header_entry(header: TerrainHeader, key: TerrainKey) -> TerrainOf
     let h = crate::records::header_of(header);
     let answer = h.entry(crate::records::key_of(key));
     match answer {
-        Offset::At(at) => TerrainOffset { number: 0, at },
-        Offset::Refused(n) => TerrainOffset { number: n, at: 0 },
+        Ok(at) => TerrainOffset { number: 0, at },
+        Err(n) => TerrainOffset {
+            number: n.number(),
+            at: 0,
+        },
     }
 }
 
@@ -219,18 +229,18 @@ pub fn terrain_header_locate(header: TerrainHeader, entry: &[u8; 8]) -> TerrainL
     let h = crate::records::header_of(header);
     let answer = h.locate(entry);
     match answer {
-        Located::Tile(offset, length) => TerrainLocated {
+        Ok(Some((offset, length))) => TerrainLocated {
             number: 0,
             offset,
             length,
         },
-        Located::NoTile => TerrainLocated {
+        Ok(None) => TerrainLocated {
             number: 256,
             offset: 0,
             length: 0,
         },
-        Located::Refused(n) => TerrainLocated {
-            number: n,
+        Err(n) => TerrainLocated {
+            number: n.number(),
             offset: 0,
             length: 0,
         },
@@ -242,7 +252,7 @@ pub fn terrain_tile_parse(bytes: &[u8], key: TerrainKey, size: u32) -> TerrainTi
 {
     let answer = tile::parse(bytes, crate::records::key_of(key), size);
     match answer {
-        Parsed::Tile(h) => TerrainTileParsed {
+        Ok(h) => TerrainTileParsed {
             number: 0,
             key: crate::records::key_out(h.key),
             nodes: h.nodes,
@@ -250,8 +260,8 @@ pub fn terrain_tile_parse(bytes: &[u8], key: TerrainKey, size: u32) -> TerrainTi
             vertices: h.vertices,
             lon_um: h.lon_um,
         },
-        Parsed::Refused(n) => TerrainTileParsed {
-            number: n,
+        Err(n) => TerrainTileParsed {
+            number: n.number(),
             key: TerrainKey { row: 0, col: 0 },
             nodes: 0,
             edges: 0,
@@ -272,12 +282,12 @@ pub fn terrain_tile_edge(bytes: &[u8], index: u16) -> TerrainEdgeRead
 {
     let answer = view::through::edge(bytes, index);
     match answer {
-        EdgeRead::At(e) => TerrainEdgeRead {
+        Ok(e) => TerrainEdgeRead {
             number: 0,
             edge: crate::records::edge_out(e),
         },
-        EdgeRead::Refused(n) => TerrainEdgeRead {
-            number: n,
+        Err(n) => TerrainEdgeRead {
+            number: n.number(),
             edge: crate::records::no_edge(),
         },
     }
@@ -295,13 +305,13 @@ pub fn terrain_tile_incident(bytes: &[u8], node: u16) -> TerrainEntries
 {
     let answer = view::through::incident(bytes, node);
     match answer {
-        Entries::Range(start, end) => TerrainEntries {
+        Ok(entries) => TerrainEntries {
             number: 0,
-            start,
-            end,
+            start: entries.start,
+            end: entries.end,
         },
-        Entries::Refused(n) => TerrainEntries {
-            number: n,
+        Err(n) => TerrainEntries {
+            number: n.number(),
             start: 0,
             end: 0,
         },
@@ -313,13 +323,13 @@ pub fn terrain_tile_entry(bytes: &[u8], entry: u32) -> TerrainEntryRead
 {
     let answer = view::through::incident_entry(bytes, entry);
     match answer {
-        EntryRead::At(i) => TerrainEntryRead {
+        Ok(i) => TerrainEntryRead {
             number: 0,
             edge: i.edge,
             ends: i.ends,
         },
-        EntryRead::Refused(n) => TerrainEntryRead {
-            number: n,
+        Err(n) => TerrainEntryRead {
+            number: n.number(),
             edge: 0,
             ends: false,
         },
@@ -331,8 +341,8 @@ pub fn terrain_tile_node_at(bytes: &[u8], x: u16, y: u16) -> TerrainFound
 {
     let answer = view::through::node_at(bytes, x, y);
     match answer {
-        Found::At(index) => TerrainFound { number: 0, index },
-        Found::Nothing => TerrainFound {
+        Some(index) => TerrainFound { number: 0, index },
+        None => TerrainFound {
             number: 256,
             index: 0,
         },

@@ -8,8 +8,8 @@ ghost use Rattle.terrain.specs.Host as Host;
 ghost use Rattle.words.specs.Words as Words;
 
 use engine::{
-    Ahead, Changed, Count, Current, End, Engine, Fix, Forward, Header, HeadingRead, Known, Matched,
-    Status, Taken,
+    Ahead, Changed, Count, Current, End, Engine, Fix, Header, HeadingRead, Known, Matched, Status,
+    Taken,
 };
 
 // ---- what crosses by value
@@ -184,12 +184,12 @@ fn counted(answer: Count) -> CountTold
     }
 }
 
-fn forward(way: Forward) -> u32
+fn forward(way: Option<bool>) -> u32
     ensures { result ≡ Words.forward_word way }
 {
     match way {
-        Forward::Unknown => 0,
-        Forward::Is(ahead) => {
+        None => 0,
+        Some(ahead) => {
             if ahead {
                 return 2;
             }

@@ -121,9 +121,9 @@ pub fn terrain_total_cmp(a: f32, b: f32) -> i32
 {
     let order = num::order::total_cmp(a, b);
     match order {
-        num::order::Ordering::Less => -1,
-        num::order::Ordering::Equal => 0,
-        num::order::Ordering::Greater => 1,
+        std::cmp::Ordering::Less => -1,
+        std::cmp::Ordering::Equal => 0,
+        std::cmp::Ordering::Greater => 1,
     }
 }
 
@@ -148,9 +148,9 @@ pub fn terrain_bearing(east: f32, north: f32) -> TerrainDegrees
 {
     let answer = angle::bearing(east, north);
     match answer {
-        angle::Degrees::At(degrees) => TerrainDegrees { number: 0, degrees },
-        angle::Degrees::Refused(n) => TerrainDegrees {
-            number: n,
+        Ok(degrees) => TerrainDegrees { number: 0, degrees },
+        Err(n) => TerrainDegrees {
+            number: n.number(),
             degrees: 0.0,
         },
     }

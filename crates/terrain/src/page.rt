@@ -3,8 +3,6 @@ ghost use Rattle.std.specs.Prelude.{◌≡◌, length};
 ghost use Rattle.profile_text.specs.Page as Page;
 ghost use Rattle.terrain.specs.Page.{printed_out};
 
-use profile_text::page::Printed;
-
 // The page's length; or the refusal's number, and 0.
 #[repr(C)]
 #[derive(Clone, Copy)]
@@ -17,14 +15,10 @@ pub fn terrain_profile_page(samples: &[i16], page: u32, out: &mut [u8]) -> Terra
     ensures value { result ≡ printed_out (Page.printed samples.now page (length out.old)) }
     ensures out_after { out.new ≡ Page.written samples.now page out.old }
 {
-    let answer = profile_text::page::page(samples, page, out);
-    match answer {
-        Printed::Length(n) => TerrainPrinted {
-            number: 0,
-            length: n,
-        },
-        Printed::Refused(k) => TerrainPrinted {
-            number: k,
+    match profile_text::page::page(samples, page, out) {
+        Ok(length) => TerrainPrinted { number: 0, length },
+        Err(e) => TerrainPrinted {
+            number: e.number(),
             length: 0,
         },
     }

@@ -5,7 +5,8 @@ ghost use Rattle.words.specs.Words as Words;
 ghost use Rattle.terrain.specs.Parts as Parts;
 
 use crate::records::{TerrainHeader, TerrainKey};
-use cache::{Cache, Clearing, Count, Lookup, Progress, Request};
+use cache::{Cache, Lookup, Progress};
+use refusal::Refusal;
 
 #[repr(C)]
 #[derive(Clone, Copy)]
@@ -44,13 +45,13 @@ pub struct TerrainProgress {
 
 // ---- answers
 
-fn count_out(answer: Count) -> TerrainCount
+fn count_out(answer: Result<usize, Refusal>) -> TerrainCount
     ensures { result ≡ Parts.count_out answer }
 {
     match answer {
-        Count::Is(count) => TerrainCount { number: 0, count },
-        Count::Refused(n) => TerrainCount {
-            number: n,
+        Ok(count) => TerrainCount { number: 0, count },
+        Err(e) => TerrainCount {
+            number: e.number(),
             count: 0,
         },
     }
@@ -67,19 +68,19 @@ fn lookup(number: u32, tag: u32) -> TerrainLookup
     }
 }
 
-fn lookup_out(answer: Lookup) -> TerrainLookup
+fn lookup_out(answer: Result<Lookup, Refusal>) -> TerrainLookup
     ensures { result ≡ Parts.lookup_out answer }
 {
     match answer {
-        Lookup::Ready(first, len) => TerrainLookup {
+        Ok(Lookup::Ready(first, len)) => TerrainLookup {
             number: 0,
             lookup: 0,
             first,
             len,
         },
-        Lookup::Missing => lookup(0, 1),
-        Lookup::Absent => lookup(0, 2),
-        Lookup::Refused(n) => lookup(n, 3),
+        Ok(Lookup::Missing) => lookup(0, 1),
+        Ok(Lookup::Absent) => lookup(0, 2),
+        Err(e) => lookup(e.number(), 3),
     }
 }
 
@@ -94,18 +95,18 @@ fn request(number: u32, tag: u32) -> TerrainRequest
     }
 }
 
-fn request_out(answer: Request) -> TerrainRequest
+fn request_out(answer: Result<Option<(u64, usize)>, Refusal>) -> TerrainRequest
     ensures { result ≡ Parts.request_out answer }
 {
     match answer {
-        Request::Settled => request(0, 0),
-        Request::Read(offset, len) => TerrainRequest {
+        Ok(None) => request(0, 0),
+        Ok(Some((offset, len))) => TerrainRequest {
             number: 0,
             request: 1,
             offset,
             len,
         },
-        Request::Refused(n) => request(n, 2),
+        Err(e) => request(e.number(), 2),
     }
 }
 
@@ -118,23 +119,23 @@ fn progress(number: u32, tag: u32) -> TerrainProgress
     }
 }
 
-fn progress_out(answer: Progress) -> TerrainProgress
+fn progress_out(answer: Result<Progress, Refusal>) -> TerrainProgress
     ensures { result ≡ Parts.progress_out answer }
 {
     match answer {
-        Progress::Done => progress(0, 0),
-        Progress::More => progress(0, 1),
-        Progress::Failed(n) => progress(n, 2),
-        Progress::Refused(n) => progress(n, 3),
+        Ok(Progress::Done) => progress(0, 0),
+        Ok(Progress::More) => progress(0, 1),
+        Ok(Progress::Failed(e)) => progress(e.number(), 2),
+        Err(e) => progress(e.number(), 3),
     }
 }
 
-fn clearing_out(answer: Clearing) -> u32
+fn clearing_out(answer: Result<(), Refusal>) -> u32
     ensures { result ≡ Parts.clearing_out answer }
 {
     match answer {
-        Clearing::Done => 0,
-        Clearing::Refused(n) => n,
+        Ok(()) => 0,
+        Err(e) => e.number(),
     }
 }
 
@@ -171,7 +172,7 @@ pub fn terrain_cache_capacity(engine: &[u32; words::WORDS], arena: &[u8]) -> Ter
 {
     let at = held(engine);
     if !at.accepted {
-        return count_out(Count::Refused(12));
+        return count_out(Err(Refusal::BadState));
     }
     count_out(at.cache.capacity(arena))
 }
@@ -181,7 +182,7 @@ pub fn terrain_cache_loads(engine: &[u32; words::WORDS], arena: &[u8]) -> Terrai
 {
     let at = held(engine);
     if !at.accepted {
-        return count_out(Count::Refused(12));
+        return count_out(Err(Refusal::BadState));
     }
     count_out(at.cache.loads(arena))
 }
@@ -197,7 +198,7 @@ pub fn terrain_cache_pages(
 {
     let at = held(engine);
     if !at.accepted {
-        return count_out(Count::Refused(12));
+        return count_out(Err(Refusal::BadState));
     }
     let h = crate::records::header_of(header);
     let k = crate::records::key_of(key);

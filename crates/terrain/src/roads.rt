@@ -9,7 +9,6 @@ ghost use Rattle.terrain.specs.Roads as Roads;
 
 use crate::host::MatchTold;
 use crate::records::{TerrainHeader, TerrainKey, TerrainPoint};
-use cache::MaybeKey;
 use matcher::{
     Answer, Challenger, Current, CurrentRead, Heading, Matched, Matcher, NearKey, NearKeys,
 };
@@ -186,12 +185,10 @@ fn same(a: &[u32], b: &[u32]) -> bool
     if a.len() != b.len() {
         return false;
     }
-    let mut i = 0;
-    while i < a.len() {
+    for i in 0..a.len() {
         if a[i] != b[i] {
             return false;
         }
-        i += 1;
     }
     true
 }
@@ -217,8 +214,8 @@ fn near_key(place: NearKey) -> TerrainKey
 {
     let key = place.key;
     match key {
-        MaybeKey::Nothing => TerrainKey { row: 0, col: 0 },
-        MaybeKey::Key(k) => crate::records::key_out(k),
+        None => TerrainKey { row: 0, col: 0 },
+        Some(k) => crate::records::key_out(k),
     }
 }
 

@@ -4,7 +4,7 @@ ghost use Rattle.terrain.specs.Records as Records;
 ghost use Rattle.terrain.specs.Transects as Transects;
 
 use crate::records::{TerrainHeader, TerrainKey, TerrainPoint};
-use crossing::Crossed;
+use refusal::Refusal;
 
 #[repr(C)]
 #[derive(Clone, Copy)]
@@ -14,22 +14,22 @@ pub struct TerrainCrossed {
     pub segment: u32,
 }
 
-fn crossed_out(answer: Crossed) -> TerrainCrossed
+fn crossed_out(answer: Result<Option<(u16, u32)>, Refusal>) -> TerrainCrossed
     ensures { result ≡ Transects.crossed_out answer }
 {
     match answer {
-        Crossed::At(edge, segment) => TerrainCrossed {
+        Ok(Some((edge, segment))) => TerrainCrossed {
             number: 0,
             edge,
             segment,
         },
-        Crossed::Nothing => TerrainCrossed {
+        Ok(None) => TerrainCrossed {
             number: 256,
             edge: 0,
             segment: 0,
         },
-        Crossed::Refused(n) => TerrainCrossed {
-            number: n,
+        Err(n) => TerrainCrossed {
+            number: n.number(),
             edge: 0,
             segment: 0,
         },

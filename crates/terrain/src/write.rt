@@ -7,7 +7,8 @@ ghost use Rattle.terrain.specs.Records as Records;
 ghost use Rattle.terrain.specs.Write.{written_out};
 
 use crate::records::TerrainKey;
-use writer::Answer;
+use refusal::Refusal;
+use writer::Grid;
 
 // How many bytes were written; or the refusal's number, and 0.
 #[repr(C)]
@@ -17,16 +18,16 @@ pub struct TerrainWritten {
     pub length: u32,
 }
 
-fn written_out(answer: Answer) -> TerrainWritten
+fn written_out(answer: Result<u32, Refusal>) -> TerrainWritten
     ensures { result ≡ written_out answer }
 {
     match answer {
-        Answer::Length(n) => TerrainWritten {
+        Ok(n) => TerrainWritten {
             number: 0,
             length: n,
         },
-        Answer::Refused(k) => TerrainWritten {
-            number: k,
+        Err(refusal) => TerrainWritten {
+            number: refusal.number(),
             length: 0,
         },
     }
@@ -61,5 +62,12 @@ pub fn terrain_write_pack(
     ensures value { result ≡ written_out (PackWritten.pack (PackWritten.given south west size rows cols tiles.now lengths.now) out.old).answer }
     ensures out_after { out.new ≡ (PackWritten.pack (PackWritten.given south west size rows cols tiles.now lengths.now) out.old).out }
 {
-    written_out(writer::pack(south, west, size, rows, cols, tiles, lengths, out))
+    let grid = Grid {
+        south,
+        west,
+        size,
+        rows,
+        cols,
+    };
+    written_out(writer::pack(grid, tiles, lengths, out))
 }

@@ -1,5 +1,6 @@
 -- One call through C, on the words of an engine within its types, is the call of demand 3 on that engine, and leaves the words of what that leaves (`agreed`). The idea: such words are accepted,
 -- and the engine that is read from them is the one whose words they are. A refusal with 12 is one at the interface or the call's own (`twelve_own`).
+use Rattle.std.specs.Prelude.{Some, None, Ok, Err}
 use Prim.Native.Nat.{ℕ}
 use mathlib.Core.Path.{◌≡◌, refl, sym}
 use mathlib.Core.Bool.{Bool, true, false, true≢false}
@@ -8,15 +9,9 @@ use borrow.Author.Tests.{eqb-true}
 use lib.Dec.{eqb, leb}
 use lib.Ieee.{Float}
 use lib.IntN.{ℤ}
-use Rattle.cache.specs.declared.Clearing.{Clearing}
-use Rattle.cache.specs.declared.Clearing.TheVariants as Clearing
-use Rattle.cache.specs.declared.Count.TheVariants as CacheCount'
+use Rattle.refusal.specs.Refusal.{number_of}
 use Rattle.cache.specs.declared.Lookup.{Lookup}
-use Rattle.cache.specs.declared.Lookup.TheVariants as Lookup
 use Rattle.cache.specs.declared.Progress.{Progress}
-use Rattle.cache.specs.declared.Progress.TheVariants as Progress
-use Rattle.cache.specs.declared.Request.{Request}
-use Rattle.cache.specs.declared.Request.TheVariants as Request
 use Rattle.cache_lists.specs.Claims as CacheClaims
 use Rattle.cache_lists.specs.Lists as Cached
 use Rattle.matcher.specs.Calls as Matching
@@ -24,20 +19,14 @@ use Rattle.matcher.specs.Numbers.{number_of_answer}
 use Rattle.matcher.specs.declared.Answer as Near
 use Rattle.matcher.specs.declared.Answer.TheVariants as Near'
 use Rattle.matcher.specs.declared.CurrentRead.{CurrentRead}
-use Rattle.matcher.specs.declared.CurrentRead.TheVariants as CurrentRead
 use Rattle.matcher.specs.declared.Outcome.TheVariants as Matched'
 use Rattle.predict.specs.declared.Outcome.TheVariants as Road'
 use Rattle.engine.specs.Calls as Engines
 use Rattle.engine.specs.declared.Count.{Count}
-use Rattle.engine.specs.declared.Count.TheVariants as Count
 use Rattle.engine.specs.declared.HeadingRead.{HeadingRead}
-use Rattle.engine.specs.declared.HeadingRead.TheVariants as HeadingRead
 use Rattle.engine.specs.declared.Known.{Known}
-use Rattle.engine.specs.declared.Known.TheVariants as Known
 use Rattle.engine.specs.declared.Status.{Status}
-use Rattle.engine.specs.declared.Status.TheVariants as Status
 use Rattle.engine.specs.declared.Taken.{Taken}
-use Rattle.engine.specs.declared.Taken.TheVariants as Taken
 use Rattle.terrain.specs.Host as Host
 use Rattle.terrain.specs.Roads as Roads
 use Rattle.words.specs.Words.{words, engine_of, accepted}
@@ -210,21 +199,21 @@ not_zero : {A : Type 0} → eqb 0 12 ≡ true → A
 not_zero e = absurd (true≢false (sym e))
 
 cached_twelve : (a : Cached.Answer) → is_twelve (cache_told a) ≡ true → CacheClaims.number a ≡ 12
-cached_twelve (Cached.counted (CacheCount'.Is n)) e = not_zero e
-cached_twelve (Cached.counted (CacheCount'.Refused n)) e = twelve n e
-cached_twelve (Cached.found (Lookup.Ready first len)) e = not_zero e
-cached_twelve (Cached.found Lookup.Missing) e = not_zero e
-cached_twelve (Cached.found Lookup.Absent) e = not_zero e
-cached_twelve (Cached.found (Lookup.Refused n)) e = twelve n e
-cached_twelve (Cached.asked Request.Settled) e = not_zero e
-cached_twelve (Cached.asked (Request.Read offset len)) e = not_zero e
-cached_twelve (Cached.asked (Request.Refused n)) e = twelve n e
-cached_twelve (Cached.stepped Progress.Done) e = not_zero e
-cached_twelve (Cached.stepped Progress.More) e = not_zero e
-cached_twelve (Cached.stepped (Progress.Failed n)) e = absurd (true≢false (sym e))
-cached_twelve (Cached.stepped (Progress.Refused n)) e = twelve n e
-cached_twelve (Cached.cleared Clearing.Done) e = not_zero e
-cached_twelve (Cached.cleared (Clearing.Refused n)) e = twelve n e
+cached_twelve (Cached.counted (Ok n)) e = not_zero e
+cached_twelve (Cached.counted (Err n)) e = twelve (number_of n) e
+cached_twelve (Cached.found (Ok (Lookup.Ready first len))) e = not_zero e
+cached_twelve (Cached.found (Ok Lookup.Missing)) e = not_zero e
+cached_twelve (Cached.found (Ok Lookup.Absent)) e = not_zero e
+cached_twelve (Cached.found (Err n)) e = twelve (number_of n) e
+cached_twelve (Cached.asked (Ok None)) e = not_zero e
+cached_twelve (Cached.asked (Ok (Some (offset, len)))) e = not_zero e
+cached_twelve (Cached.asked (Err n)) e = twelve (number_of n) e
+cached_twelve (Cached.stepped (Ok Progress.Done)) e = not_zero e
+cached_twelve (Cached.stepped (Ok Progress.More)) e = not_zero e
+cached_twelve (Cached.stepped (Ok (Progress.Failed n))) e = absurd (true≢false (sym e))
+cached_twelve (Cached.stepped (Err n)) e = twelve (number_of n) e
+cached_twelve (Cached.cleared (Ok tt)) e = not_zero e
+cached_twelve (Cached.cleared (Err n)) e = twelve (number_of n) e
 
 answer_twelve : (a : Answer) → is_twelve (answer_told a) ≡ true → number a ≡ 12
 answer_twelve (Direct.taken Taken.Done) e = not_zero e

@@ -9,12 +9,10 @@ use borrow.Author.Tests.{ltb-false}
 use lib.Dec.{eqb, ltb, leb}
 use lib.ListN.{length, set, take, drop, replicate, length-set, length-replicate}
 use lib.Seq.{paste}
+use Rattle.std.specs.Prelude.{Option, Some, None, Result, Ok, Err}
+use Rattle.refusal.specs.declared.Refusal.{Refusal}
 use Rattle.pack.specs.Grid.{in_grid, locate_of, read}
 use Rattle.pack.specs.declared.Header.{Header}
-use Rattle.pack.specs.declared.Located.{Located}
-use Rattle.pack.specs.declared.Located.TheVariants as Located
-use Rattle.pack.specs.declared.Range.{Range}
-use Rattle.pack.specs.declared.Range.TheVariants as Range
 use Rattle.pack.specs.declared.TileKey.{TileKey}
 use Rattle.cache.specs.Begin.{replaced, begun_at}
 use Rattle.cache.specs.Calls as Calls
@@ -30,27 +28,14 @@ use Rattle.cache.proofs.FromLaws.{next_chunk}
 use Rattle.cache.proofs.VictimLaws.{victim_is}
 use Rattle.cache.specs.declared.Cache.{Cache}
 use Rattle.cache.specs.declared.Cleared.{Cleared}
-use Rattle.cache.specs.declared.Clearing.TheVariants as Clearing
 use Rattle.cache.specs.declared.Loaded.{Loaded}
 use Rattle.cache.specs.declared.Loading.{Loading}
-use Rattle.cache.specs.declared.MaybeKey.{MaybeKey}
-use Rattle.cache.specs.declared.MaybeKey.TheVariants as MaybeKey
-use Rattle.cache.specs.declared.MaybeLoading.{MaybeLoading}
-use Rattle.cache.specs.declared.MaybeLoading.TheVariants as MaybeLoading
 use Rattle.cache.specs.declared.Pages.{Pages}
 use Rattle.cache.specs.declared.Pending.{Pending}
-use Rattle.cache.specs.declared.Pending.TheVariants as Pending
-use Rattle.cache.specs.declared.Request.{Request}
-use Rattle.cache.specs.declared.Request.TheVariants as Request
 use Rattle.cache.specs.declared.Ring.{Ring}
-use Rattle.cache.specs.declared.RingKey.{RingKey}
 use Rattle.cache.specs.declared.Slot.{Slot}
 use Rattle.cache.specs.declared.look.Landing.{Landing}
-use Rattle.cache.specs.declared.look.Landing.TheVariants as Landing
 use Rattle.cache.specs.declared.next.Next.{Next}
-use Rattle.cache.specs.declared.next.Next.TheVariants as Next
-use Rattle.cache.specs.declared.victim.Found.{Found}
-use Rattle.cache.specs.declared.victim.Found.TheVariants as Found
 use Rattle.words.specs.Typed.{Word, Byte, Short, TypedKey, TypedMaybe, TypedSlot, TypedPages, TypedRing, TypedLoading, TypedPending, TypedCache}
 use Rattle.terrain_lists.specs.Calls.{Bytes}
 use Rattle.terrain_lists.proofs.Everywhere.{All, all_set, all_drop, all_take, all_append, all_replicate, all_fill, beyond, length-fill}
@@ -98,15 +83,15 @@ pages_typed g l s u c = record { slots = l; slot = λ (i : ℕ) (h : i < 96). s 
 
 -- ---- the ring
 
-keys_typed : (r : Ring) → TypedRing r → All (λ (p : RingKey). TypedMaybe p.key) empty_place r.keys
-keys_typed r t = beyond (λ (p : RingKey). TypedMaybe p.key) empty_place 64 r.keys t.keys tt t.key
+keys_typed : (r : Ring) → TypedRing r → All (λ (p : Option TileKey). TypedMaybe p) empty_place r.keys
+keys_typed r t = beyond (λ (p : Option TileKey). TypedMaybe p) empty_place 64 r.keys t.keys tt t.key
 
 forgotten_typed : (r : Ring) (key : TileKey) → TypedRing r → TypedKey key → TypedRing (forgotten r key)
 unfolding forgotten
 forgotten_typed r key t k = record {
   keys = length-set r.keys r.next _ ∙ t.keys;
   key = λ (i : ℕ) (h : i < 64).
-      all_set (λ (p : RingKey). TypedMaybe p.key) empty_place r.keys r.next (record { key = MaybeKey.Key key }) (keys_typed r t) k i;
+      all_set (λ (p : Option TileKey). TypedMaybe p) empty_place r.keys r.next (Some key) (keys_typed r t) k i;
   next = omega arith;
 }
 
@@ -138,7 +123,7 @@ forgot_typed c key k t = record {
   pending = withdrawn_typed c.pending;
 }
 
-moved_typed : (c : Cache) (g : Pages) (l : MaybeLoading) → TypedPages g → TypedLoading l → TypedCache c → TypedCache (moved c g l)
+moved_typed : (c : Cache) (g : Pages) (l : Option Loading) → TypedPages g → TypedLoading l → TypedCache c → TypedCache (moved c g l)
 unfolding moved
 moved_typed c g l p q t = record { pages = p; missing = t.missing; loading = q; pending = withdrawn_typed c.pending }
 
@@ -158,13 +143,13 @@ unfolding evicted
 evicted_typed zero first g t = t
 evicted_typed (suc n) first g t = evicted_typed n (first + 1) (evicted_page g first) (page_typed g first t)
 
-without_typed : (x : MaybeLoading) (g : Pages) → TypedPages g → TypedPages (without_run x g)
-without_typed MaybeLoading.Nothing g t = t
-without_typed (MaybeLoading.Tile l) g t = evicted_typed 1 l.slot g t
+without_typed : (x : Option Loading) (g : Pages) → TypedPages g → TypedPages (without_run x g)
+without_typed None g t = t
+without_typed (Some l) g t = evicted_typed 1 l.slot g t
 
 dropped_typed : (c : Cache) → TypedCache c → TypedCache (dropped c)
 unfolding dropped
-dropped_typed c t = moved_typed c (without_run c.loading c.pages) MaybeLoading.Nothing (without_typed c.loading c.pages t.pages) tt t
+dropped_typed c t = moved_typed c (without_run c.loading c.pages) None (without_typed c.loading c.pages t.pages) tt t
 
 -- ---- placing
 
@@ -178,10 +163,10 @@ placed_typed g slot key len s k l t =
     (record { key = tt; len = omega arith; part = s }))
     t.used t.count
 
-victim_small : (g : Pages) (n s : ℕ) → victim g n ≡ Found.At s → g.count ≤ 96
+victim_small : (g : Pages) (n s : ℕ) → victim g n ≡ Some s → g.count ≤ 96
 victim_small g n s e = by (ltb 96 g.count) refl e
   where
-    by : (b : Bool) → ltb 96 g.count ≡ b → cond b Found.Nothing (victim_in g n) ≡ Found.At s → g.count ≤ 96
+    by : (b : Bool) → ltb 96 g.count ≡ b → cond b None (victim_in g n) ≡ Some s → g.count ≤ 96
     by true q e = let z : ◌≡◌ {A = ℕ} 0 1 = cc in absurd (omega arith)
     by false q e = ltb-false 96 g.count q
 
@@ -191,12 +176,12 @@ abbrev In : Loaded → Type 0
 In x = TypedCache x.cache
 
 module _ (key : TileKey) (k : TypedKey key) where
-  begun_typed : (x : Found) (c : Cache) (offset len : ℕ) → victim c.pages (span len) ≡ x → len ≤ 49152 → TypedCache c
+  begun_typed : (x : Option ℕ) (c : Cache) (offset len : ℕ) → victim c.pages (span len) ≡ x → len ≤ 49152 → TypedCache c
       → In (began_at (begun_at c.pages key len x).at c (begun_at c.pages key len x).pages key offset len)
-  begun_typed Found.Nothing c offset len e h t = forgot_typed c key k t
-  begun_typed (Found.At s) c offset len e h t =
+  begun_typed None c offset len e h t = forgot_typed c key k t
+  begun_typed (Some s) c offset len e h t =
       let small : s + span len ≤ 96 = omega (arith, (victim_is c.pages (span len) s e).within, victim_small c.pages (span len) s e) in
-      moved_typed c (replaced c.pages s key len) (MaybeLoading.Tile (new_load key s offset len))
+      moved_typed c (replaced c.pages s key len) (Some (new_load key s offset len))
       (placed_typed (evicted (span len) s c.pages) s key len (omega arith) k (omega arith) (evicted_typed (span len) s c.pages t.pages))
       (k, omega arith) t
 
@@ -206,17 +191,17 @@ module _ (key : TileKey) (k : TypedKey key) where
       either_false In (ltb 49152 len) _ _ (forgot_typed c key k t)
       (λ (e : ltb 49152 len ≡ false). begun_typed (victim c.pages (span len)) c offset len refl (ltb-false 49152 len e) t)
 
-  located_typed : (x : Located) (c : Cache) → TypedCache c → In (located x c key)
-  located_typed Located.NoTile c t = forgot_typed c key k t
-  located_typed (Located.Refused number) c t = t
-  located_typed (Located.Tile offset len) c t = began_typed c offset len t
+  located_typed : (x : Result (Option (ℕ × ℕ)) Refusal) (c : Cache) → TypedCache c → In (located x c key)
+  located_typed (Ok None) c t = forgot_typed c key k t
+  located_typed (Err number) c t = t
+  located_typed (Ok (Some (offset, len))) c t = began_typed c offset len t
 
   entry_typed : (c : Cache) (h : Header) (failure : ℕ) (bs : List ℕ) → TypedCache c → In (entry_step c h key failure bs)
   unfolding entry_step
   entry_typed c h failure bs t =
       either In (eqb failure 0) _ _ (located_typed (locate_of h bs) (dropped c) (dropped_typed c t)) (dropped_typed c t)
 
-module _ (c : Cache) (l : Loading) (e : c.loading ≡ MaybeLoading.Tile l) (t : TypedCache c) where
+module _ (c : Cache) (l : Loading) (e : c.loading ≡ Some l) (t : TypedCache c) where
   load_held : TypedKey l.key × Word l.slot
   load_held = subst TypedLoading e t.loading
 
@@ -248,7 +233,7 @@ pub record TypedAfter (x : After) : Type 0 where
   pub arena : Bytes x.arena
 
 module _ (key : TileKey) (k : TypedKey key) (c : Cache) (t : TypedCache c) (arena : List ℕ) (a : Bytes arena) (h : Header) where
-  chunk_typed : (l : Loading) → c.loading ≡ MaybeLoading.Tile l → (failure : ℕ) (bs : List ℕ) → Bytes bs → TypedAfter (chunk_step c l arena h.tile failure bs)
+  chunk_typed : (l : Loading) → c.loading ≡ Some l → (failure : ℕ) (bs : List ℕ) → Bytes bs → TypedAfter (chunk_step c l arena h.tile failure bs)
   unfolding chunk_step
   chunk_typed l e failure bs b =
       let wrote : Bytes (put arena l.slot l.done bs) = bytes_put arena l.slot l.done bs a b in
@@ -263,7 +248,7 @@ module _ (key : TileKey) (k : TypedKey key) (c : Cache) (t : TypedCache c) (aren
     where
       by : (n : Next) → next_step c key ≡ n → TypedAfter (stepped c n arena h key failure bs)
       by (Next.Ready i) e = record {
-        cache = either In (passes arena i (len_at c i) key h.tile) (done (touched c i)) (refused c 12) (touched_typed c i t) t;
+        cache = either In (passes arena i (len_at c i) key h.tile) (done (touched c i)) (refused c Refusal.BadState) (touched_typed c i t) t;
         arena = a;
       }
       by Next.Missing e = record { cache = t; arena = a }
@@ -282,14 +267,14 @@ module _ (key : TileKey) (k : TypedKey key) (c : Cache) (t : TypedCache c) (aren
   unfolding Calls.load
   load_typed failure bs b = either TypedAfter (cache_ok c h (length arena)) _ _ (tested_typed failure bs b) (record { cache = t; arena = a })
 
-  by_range : (r : Range) (n : ℕ) (pack : List ℕ) → Bytes pack → TypedAfter (Calls.load_by r c arena h key n pack)
-  by_range (Range.At offset) n pack b = load_typed 0 (pack_bytes pack offset n) (bytes_of_pack pack offset n b)
-  by_range (Range.Refused number) n pack b = load_typed 2 [] bytes_none
+  by_range : (r : Result ℕ Refusal) (n : ℕ) (pack : List ℕ) → Bytes pack → TypedAfter (Calls.load_by r c arena h key n pack)
+  by_range (Ok offset) n pack b = load_typed 0 (pack_bytes pack offset n) (bytes_of_pack pack offset n b)
+  by_range (Err number) n pack b = load_typed 2 [] bytes_none
 
-  by_request : (r : Request) (pack : List ℕ) → Bytes pack → TypedAfter (Calls.request_load r c arena h key pack)
-  by_request Request.Settled pack b = load_typed 0 [] bytes_none
-  by_request (Request.Refused number) pack b = record { cache = t; arena = a }
-  by_request (Request.Read offset n) pack b = by_range (read pack offset n) n pack b
+  by_request : (r : Result (Option (ℕ × ℕ)) Refusal) (pack : List ℕ) → Bytes pack → TypedAfter (Calls.request_load r c arena h key pack)
+  by_request (Ok None) pack b = load_typed 0 [] bytes_none
+  by_request (Err number) pack b = record { cache = t; arena = a }
+  by_request (Ok (Some (offset, n))) pack b = by_range (read pack offset n) n pack b
 
   pub load_from_typed : (pack : List ℕ) → Bytes pack → TypedAfter (Calls.load_from c arena h key pack)
   unfolding Calls.load_from
@@ -319,7 +304,7 @@ pub get_typed : (c : Cache) (arena : List ℕ) (h : Header) (key : TileKey) → 
 unfolding Calls.get
 get_typed c arena h key t = by (cache_ok c h (length arena)) (in_grid h key)
   where
-    by : (p q : Bool) → TypedCache (cond p (cond q (got c arena h.tile key) (Calls.got_nothing c 9)) (Calls.got_nothing c 12)).cache
+    by : (p q : Bool) → TypedCache (cond p (cond q (got c arena h.tile key) (Calls.got_nothing c Refusal.OutsideGrid)) (Calls.got_nothing c Refusal.BadState)).cache
     by true true = got_typed c arena h.tile key t
     by true false = t
     by false q = t
@@ -329,7 +314,7 @@ get_typed c arena h key t = by (cache_ok c h (length arena)) (in_grid h key)
 ring_empty : (next : ℕ) → Word next → TypedRing (record { keys = replicate 64 empty_place; next = next })
 ring_empty next w = record {
   keys = length-replicate 64 empty_place;
-  key = λ (i : ℕ) (h : i < 64). all_replicate (λ (p : RingKey). TypedMaybe p.key) empty_place 64 empty_place tt tt i;
+  key = λ (i : ℕ) (h : i < 64). all_replicate (λ (p : Option TileKey). TypedMaybe p) empty_place 64 empty_place tt tt i;
   next = w;
 }
 
@@ -358,6 +343,6 @@ pub clear_typed : (c : Cache) (arena : List ℕ) → TypedCache c → TypedCache
 unfolding Calls.clear
 clear_typed c arena t = by (lent_ok c (length arena))
   where
-    by : (p : Bool) → TypedCache (cond {A = Cleared} p (record { answer = Clearing.Done; cache = cleared c }) (record { answer = Clearing.Refused 12; cache = c })).cache
+    by : (p : Bool) → TypedCache (cond {A = Cleared} p (record { answer = Ok tt; cache = cleared c }) (record { answer = Err Refusal.BadState; cache = c })).cache
     by true = cleared_typed c t
     by false = t

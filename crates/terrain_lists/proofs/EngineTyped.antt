@@ -1,54 +1,42 @@
 -- Each of the engine's calls leaves an engine within its types, and the arena bytes (`fix_typed`, `lost_typed`, `reset_typed`, `step_typed`, `deliver_typed`, `step_from_typed`). The idea: a key
 -- that is needed lies in the grid of a header within its types; a header is read of bytes.
+use Rattle.cache.specs.declared.Loading.{Loading}
 use Prim.Native.Nat.{ℕ, ◌+◌, ◌<◌}
 use mathlib.Core.Path.{◌≡◌, refl}
 use mathlib.Core.Bool.{Bool, true, false, ◌&&◌, cond}
-use mathlib.Core.List.{List, [], ◌∷◌}
+use mathlib.Core.List.{List, []}
 use native.Mathlib.Omega.{arith}
 use borrow.Author.Tests.{ltb-true}
 use lib.Dec.{eqb, ltb}
 use lib.Ieee.{Float}
 use lib.IntN.{pos}
 use lib.ListN.{length, set, replicate, length-replicate}
+use Rattle.std.specs.Prelude.{Option, Some, None, Result, Ok, Err}
+use Rattle.refusal.specs.Refusal.{number_of}
+use Rattle.refusal.specs.declared.Refusal.{Refusal}
 use Rattle.num.proofs.FoldLaws.{up_keeps}
 use Rattle.pack.specs.Bytes.{byte_at, i32_at}
 use Rattle.pack.specs.Grid.{is_point, in_grid, key_of, read}
-use Rattle.pack.specs.Sector as Sector
-use Rattle.pack.specs.Sector.{all_of, is_sum, is_magic, is_version, rules, header_at, parse}
-use Rattle.pack.specs.declared.Answer.{Answer}
-use Rattle.pack.specs.declared.Answer.TheVariants as Answer
+use Rattle.pack.specs.Sector.{header_at, parse}
 use Rattle.pack.specs.declared.Header.{Header}
-use Rattle.pack.specs.declared.Keyed.{Keyed}
-use Rattle.pack.specs.declared.Keyed.TheVariants as Keyed
-use Rattle.pack.specs.declared.Parsed.{Parsed}
-use Rattle.pack.specs.declared.Range.{Range}
-use Rattle.pack.specs.declared.Range.TheVariants as Range
 use Rattle.pack.specs.declared.TileKey.{TileKey}
-use Rattle.pack.proofs.Laws.{u16_below, u32_below}
+use Rattle.pack.proofs.Laws.{parse_accepted, u16_below, u32_below}
 use Rattle.cache.specs.Calls.{load_tested}
 use Rattle.cache.specs.Direct.{look, looked}
 use Rattle.cache.specs.Keys.{same_key}
 use Rattle.cache.specs.State.{fresh}
 use Rattle.cache.specs.Loads.{pack_bytes}
 use Rattle.cache.specs.declared.Cache.{Cache}
-use Rattle.cache.specs.declared.MaybeKey.{MaybeKey}
-use Rattle.cache.specs.declared.MaybeKey.TheVariants as MaybeKey
-use Rattle.cache.specs.declared.MaybeLoading.{MaybeLoading}
-use Rattle.cache.specs.declared.MaybeLoading.TheVariants as MaybeLoading
 use Rattle.cache.specs.declared.Pending.{Pending}
-use Rattle.cache.specs.declared.Pending.TheVariants as Pending
 use Rattle.cache.specs.declared.Progress.{Progress}
-use Rattle.cache.specs.declared.Progress.TheVariants as Progress
 use Rattle.matcher.specs.Gather as Gather
 use Rattle.matcher.specs.Gather.{Run, run_over, updated}
 use Rattle.matcher.specs.declared.Current.{Current}
-use Rattle.matcher.specs.declared.Current.TheVariants as Current
 use Rattle.matcher.specs.declared.Matched.{Matched}
 use Rattle.matcher.specs.declared.Outcome as MatchOutcome
 use Rattle.matcher.specs.declared.Outcome.TheVariants as Found
 use Rattle.matcher.specs.declared.Updated.{Updated}
 use Rattle.matcher.specs.declared.gather.Ending.{Ending}
-use Rattle.matcher.specs.declared.gather.Ending.TheVariants as Ending
 use Rattle.predict.specs.Predict as Predict
 use Rattle.predict.specs.Predict.{Forecast, predict_over, predicted_in}
 use Rattle.predict.specs.declared.Outcome as RoadOutcome
@@ -67,12 +55,9 @@ use Rattle.engine.specs.declared.Engine.{Engine}
 use Rattle.engine.specs.declared.Fix.{Fix}
 use Rattle.engine.specs.declared.Follower.{Follower}
 use Rattle.engine.specs.declared.MaybeFix.{MaybeFix}
-use Rattle.engine.specs.declared.MaybeFix.TheVariants as MaybeFix
 use Rattle.engine.specs.declared.Phase.{Phase}
-use Rattle.engine.specs.declared.Phase.TheVariants as Phase
 use Rattle.engine.specs.declared.Shared.{Shared}
 use Rattle.engine.specs.declared.Status.{Status}
-use Rattle.engine.specs.declared.Status.TheVariants as Status
 use Rattle.engine.specs.declared.Stepped.{Stepped}
 use Rattle.engine_states.proofs.KeptParts.{apart, standing_of}
 use Rattle.engine_states.proofs.MatcherKept as Matchers
@@ -80,7 +65,7 @@ use Rattle.engine_states.proofs.MatcherKept.{look_accepted, PlacedIn, update_nee
 use Rattle.engine_states.proofs.RoadBounds.{RoadIn, predict_in}
 use Rattle.words.specs.Typed.{Byte, Word, Signed, Height, Single, TypedKey, TypedMaybe, TypedHeader, TypedPending, TypedCache, TypedMatched, TypedCurrent, TypedMatcher, TypedShared, TypedFollower, Typed}
 use Rattle.terrain_lists.specs.Calls.{Bytes}
-use Rattle.terrain_lists.proofs.Everywhere.{All, all_set, all_replicate}
+use Rattle.terrain_lists.proofs.Everywhere.{all_set, all_replicate}
 use Rattle.terrain_lists.proofs.Numbers.{signed_read, grid_key}
 use Rattle.terrain_lists.proofs.CacheTyped.{TypedAfter, bytes_none, bytes_of_pack, tested_typed, looked_typed, cleared_typed, fresh_typed}
 use Rattle.terrain_lists.proofs.MatchTyped.{look_bytes, update_typed}
@@ -111,12 +96,8 @@ header_typed s b = record {
   cols = u16_below s b _;
 }
 
-parsed_typed : (s : List ℕ) → Bytes s → TypedHeader (parse s).header
-unfolding parse
-parsed_typed s b =
-    let none : TypedHeader Sector.empty = record { south = omega arith; west = omega arith; rows = omega arith; cols = omega arith } in
-    either (λ (p : Parsed). TypedHeader p.header) (is_sum s) _ _
-    (either (λ (p : Parsed). TypedHeader p.header) (all_of (is_magic s ∷ is_version s ∷ rules (header_at s) ∷ [])) _ _ (header_typed s b) none) none
+parsed_typed : (s : List ℕ) → Bytes s → {h : Header} → parse s ≡ Ok h → TypedHeader h
+parsed_typed s b {h} e = let same : h ≡ header_at s = (parse_accepted s e).1 in rw same (header_typed s b)
 
 sector_bytes : (bs : List ℕ) → Bytes bs → Bytes (sector_of bs)
 unfolding sector_of
@@ -178,17 +159,17 @@ module _ (e : Engine) (t : Typed e) where
   need_done : (f : Follower) → TypedFollower f → TypedFollower (with_due f (needless f.due))
   need_done f u = changed_due f (needless f.due) u (record { need = tt; reloads = u.due.reloads })
 
-  loaded_typed : (x : Progress) (c : Cache) → TypedCache c → Steps (loaded_by x e c)
+  loaded_typed : (x : Result Progress Refusal) (c : Cache) → TypedCache c → Steps (loaded_by x e c)
   unfolding arrived load_failed
-  loaded_typed Progress.Done c u =
+  loaded_typed (Ok Progress.Done) c u =
       ended_typed e c _ t u (failing_typed _ 0 (need_done (counted e.follower) (counted_typed e.follower t.follower)) (omega arith))
-  loaded_typed Progress.More c u = ended_typed e c _ t u (counted_typed e.follower t.follower)
-  loaded_typed (Progress.Failed number) c u =
+  loaded_typed (Ok Progress.More) c u = ended_typed e c _ t u (counted_typed e.follower t.follower)
+  loaded_typed (Ok (Progress.Failed number)) c u =
       let f : TypedFollower (counted e.follower) = counted_typed e.follower t.follower in
       either_true Steps (ltb e.follower.failures 7) _ _
       (λ (h : ltb e.follower.failures 7 ≡ true). ended_typed e c _ t u (failing_typed _ (e.follower.failures + 1) f (omega (arith, ltb-true e.follower.failures 7 h))))
       (record { shared = record { header = t.shared.header; cache = u }; follower = failing_typed _ 8 f (omega arith) })
-  loaded_typed (Progress.Refused number) c u = t
+  loaded_typed (Err number) c u = t
 
   part_typed : (arena : List ℕ) → Bytes arena → (key : TileKey) → TypedKey key → (failure : ℕ) (bs : List ℕ) → Bytes bs → Leaves (part_came e arena key failure bs)
   unfolding part_came
@@ -221,23 +202,22 @@ module _ (e : Engine) (t : Typed e) where
         follower = failing_typed e.follower _ t.follower t.follower.failures;
       }
 
-  by_answer : (x : Answer) (h : Header) → TypedHeader h → Steps (header_parsed x e h)
-  by_answer Answer.Accepted h u = record {
-    shared = phase_typed e.shared Phase.Ready h t.shared u;
+  by_answer : (x : Result Header Refusal) → ((h : Header) → x ≡ Ok h → TypedHeader h) → Steps (header_parsed x e)
+  by_answer (Ok h) u = record {
+    shared = phase_typed e.shared Phase.Ready h t.shared (u h refl);
     follower = failing_typed e.follower 0 t.follower (omega arith);
   }
-  by_answer (Answer.Refused number) h u = failed_typed number
+  by_answer (Err refusal) u = failed_typed (number_of refusal)
 
   came_typed : (failure : ℕ) (bs : List ℕ) → Bytes bs → Steps (header_came e failure bs)
   unfolding header_came
   came_typed failure bs b =
-      let p : Parsed = parse (sector_of bs) in
-      either Steps (eqb failure 0) _ _ (by_answer p.answer p.header (parsed_typed (sector_of bs) (sector_bytes bs b))) (failed_typed failure)
+      either Steps (eqb failure 0) _ _ (by_answer (parse (sector_of bs)) (λ h q. parsed_typed (sector_of bs) (sector_bytes bs b) q)) (failed_typed failure)
 
   module _ (arena : List ℕ) (a : Bytes arena) (failure : ℕ) (bs : List ℕ) (b : Bytes bs) where
-    need_typed : (x : MaybeKey) → TypedMaybe x → Leaves (need_came_by x e arena failure bs)
-    need_typed MaybeKey.Nothing k = record { engine = t; arena = a }
-    need_typed (MaybeKey.Key key) k = part_typed arena a key k failure bs b
+    need_typed : (x : Option TileKey) → TypedMaybe x → Leaves (need_came_by x e arena failure bs)
+    need_typed None k = record { engine = t; arena = a }
+    need_typed (Some key) k = part_typed arena a key k failure bs b
 
     open_typed : (x : Pending) → Leaves (delivered_by x e arena failure bs)
     open_typed Pending.Nothing = record { engine = t; arena = a }
@@ -324,12 +304,11 @@ module _ (e : Engine) (t : Typed e) (arena : List ℕ) (a : Bytes arena) where
     due_typed Current.Nothing fix m p =
         ended_typed e e.shared.cache _ t cached (changed_due f (road_off f.due) u (record { need = u.due.need; reloads = u.due.reloads }))
 
-    at_typed : (x : Keyed) (fix : Fix) → PlacedIn e.shared.header f.matcher.current → Steps (at_fix_by x e arena f fix)
-    at_typed (Keyed.In key) fix p =
+    at_typed : (x : Option TileKey) (fix : Fix) → PlacedIn e.shared.header f.matcher.current → Steps (at_fix_by x e arena f fix)
+    at_typed (Some key) fix p =
         either Steps f.due.matching _ _ (match_typed fix)
         (either Steps f.due.road _ _ (due_typed f.matcher.current fix u.matcher.current p) (ended_typed e e.shared.cache f t cached u))
-    at_typed Keyed.Outside fix p = ended_typed e e.shared.cache _ t cached (off_map_typed f u fix)
-    at_typed (Keyed.Refused number) fix p = ended_typed e e.shared.cache _ t cached (off_map_typed f u fix)
+    at_typed None fix p = ended_typed e e.shared.cache _ t cached (off_map_typed f u fix)
 
     work_typed : (x : MaybeFix) → PlacedIn e.shared.header f.matcher.current → Steps (worked_by x e arena f)
     unfolding at_fix
@@ -341,9 +320,9 @@ module _ (e : Engine) (t : Typed e) (arena : List ℕ) (a : Bytes arena) where
   opened_typed : (p : Pending) → TypedPending p → Steps (opened e p)
   opened_typed p q = record { shared = record { header = t.shared.header; cache = pending_typed e.shared.cache p cached q }; follower = t.follower }
 
-  pending_for_lem : (x : MaybeLoading) (key : TileKey) → TypedKey key → TypedPending (pending_for x key)
-  pending_for_lem MaybeLoading.Nothing key k = k
-  pending_for_lem (MaybeLoading.Tile l) key k = either TypedPending (same_key l.key key) Pending.Chunk (Pending.Entry key) tt k
+  pending_for_lem : (x : Option Loading) (key : TileKey) → TypedKey key → TypedPending (pending_for x key)
+  pending_for_lem None key k = k
+  pending_for_lem (Some l) key k = either TypedPending (same_key l.key key) Pending.Chunk (Pending.Entry key) tt k
 
   needed_typed : (key : TileKey) → TypedKey key → Steps (need_step e arena key)
   unfolding need_step
@@ -352,10 +331,10 @@ module _ (e : Engine) (t : Typed e) (arena : List ℕ) (a : Bytes arena) where
       either Steps (awaits_read x.answer) _ _ (opened_typed _ (pending_for_lem e.shared.cache.loading key k))
       (loaded_typed e t x.answer x.cache (tested_typed key k e.shared.cache cached arena a e.shared.header 0 [] bytes_none).cache)
 
-  ready_typed : (x : MaybeKey) → TypedMaybe x → PlacedIn e.shared.header e.follower.matcher.current → Steps (ready_by x e arena)
+  ready_typed : (x : Option TileKey) → TypedMaybe x → PlacedIn e.shared.header e.follower.matcher.current → Steps (ready_by x e arena)
   unfolding worked
-  ready_typed (MaybeKey.Key key) k p = needed_typed key k
-  ready_typed MaybeKey.Nothing k p = work_typed (counted e.follower) (counted_typed e.follower t.follower) e.follower.sight.fix p
+  ready_typed (Some key) k p = needed_typed key k
+  ready_typed None k p = work_typed (counted e.follower) (counted_typed e.follower t.follower) e.follower.sight.fix p
 
   module _ (ok : engine_ok e (length arena) ≡ true) where
     started_typed : (x : Phase) → e.shared.phase ≡ x → Steps (started_by x e arena)
@@ -380,9 +359,9 @@ module _ (e : Engine) (t : Typed e) (arena : List ℕ) (a : Bytes arena) where
 -- ---- over a lent pack
 
 module _ (arena : List ℕ) (a : Bytes arena) (pack : List ℕ) (b : Bytes pack) where
-  answered_typed : (x : Range) (e : Engine) → Typed e → (len : ℕ) → Leaves (Calls.answered_by x e arena len pack)
-  answered_typed (Range.At at) e t len = deliver_typed e t arena a 0 (pack_bytes pack at len) (bytes_of_pack pack at len b)
-  answered_typed (Range.Refused number) e t len = deliver_typed e t arena a 2 [] bytes_none
+  answered_typed : (x : Result ℕ Refusal) (e : Engine) → Typed e → (len : ℕ) → Leaves (Calls.answered_by x e arena len pack)
+  answered_typed (Ok at) e t len = deliver_typed e t arena a 0 (pack_bytes pack at len) (bytes_of_pack pack at len b)
+  answered_typed (Err number) e t len = deliver_typed e t arena a 2 [] bytes_none
 
   from_typed : (x : Status) (s : Stepped) → Steps s → Leaves (Calls.step_from_by x s arena pack)
   unfolding Calls.answered_from

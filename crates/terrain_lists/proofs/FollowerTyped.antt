@@ -1,5 +1,6 @@
 -- What the engine holds beside the cache stays within its types: the fixes and the heading (`seen_typed`), what is due, and the road that is published or emptied. The idea: a heading is a bearing
 -- or the one before, and a road's numbers are its match's and its prediction's.
+use Rattle.std.specs.Prelude.{Option, Some, None}
 use Prim.Native.Nat.{ℕ, ◌+◌, ◌-◌, ◌<◌, ◌≤◌}
 use mathlib.Core.Path.{◌≡◌, ◌∙◌}
 use mathlib.Core.Bool.{Bool, true}
@@ -15,17 +16,12 @@ use Rattle.pack.specs.declared.TileKey.{TileKey}
 use Rattle.angle.specs.Cosine.{lon_scale_um}
 use Rattle.geo.specs.Flat.{whole, metres_of}
 use Rattle.geo.specs.declared.Point.{Point}
-use Rattle.cache.specs.declared.victim.Found.{Found}
-use Rattle.cache.specs.declared.victim.Found.TheVariants as Found
 use Rattle.matcher.specs.Calls as Matching
 use Rattle.matcher.specs.declared.Current.{Current}
-use Rattle.matcher.specs.declared.Current.TheVariants as Current
 use Rattle.matcher.specs.declared.Heading.{Heading}
-use Rattle.matcher.specs.declared.Heading.TheVariants as Heading
 use Rattle.matcher.specs.declared.Matched.{Matched}
 use Rattle.matcher.specs.declared.Matcher.{Matcher}
 use Rattle.predict.specs.declared.End.{End}
-use Rattle.predict.specs.declared.End.TheVariants as End
 use Rattle.predict.specs.declared.Prediction.{Prediction}
 use Rattle.engine.specs.Fixes as Fixes
 use Rattle.engine.specs.Fixes.{no_point, shifted, push, moved_from, place_of, course_by, course_of, seen, is_same_place}
@@ -85,15 +81,15 @@ east_single : (p o : Point) (lon_um : ℕ) → Single (metres_of p o lon_um).eas
 unfolding metres_of
 east_single p o lon_um = mul-fits binary32 _ _
 
-course_typed : (x : Found) (s : Sight) (fix : Fix) (lon_um : ℕ) → TypedHeading s.heading → TypedHeading (course_by x s fix lon_um).heading
-course_typed Found.Nothing s fix lon_um t = t
-course_typed (Found.At i) s fix lon_um t = single_bearing _ _ (east_single (place_of fix) (Fixes.place_at s.history i) lon_um)
+course_typed : (x : Option ℕ) (s : Sight) (fix : Fix) (lon_um : ℕ) → TypedHeading s.heading → TypedHeading (course_by x s fix lon_um).heading
+course_typed None s fix lon_um t = t
+course_typed (Some i) s fix lon_um t = single_bearing _ _ (east_single (place_of fix) (Fixes.place_at s.history i) lon_um)
 
 seen_typed : (s : Sight) (fix : Fix) → TypedSight s → Signed fix.lat → Signed fix.lon → TypedSight (seen s fix)
 unfolding seen course_of
 seen_typed s fix t lat lon =
     let lon_um = lon_scale_um fix.lat in
-    let x : Found = moved_from s.history (place_of fix) lon_um in
+    let x : Option ℕ = moved_from s.history (place_of fix) lon_um in
     record {
       fix = (lat, lon);
       history = push_typed s.history (place_of fix) t.history (lat, lon);

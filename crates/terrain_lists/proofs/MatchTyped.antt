@@ -1,5 +1,6 @@
 -- A match leaves a matcher within its types, over a look that answers bytes (`update_typed`). The idea: a candidate's numbers are read of the tile's bytes or are results of float operations; the
 -- match is made of a candidate, and so is a challenger that is new.
+use Rattle.std.proofs.Common.{Option, Some, None}
 use Prim.Native.Nat.{ℕ, ◌+◌, ◌*◌, ◌<◌, ◌≤◌}
 use mathlib.Core.Path.{◌≡◌, refl, subst}
 use mathlib.Core.Bool.{Bool, true, false, ◌&&◌, ◌||◌, not, cond}
@@ -27,12 +28,7 @@ use Rattle.geo.specs.declared.Projected.{Projected}
 use Rattle.cache.specs.Direct.{Look, ready, missing, absent, stale, look_at, look}
 use Rattle.cache.specs.Lookups.{lands_on, run_bytes, passes, len_at}
 use Rattle.cache.specs.declared.Cache.{Cache}
-use Rattle.cache.specs.declared.MaybeKey.{MaybeKey}
-use Rattle.cache.specs.declared.MaybeKey.TheVariants as MaybeKey
 use Rattle.cache.specs.declared.look.Landing.{Landing}
-use Rattle.cache.specs.declared.look.Landing.TheVariants as Landing
-use Rattle.cache.specs.declared.victim.Found.{Found}
-use Rattle.cache.specs.declared.victim.Found.TheVariants as Found
 use Rattle.matcher.specs.Calls as Calls
 use Rattle.matcher.specs.Choose.{least_of, same_edge, kept_at, beaten, contested_by, contested, held, kept_by, chosen_by, past_by, past_node}
 use Rattle.matcher.specs.Gather.{Run, look_step, key_step, run_step, no_run, run_to, matching_by, query_of, run_over, update_over}
@@ -44,11 +40,7 @@ use Rattle.matcher.specs.Settle.{confidence, direction, same_run, run_from, ridd
 use Rattle.matcher.specs.Tile.{kept_with, edge_step, search}
 use Rattle.matcher.specs.declared.Candidate.{Candidate}
 use Rattle.matcher.specs.declared.Challenger.{Challenger}
-use Rattle.matcher.specs.declared.Challenger.TheVariants as Challenger
 use Rattle.matcher.specs.declared.Current.{Current}
-use Rattle.matcher.specs.declared.Current.TheVariants as Current
-use Rattle.matcher.specs.declared.Forward.{Forward}
-use Rattle.matcher.specs.declared.Forward.TheVariants as Forward
 use Rattle.matcher.specs.declared.Heading.{Heading}
 use Rattle.matcher.specs.declared.Kept.{Kept}
 use Rattle.matcher.specs.declared.Matched.{Matched}
@@ -58,7 +50,6 @@ use Rattle.matcher.specs.declared.Query.{Query}
 use Rattle.matcher.specs.declared.choose.Choice.{Choice}
 use Rattle.matcher.specs.declared.choose.Which.TheVariants as Which
 use Rattle.matcher.specs.declared.gather.Ending.{Ending}
-use Rattle.matcher.specs.declared.gather.Ending.TheVariants as Ending
 use Rattle.matcher.proofs.Chosen.{IsBelow, least_below, chosen_kept}
 use Rattle.words.specs.Typed.{Byte, Signed, Single, TypedId, TypedMatched, TypedCurrent, TypedChallenger, TypedMatcher}
 use Rattle.terrain_lists.specs.Calls.{Bytes}
@@ -213,11 +204,11 @@ module _ (at : TileKey → Look) (bytes : BytesLook at) (q : Query) where
   look_typed absent r key e t = t
   look_typed stale r key e t = t
 
-  key_typed : (m : MaybeKey) (r : Run) → KeptTyped r.kept → KeptTyped (key_step m at r q).kept
-  key_typed MaybeKey.Nothing r t = t
-  key_typed (MaybeKey.Key key) r t = look_typed (at key) r key refl t
+  key_typed : (m : Option TileKey) (r : Run) → KeptTyped r.kept → KeptTyped (key_step m at r q).kept
+  key_typed None r t = t
+  key_typed (Some key) r t = look_typed (at key) r key refl t
 
-  step_typed : (end : Ending) (m : MaybeKey) (r : Run) → KeptTyped r.kept → KeptTyped (run_step end m at r q).kept
+  step_typed : (end : Ending) (m : Option TileKey) (r : Run) → KeptTyped r.kept → KeptTyped (run_step end m at r q).kept
   step_typed Ending.All m r t = key_typed m r t
   step_typed (Ending.Need key) m r t = t
   step_typed Ending.Stale m r t = t
@@ -243,10 +234,10 @@ contested_typed n top kept t = by (ltb n 2) refl
     by false e = tt
 
 module _ (k : Kept) (top : Candidate) (t : TypedCandidate top) (was : Challenger) (w : TypedChallenger was) where
-  kept_faces : (x : Found) (m : Matched) → Faces (kept_by x k top m was)
+  kept_faces : (x : Option ℕ) (m : Matched) → Faces (kept_by x k top m was)
   unfolding held contested
-  kept_faces Found.Nothing m = w
-  kept_faces (Found.At i) m =
+  kept_faces None m = w
+  kept_faces (Some i) m =
       either Faces (top.joined && not (same_edge top m)) _ _ tt
       (either Faces (same_edge top m || le (candidate_in k i).cost (add binary32 top.cost (whole 1))) _ _ tt
       (contested_typed (beaten was top) top (candidate_in k i) t))
@@ -255,9 +246,9 @@ module _ (k : Kept) (top : Candidate) (t : TypedCandidate top) (was : Challenger
   chosen_faces Current.Nothing = w
   chosen_faces (Current.Is m) = kept_faces (kept_at k m) m
 
-past_faces : (x : Found) (choice : Choice) (k : Kept) → Faces choice → Faces (past_by x choice k)
-past_faces Found.Nothing choice k t = t
-past_faces (Found.At i) choice k t = tt
+past_faces : (x : Option ℕ) (choice : Choice) (k : Kept) → Faces choice → Faces (past_by x choice k)
+past_faces None choice k t = t
+past_faces (Some i) choice k t = tt
 
 node_faces : (choice : Choice) (k : Kept) → Faces choice → Faces (past_node choice k)
 unfolding past_node
@@ -267,16 +258,16 @@ node_faces choice k t =
 
 -- ---- the matcher afterwards
 
-ridden_single : (forward : Forward) (along from : Float) → Single (ridden forward along from)
-ridden_single Forward.Unknown along from = single_whole 0
-ridden_single (Forward.Is b) along from =
+ridden_single : (forward : Option Bool) (along from : Float) → Single (ridden forward along from)
+ridden_single None along from = single_whole 0
+ridden_single (Some b) along from =
     single_max _ (whole 0) (cond-fits binary32 b _ _ (sub-fits binary32 along from) (sub-fits binary32 from along)) (single_whole 0)
 
 settled_typed : (m : Matcher) (k : Kept) (choice : Choice) (heading : Heading) → TypedMatcher m → TypedCandidate choice.chosen → Faces choice
     → TypedMatcher (settled m k choice heading)
 unfolding settled confidence
 settled_typed m k choice heading t c f =
-    let forward : Forward = direction choice.chosen.found m.current in
+    let forward : Option Bool = direction choice.chosen.found m.current in
     let from : Single (run_from m choice.chosen forward) = cond-fits binary32 (same_run m.current choice.chosen.found forward) _ _ t.run c.along in
     record {
       current = record {
@@ -312,10 +303,10 @@ missed_typed m t = record {
   run = t.run;
 }
 
-matched_typed : (x : Found) (m : Matcher) (k : Kept) (heading : Heading) → KeptTyped k → IsBelow k.len x → TypedMatcher m → TypedMatcher (matched_by x m k heading)
+matched_typed : (x : Option ℕ) (m : Matcher) (k : Kept) (heading : Heading) → KeptTyped k → IsBelow k.len x → TypedMatcher m → TypedMatcher (matched_by x m k heading)
 unfolding KeptTyped
-matched_typed Found.Nothing m k heading all below t = missed_typed m t
-matched_typed (Found.At i) m k heading all below t =
+matched_typed None m k heading all below t = missed_typed m t
+matched_typed (Some i) m k heading all below t =
     settled_typed m k (past_node (chosen_by m.current k (candidate_in k i) m.challenger) k) heading t
     (chosen_kept TypedCandidate k (λ (j : ℕ) (h : j < k.len). all j) m.current m.challenger i below)
     (node_faces (chosen_by m.current k (candidate_in k i) m.challenger) k (chosen_faces k (candidate_in k i) (all i) m.challenger t.challenger m.current))

@@ -1,4 +1,5 @@
 -- Numbers within their types: what the operations give is a single float, what is read of bytes has its bits, a key of the grid has 16, and a held height 32.
+use Rattle.refusal.specs.declared.Refusal.{Refusal}
 use Prim.Native.Nat.{ℕ, zero, suc, ◌+◌, ◌-◌, ◌*◌, ◌/◌, ◌^◌, ◌<◌, ◌≤◌, compare}
 use mathlib.Core.Path.{◌≡◌, refl}
 use mathlib.Core.Bool.{Bool, true, false, ◌&&◌, cond}
@@ -8,13 +9,12 @@ use lib.IntN.{ℤ, pos, negsuc}
 use lib.Ieee.{Float, nan, inf, fin, binary32, is_nan, lt, eq, mul, units, odd, size, nearest, up, down}
 use lib.Ieee.Fits.{odd-fits, cond-fits, nan-fits, inf-fits, add-fits, of_int-fits, round-fits, nearest-le, kept-lt}
 use borrow.Author.Tests.{ltb-true, ltb-false}
+use Rattle.std.specs.Prelude.{Ok, Err}
 use Rattle.num.specs.Cast.{low16, low_bits}
 use Rattle.num.specs.Order as Order
 use Rattle.num.specs.Root.{square_root, near_root, whole_root, square}
 use Rattle.angle.specs.Bearing as Bearing
 use Rattle.geo.specs.Flat.{whole, length_of, bearing_of, figure_of}
-use Rattle.angle.specs.declared.Degrees.{Degrees}
-use Rattle.angle.specs.declared.Degrees.TheVariants as Degrees
 use Rattle.pack.specs.Bytes.{signed32}
 use Rattle.pack.specs.Grid.{in_grid}
 use Rattle.pack.specs.declared.Header.{Header}
@@ -72,7 +72,7 @@ degrees_single east north h =
     cond-fits binary32 (eq east Bearing.zero) _ _ (cond-fits binary32 (Order.is_sign_negative north) _ _ (of_int-fits binary32 (pos 180)) h)
     (round-fits binary32 false (Bearing.angle east north) Bearing.degree)
 
-figure_single : (b : Bool) (d : Float) → Single d → Single (figure_of (cond b (Degrees.At d) (Degrees.Refused 8)))
+figure_single : (b : Bool) (d : Float) → Single d → Single (figure_of (cond b (Ok d) (Err Refusal.OutOfRange)))
 figure_single true d h = h
 figure_single false d h = single_whole 0
 

@@ -1,6 +1,9 @@
 -- A refused call of a part through C leaves the engine's words, the arena and a matcher's words as they were (`get_keeps`, `clear_keeps`, `load_keeps`, `load_from_keeps`, `update_keeps`,
--- `predict_keeps`; those of the engine's calls are crate terrain's KeepLaws). A road that is refused with 10 has moved clock and ages, as document 01 says. The idea: where words are no engine's it is
+-- `predict_keeps`; those of the engine's calls are crate terrain's KeepLaws). A road that is refused with Refusal.BadStart has moved clock and ages, as document 01 says. The idea: where words are no engine's it is
 -- so by definition; else the library's own refused call leaves the cache, and the words of an engine with its own cache are the engine's words.
+use Rattle.std.specs.Prelude.{Result, Ok, Err}
+use Rattle.refusal.specs.declared.Refusal.{Refusal}
+use Rattle.std.proofs.Common.{Option, Some, None}
 use Prim.Native.Nat.{ℕ, ◌+◌}
 use mathlib.Core.Path.{◌≡◌, refl, ap, ◌∙◌}
 use mathlib.Core.Bool.{Bool, true, false, ◌&&◌, not, cond}
@@ -14,10 +17,6 @@ use lib.IntN.{ℤ, pos}
 use lib.ListN.{length}
 use Rattle.pack.specs.Grid.{in_grid, is_point, locate_of, read}
 use Rattle.pack.specs.declared.Header.{Header}
-use Rattle.pack.specs.declared.Located.{Located}
-use Rattle.pack.specs.declared.Located.TheVariants as Located
-use Rattle.pack.specs.declared.Range.{Range}
-use Rattle.pack.specs.declared.Range.TheVariants as Range
 use Rattle.pack.specs.declared.TileKey.{TileKey}
 use Rattle.geo.specs.declared.Point.{Point}
 use Rattle.cache.specs.Begin.{begun}
@@ -29,23 +28,13 @@ use Rattle.cache.specs.Reader.{Reader, plain}
 use Rattle.cache.specs.State.{lent_ok, cache_ok, cleared}
 use Rattle.cache.specs.declared.Cache.{Cache}
 use Rattle.cache.specs.declared.Cleared.{Cleared}
-use Rattle.cache.specs.declared.Clearing.{Clearing}
-use Rattle.cache.specs.declared.Clearing.TheVariants as Clearing
 use Rattle.cache.specs.declared.Got.{Got}
 use Rattle.cache.specs.declared.Loaded.{Loaded}
 use Rattle.cache.specs.declared.Lookup.{Lookup}
-use Rattle.cache.specs.declared.Lookup.TheVariants as Lookup
 use Rattle.cache.specs.declared.Pages.{Pages}
 use Rattle.cache.specs.declared.Progress.{Progress}
-use Rattle.cache.specs.declared.Progress.TheVariants as Progress
-use Rattle.cache.specs.declared.Request.{Request}
-use Rattle.cache.specs.declared.Request.TheVariants as Request
 use Rattle.cache.specs.declared.look.Landing.{Landing}
-use Rattle.cache.specs.declared.look.Landing.TheVariants as Landing
 use Rattle.cache.specs.declared.next.Next.{Next}
-use Rattle.cache.specs.declared.next.Next.TheVariants as Next
-use Rattle.cache.specs.declared.victim.Found.{Found}
-use Rattle.cache.specs.declared.victim.Found.TheVariants as Found
 use Rattle.tile.specs.Layout as Layout
 use Rattle.tile.specs.declared.Edge.{Edge}
 use Rattle.geo.specs.Flat.{whole}
@@ -56,9 +45,6 @@ use Rattle.matcher.specs.Score.{same_id}
 use Rattle.matcher.specs.Settle.{matched}
 use Rattle.matcher.specs.State as Matchers
 use Rattle.matcher.specs.declared.Current.{Current}
-use Rattle.matcher.specs.declared.Current.TheVariants as Current
-use Rattle.matcher.specs.declared.Forward.{Forward}
-use Rattle.matcher.specs.declared.Forward.TheVariants as Forward
 use Rattle.matcher.specs.declared.Heading.{Heading}
 use Rattle.matcher.specs.declared.Kept.{Kept}
 use Rattle.matcher.specs.declared.Matched.{Matched}
@@ -67,7 +53,6 @@ use Rattle.matcher.specs.declared.Outcome as Matching'
 use Rattle.matcher.specs.declared.Outcome.TheVariants as Match
 use Rattle.matcher.specs.declared.Updated.{Updated}
 use Rattle.matcher.specs.declared.gather.Ending.{Ending}
-use Rattle.matcher.specs.declared.gather.Ending.TheVariants as Ending
 use Rattle.predict.specs.Predict as Predict
 use Rattle.predict.specs.Meets.{budget}
 use Rattle.predict.specs.Ridden.{no_mark, ridden}
@@ -97,11 +82,11 @@ use Rattle.terrain_lists.proofs.Either.{either}
 -- ---- the library's own refused calls
 
 -- a lookup
-abbrev GotSame : Cache → Lookup → Cache → Type 0
-GotSame c (Lookup.Refused n) d = d ≡ c
-GotSame c (Lookup.Ready first len) d = Unit
-GotSame c Lookup.Missing d = Unit
-GotSame c Lookup.Absent d = Unit
+abbrev GotSame : Cache → Result Lookup Refusal → Cache → Type 0
+GotSame c (Err n) d = d ≡ c
+GotSame c (Ok (Lookup.Ready first len)) d = Unit
+GotSame c (Ok Lookup.Missing) d = Unit
+GotSame c (Ok Lookup.Absent) d = Unit
 
 module _ (c : Cache) (arena : List ℕ) where
   abbrev Gets : Got → Type 0
@@ -122,30 +107,30 @@ module _ (c : Cache) (arena : List ℕ) where
       either Gets (cache_ok c h (length arena)) _ _ (either Gets (in_grid h key) _ _ (at_same (lands_on c key) h.tile key) refl) refl
 
   -- a step of a load
-  abbrev LoadSame : Progress → After → Type 0
-  LoadSame (Progress.Refused n) x = (x.cache ≡ c) × (x.arena ≡ arena)
-  LoadSame Progress.Done x = Unit
-  LoadSame Progress.More x = Unit
-  LoadSame (Progress.Failed n) x = Unit
+  abbrev LoadSame : Result Progress Refusal → After → Type 0
+  LoadSame (Err n) x = (x.cache ≡ c) × (x.arena ≡ arena)
+  LoadSame (Ok Progress.Done) x = Unit
+  LoadSame (Ok Progress.More) x = Unit
+  LoadSame (Ok (Progress.Failed n)) x = Unit
 
   abbrev Loaded' : After → Type 0
   Loaded' x = LoadSame x.answer x
 
-  began_same : (x : Found) (d : Cache) (g : Pages) (key : TileKey) (offset len : ℕ) → Loaded' (over (began_at x d g key offset len) arena)
-  began_same Found.Nothing d g key offset len = tt
-  began_same (Found.At s) d g key offset len = tt
+  began_same : (x : Option ℕ) (d : Cache) (g : Pages) (key : TileKey) (offset len : ℕ) → Loaded' (over (began_at x d g key offset len) arena)
+  began_same None d g key offset len = tt
+  began_same (Some s) d g key offset len = tt
 
-  located_same : (x : Located) (d : Cache) (key : TileKey) → Loaded' (over (located x d key) arena)
+  located_same : (x : Result (Option (ℕ × ℕ)) Refusal) (d : Cache) (key : TileKey) → Loaded' (over (located x d key) arena)
   unfolding began
-  located_same Located.NoTile d key = tt
-  located_same (Located.Refused n) d key = tt
-  located_same (Located.Tile offset len) d key =
+  located_same (Ok None) d key = tt
+  located_same (Err n) d key = tt
+  located_same (Ok (Some (offset, len))) d key =
       either (λ (x : Loaded). Loaded' (over x arena)) (ltb 49152 len) _ _ tt (began_same (begun d.pages key len).at d (begun d.pages key len).pages key offset len)
 
   step_same : (n : Next) (h : Header) (key : TileKey) (failure : ℕ) (bs : List ℕ) → Loaded' (stepped c n arena h key failure bs)
   unfolding entry_step chunk_step
   step_same (Next.Ready i) h key failure bs =
-      either (λ (x : Loaded). Loaded' (over x arena)) (passes arena i (len_at c i) key h.tile) (done (touched c i)) (refused c 12) tt (refl, refl)
+      either (λ (x : Loaded). Loaded' (over x arena)) (passes arena i (len_at c i) key h.tile) (done (touched c i)) (refused c Refusal.BadState) tt (refl, refl)
   step_same Next.Missing h key failure bs = tt
   step_same Next.NoPages h key failure bs = tt
   step_same Next.Entry h key failure bs =
@@ -161,14 +146,14 @@ module _ (c : Cache) (arena : List ℕ) where
       (either Loaded' (in_grid h key) _ _ (step_same (next_step c key) h key failure bs) (refl, refl)) (refl, refl))
       (refl, refl)
 
-  range_same : (r : Range) (h : Header) (key : TileKey) (n : ℕ) (pack : List ℕ) → Loaded' (Caches.load_by r c arena h key n pack)
-  range_same (Range.At offset) h key n pack = load_same h key 0 (pack_bytes pack offset n)
-  range_same (Range.Refused number) h key n pack = load_same h key 2 []
+  range_same : (r : Result ℕ Refusal) (h : Header) (key : TileKey) (n : ℕ) (pack : List ℕ) → Loaded' (Caches.load_by r c arena h key n pack)
+  range_same (Ok offset) h key n pack = load_same h key 0 (pack_bytes pack offset n)
+  range_same (Err number) h key n pack = load_same h key 2 []
 
-  request_same : (r : Request) (h : Header) (key : TileKey) (pack : List ℕ) → Loaded' (Caches.request_load r c arena h key pack)
-  request_same Request.Settled h key pack = load_same h key 0 []
-  request_same (Request.Refused number) h key pack = (refl, refl)
-  request_same (Request.Read offset n) h key pack = range_same (read pack offset n) h key n pack
+  request_same : (r : Result (Option (ℕ × ℕ)) Refusal) (h : Header) (key : TileKey) (pack : List ℕ) → Loaded' (Caches.request_load r c arena h key pack)
+  request_same (Ok None) h key pack = load_same h key 0 []
+  request_same (Err number) h key pack = (refl, refl)
+  request_same (Ok (Some (offset, n))) h key pack = range_same (read pack offset n) h key n pack
 
   load_from_same : (h : Header) (key : TileKey) (pack : List ℕ) → Loaded' (Caches.load_from c arena h key pack)
   unfolding Caches.load_from
@@ -204,7 +189,7 @@ module _ (m : Matcher) (c : Cache) where
       (ending_same r.end r.kept heading (looked c arena h.tile r.found)) (refl, refl))
       (refl, refl)
 
--- a road is refused with 10 or late with 12
+-- a road is refused with Refusal.BadStart or late with 12
 abbrev LateOnly : Roads'.Outcome → Type 0
 LateOnly (Road.Refused n) = (n ≡ 10 → ⊥) → n ≡ 12
 LateOnly (Road.Road p) = Unit
@@ -238,9 +223,9 @@ module _ {S : Type 0} (rd : Reader S) (n : ℕ) (samples behind : List ℤ) (m :
   start_late absent h forward horizon s = tt
   start_late stale h forward horizon s = λ no10. refl
 
-  directed_late : (forward : Forward) (h : Header) (horizon : Float) (s : S) → Late (directed_over rd n forward h m horizon s samples behind)
-  directed_late Forward.Unknown h horizon s = tt
-  directed_late (Forward.Is forward) h horizon s = start_late (rd.at s m.tile.key) h forward horizon s
+  directed_late : (forward : Option Bool) (h : Header) (horizon : Float) (s : S) → Late (directed_over rd n forward h m horizon s samples behind)
+  directed_late None h horizon s = tt
+  directed_late (Some forward) h horizon s = start_late (rd.at s m.tile.key) h forward horizon s
 
   forecast_late : (h : Header) (horizon : Float) (s : S) → Late (forecast_over rd n h m horizon s samples behind)
   unfolding forecast_over
@@ -274,17 +259,17 @@ module _ (c : Cache) where
 
 -- ---- through C
 
-got_told : (x : Lookup) (c d : Cache) → (Parts.lookup_out x).lookup ≡ 3 → GotSame c x d → d ≡ c
-got_told (Lookup.Refused n) c d e same = same
-got_told (Lookup.Ready first len) c d e same = absurd (omega (arith, e))
-got_told Lookup.Missing c d e same = absurd (omega (arith, e))
-got_told Lookup.Absent c d e same = absurd (omega (arith, e))
+got_told : (x : Result Lookup Refusal) (c d : Cache) → (Parts.lookup_out x).lookup ≡ 3 → GotSame c x d → d ≡ c
+got_told (Err n) c d e same = same
+got_told (Ok (Lookup.Ready first len)) c d e same = absurd (omega (arith, e))
+got_told (Ok Lookup.Missing) c d e same = absurd (omega (arith, e))
+got_told (Ok Lookup.Absent) c d e same = absurd (omega (arith, e))
 
-load_told : (x : Progress) (c : Cache) (arena : List ℕ) (r : After) → (Parts.progress_out x).progress ≡ 3 → LoadSame c arena x r → (r.cache ≡ c) × (r.arena ≡ arena)
-load_told (Progress.Refused n) c arena r e same = same
-load_told Progress.Done c arena r e same = absurd (omega (arith, e))
-load_told Progress.More c arena r e same = absurd (omega (arith, e))
-load_told (Progress.Failed n) c arena r e same = absurd (omega (arith, e))
+load_told : (x : Result Progress Refusal) (c : Cache) (arena : List ℕ) (r : After) → (Parts.progress_out x).progress ≡ 3 → LoadSame c arena x r → (r.cache ≡ c) × (r.arena ≡ arena)
+load_told (Err n) c arena r e same = same
+load_told (Ok Progress.Done) c arena r e same = absurd (omega (arith, e))
+load_told (Ok Progress.More) c arena r e same = absurd (omega (arith, e))
+load_told (Ok (Progress.Failed n)) c arena r e same = absurd (omega (arith, e))
 
 match_told : (x : Matching'.Outcome) (m w : Matcher) (c d : Cache) → (Roads.updated_out x).outcome ≡ 3 → MatchSame m c x w d → (w ≡ m) × (d ≡ c)
 match_told (Match.Refused n) m w c d e same = same
@@ -306,7 +291,7 @@ module _ (ws : List ℕ) (arena : List ℕ) where
   pub get_keeps : (h : Header) (key : TileKey) → (Parts.lookup_out (Parts.get ws arena h key).answer).lookup ≡ 3 → after ws (Parts.get ws arena h key).cache ≡ ws
   get_keeps h key e = back _ (got_told (Parts.get ws arena h key).answer (cache_of ws) _ e (by (accepted ws)))
     where
-      by : (b : Bool) → Gets (cache_of ws) arena (cond b (Caches.get (cache_of ws) arena h key) (Caches.got_nothing (cache_of ws) 12))
+      by : (b : Bool) → Gets (cache_of ws) arena (cond b (Caches.get (cache_of ws) arena h key) (Caches.got_nothing (cache_of ws) Refusal.BadState))
       by true = get_same (cache_of ws) arena h key
       by false = refl
 
@@ -315,10 +300,10 @@ module _ (ws : List ℕ) (arena : List ℕ) where
   clear_keeps n = back _ (by (accepted ws) (lent_ok (cache_of ws) (length arena)) n)
     where
       none : Cleared
-      none = record { answer = Clearing.Refused 12; cache = cache_of ws }
+      none = record { answer = Err Refusal.BadState; cache = cache_of ws }
 
       emptied : Cleared
-      emptied = record { answer = Clearing.Done; cache = cleared (cache_of ws) }
+      emptied = record { answer = Ok tt; cache = cleared (cache_of ws) }
 
       by : (b p : Bool) → Parts.clearing_out (cond b (cond p emptied none) none).answer ≢ 0 → (cond b (cond p emptied none) none).cache ≡ cache_of ws
       by true true n = absurd (n refl)

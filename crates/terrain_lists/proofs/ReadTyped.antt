@@ -1,5 +1,7 @@
 -- Whatever words of 32 bits stand there, the engine and the matcher that are read from them are within their types (`read_typed`, `matcher_read`); and a matcher within its types is read back from
 -- its words, so that they are a matcher's (`matcher_words_lem`). The idea: a reader cuts what a field can't hold, and a matcher's 22 words are written out.
+use Rattle.std.specs.Prelude.{Option, Some, None}
+use Rattle.pack.specs.declared.TileKey.{TileKey}
 use Prim.Native.Nat.{ℕ, zero, suc, ◌+◌, ◌-◌, ◌*◌, ◌/◌, ◌%◌, ◌<◌}
 use mathlib.Core.Path.{◌≡◌, refl, ap}
 use mathlib.Core.Bool.{true}
@@ -13,17 +15,10 @@ use lib.ListN.{length, get_or}
 use Rattle.pack.specs.Bytes.{signed32}
 use Rattle.cache.specs.Keys.{empty_place}
 use Rattle.cache.specs.Runs.{empty_slot}
-use Rattle.cache.specs.declared.MaybeKey.{MaybeKey}
-use Rattle.cache.specs.declared.MaybeKey.TheVariants as MaybeKey
-use Rattle.cache.specs.declared.MaybeLoading.{MaybeLoading}
-use Rattle.cache.specs.declared.MaybeLoading.TheVariants as MaybeLoading
 use Rattle.cache.specs.declared.Part.TheVariants as Part
 use Rattle.cache.specs.declared.Pending.TheVariants as Pending
-use Rattle.cache.specs.declared.RingKey.{RingKey}
 use Rattle.matcher.specs.declared.Challenger.{Challenger}
-use Rattle.matcher.specs.declared.Challenger.TheVariants as Challenger
 use Rattle.matcher.specs.declared.Current.{Current}
-use Rattle.matcher.specs.declared.Current.TheVariants as Current
 use Rattle.matcher.specs.declared.Heading.TheVariants as Heading
 use Rattle.matcher.specs.declared.Matched.{Matched}
 use Rattle.matcher.specs.declared.Matcher.{Matcher}
@@ -52,7 +47,7 @@ key_read : (n : ℕ) → Word n → TypedKey (key_of n)
 key_read n w = (omega arith, omega arith)
 
 maybe_read : (tag n : ℕ) → Word n → TypedMaybe (maybe_key_of tag n)
-maybe_read tag n w = either TypedMaybe (is_set tag) (MaybeKey.Key (key_of n)) MaybeKey.Nothing (key_read n w) tt
+maybe_read tag n w = either TypedMaybe (is_set tag) (Some (key_of n)) None (key_read n w) tt
 
 float_read : (n : ℕ) → Single (float_of n)
 float_read n = of_bits-fits binary32 n
@@ -81,7 +76,7 @@ module _ (ws : List ℕ) (all : AreWords ws) where
   ring_read at = record {
     keys = length-table _ 64;
     key = λ (i : ℕ) (h : i < 64).
-        all_table (λ (p : RingKey). TypedMaybe p.key) empty_place (λ (j : ℕ). place_by (from ws (at + 2 * j))) 64 tt
+        all_table (λ (p : Option TileKey). TypedMaybe p) empty_place (λ (j : ℕ). place_by (from ws (at + 2 * j))) 64 tt
         (λ (j : ℕ). maybe_read (from ws (at + 2 * j) 0) (from ws (at + 2 * j) 1) (all (at + 2 * j + 1))) i;
     next = all (at + 128);
   }
@@ -91,7 +86,7 @@ module _ (ws : List ℕ) (all : AreWords ws) where
   cache_read = record {
     pages = pages_read 15;
     missing = ring_read 401;
-    loading = either TypedLoading (is_set (get_or ws 530 0)) _ MaybeLoading.Nothing (key_read _ (all 531), all 532) tt;
+    loading = either TypedLoading (is_set (get_or ws 530 0)) _ None (key_read _ (all 531), all 532) tt;
     pending = either TypedPending (eqb (get_or ws 536 0) 1) Pending.Header _ tt
         (either TypedPending (eqb (get_or ws 536 0) 2) _ _ (key_read _ (all 537)) (either TypedPending (eqb (get_or ws 536 0) 3) Pending.Chunk Pending.Nothing tt tt));
   }

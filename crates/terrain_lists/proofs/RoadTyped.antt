@@ -1,5 +1,6 @@
 -- A road's heights and figures stay within their types, over any reader (`forecast_typed`): every height that is written is held to 16 bits or cut to them, and every distance is 0, the horizon,
 -- the metres ridden or a result of a float operation. The idea: a walk leaves its track alone but along an edge.
+use Rattle.std.proofs.Common.{Option, Some, None}
 use Prim.Native.Nat.{ℕ, zero, suc, ◌+◌, ◌-◌, ◌<◌}
 use mathlib.Core.Path.{◌≡◌, ◌∙◌}
 use mathlib.Core.Bool.{Bool, ◌&&◌, not}
@@ -22,8 +23,6 @@ use Rattle.tile.specs.declared.Edge.{Edge}
 use Rattle.geo.specs.Flat.{whole}
 use Rattle.geo.specs.declared.Point.{Point}
 use Rattle.matcher.specs.Score.{same_id}
-use Rattle.matcher.specs.declared.Forward.{Forward}
-use Rattle.matcher.specs.declared.Forward.TheVariants as Forward
 use Rattle.matcher.specs.declared.Matched.{Matched}
 use Rattle.predict.specs.Meets.{budget}
 use Rattle.predict.specs.Outgoing.{last_of}
@@ -37,10 +36,8 @@ use Rattle.predict.specs.Vertex as Vertex
 use Rattle.predict.specs.Vertex.{Along, step_of, passed, advanced, vertex_step, vertices, to_end}
 use Rattle.predict.specs.Walk.{Onto, entered, Run, begun, goes_on, leg_of, along, driven, edge_look, edge_step, walk_to, walk_over}
 use Rattle.predict.specs.declared.Ending.{Ending}
-use Rattle.predict.specs.declared.Ending.TheVariants as Ending
 use Rattle.predict.specs.declared.Mark.{Mark}
 use Rattle.predict.specs.declared.Outcome.{Outcome}
-use Rattle.predict.specs.declared.Outcome.TheVariants as Outcome
 use Rattle.predict.specs.declared.Prediction.{Prediction}
 use Rattle.predict.specs.declared.Track.{Track}
 use Rattle.predict.specs.declared.Trip.{Trip}
@@ -235,10 +232,10 @@ module _ {S : Type 0} (rd : Reader S) (n a b : ℕ) (samples behind : List ℤ) 
   start_typed absent h forward horizon single s = untouched (Outcome.Need m.tile.key) s tt
   start_typed stale h forward horizon single s = untouched (Outcome.Refused 12) s tt
 
-  directed_typed : (forward : Forward) (h : Header) (horizon : Float) → Single horizon → (s : S)
+  directed_typed : (forward : Option Bool) (h : Header) (horizon : Float) → Single horizon → (s : S)
       → ForecastTyped a b (directed_over rd n forward h m horizon s samples behind)
-  directed_typed Forward.Unknown h horizon single s = untouched _ s (record { behind = single_whole 0; end = single_whole 0; confidence = omega arith })
-  directed_typed (Forward.Is forward) h horizon single s = start_typed (rd.at s m.tile.key) h forward horizon single s
+  directed_typed None h horizon single s = untouched _ s (record { behind = single_whole 0; end = single_whole 0; confidence = omega arith })
+  directed_typed (Some forward) h horizon single s = start_typed (rd.at s m.tile.key) h forward horizon single s
 
   pub forecast_typed : (h : Header) (horizon : Float) → Single horizon → (s : S) → ForecastTyped a b (forecast_over rd n h m horizon s samples behind)
   unfolding forecast_over

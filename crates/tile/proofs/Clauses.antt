@@ -6,8 +6,9 @@ use mathlib.Core.List.{List, [], ◌∷◌}
 use lib.ListN.{get_or}
 use Rattle.pack.specs.Sector.{all_of}
 use Rattle.pack.specs.declared.TileKey.{TileKey}
+use Rattle.std.specs.Prelude.{Err}
+use Rattle.refusal.specs.declared.Refusal.{Refusal}
 use Rattle.tile.specs.Parse.{accepts, parse, clauses, is_long, is_magic, is_version, is_sum, is_key, is_length, has_lon, nodes_good, edges_good, entries_good, nodes_ordered}
-use Rattle.tile.specs.declared.Parsed.TheVariants as Parsed
 use Rattle.tile.proofs.Laws.{broken}
 
 first_three : (a b d rest : Bool) → (a && (b && (d && rest))) ≡ ((a && (b && d)) && rest)
@@ -16,7 +17,7 @@ first_three true false d rest = refl
 first_three false b d rest = refl
 
 module _ (bs : List ℕ) (key : TileKey) (size : ℕ) where
-  pub refused_by : (k : ℕ) → get_or (clauses bs key size) k true ≡ false → Parsed.Refused 4 ≡ parse bs key size
+  pub refused_by : (k : ℕ) → get_or (clauses bs key size) k true ≡ false → Err Refusal.Corrupt ≡ parse bs key size
   unfolding parse accepts
   refused_by k e = rw (broken k (clauses bs key size) e)
 
@@ -27,13 +28,13 @@ module _ (bs : List ℕ) (key : TileKey) (size : ℕ) where
   head_first = first_three (is_long bs) (is_magic bs) (is_version bs) _
 
   -- one pass over the nodes tests both
-  pub refused_by_nodes : (nodes_good bs size && nodes_ordered bs) ≡ false → Parsed.Refused 4 ≡ parse bs key size
+  pub refused_by_nodes : (nodes_good bs size && nodes_ordered bs) ≡ false → Err Refusal.Corrupt ≡ parse bs key size
   refused_by_nodes e = go (nodes_good bs size) refl
     where
-      go : (good : Bool) → nodes_good bs size ≡ good → Parsed.Refused 4 ≡ parse bs key size
+      go : (good : Bool) → nodes_good bs size ≡ good → Err Refusal.Corrupt ≡ parse bs key size
       go true q = refused_by 10 (rw q at e)
       go false q = refused_by 7 q
 
   -- document 02, request 7: whatever else a tile holds, nodes out of order refuse it
-  pub unordered_refused : nodes_ordered bs ≡ false → parse bs key size ≡ Parsed.Refused 4
+  pub unordered_refused : nodes_ordered bs ≡ false → parse bs key size ≡ Err Refusal.Corrupt
   unordered_refused e = sym (refused_by 10 e)

@@ -8,12 +8,11 @@ use native.Mathlib.Omega.{arith}
 use lib.Dec.{ltb, eqb, leb}
 use borrow.Author.Tests.{ltb-true, ltb-false, eqb-true, eqb-false, leb-true, leb-false, lt-ltb, le-ltb, eq-eqb}
 use Rattle.pack.specs.declared.TileKey.{TileKey}
+use Rattle.std.specs.Prelude.{Option, Some, None, is_some}
 use Rattle.tile.specs.Layout.{nodes_of, node_of}
 use Rattle.tile.specs.Order.{before}
 use Rattle.tile.specs.Parse.{accepts, nodes_ordered}
-use Rattle.tile.specs.Readers.{search, nodes_there, node_at, stands_at, is_there, is_found}
-use Rattle.tile.specs.declared.Found.{Found}
-use Rattle.tile.specs.declared.Found.TheVariants as Found
+use Rattle.tile.specs.Readers.{search, nodes_there, node_at, stands_at, is_there}
 use Rattle.tile.proofs.Laws.{any_at, any_none}
 use Rattle.tile.proofs.Ordered.{before_itself, same_place, in_order_all}
 use Rattle.tile.proofs.Within.{accepted_order, nodes_there_lem}
@@ -32,20 +31,20 @@ module _ (bs : List ℕ) (x y : ℕ) where
   abbrev place_first : ℕ → Bool
   place_first i = before y x (node_of bs i).y (node_of bs i).x
 
-  search-zero : (low high : ℕ) → search zero bs x y low high ≡ Found.Nothing
+  search-zero : (low high : ℕ) → search zero bs x y low high ≡ None
   unfolding search
   search-zero low high = refl
 
-  pub search_none : (left low high : ℕ) → high ≤ low → search left bs x y low high ≡ Found.Nothing
+  pub search_none : (left low high : ℕ) → high ≤ low → search left bs x y low high ≡ None
   unfolding search
   search_none zero low high h = refl
   search_none (suc left) low high h = rw (le-ltb low high h)
 
   -- what a step makes of the two that may follow it
-  abbrev stepped : ℕ → ℕ → ℕ → Found
+  abbrev stepped : ℕ → ℕ → ℕ → Option ℕ
   stepped left low high =
       cond (node_first (middle low high)) (search left bs x y (middle low high + 1) high)
-      (cond (place_first (middle low high)) (search left bs x y low (middle low high)) (Found.At (middle low high)))
+      (cond (place_first (middle low high)) (search left bs x y low (middle low high)) (Some (middle low high)))
 
   search_some : (left low high : ℕ) → low < high → search (suc left) bs x y low high ≡ stepped left low high
   unfolding search
@@ -83,14 +82,14 @@ module _ (bs : List ℕ) (x y : ℕ) where
 
 -- ---- what is found is there
 
-nothing_found : (i : ℕ) → Found.Nothing ≡ Found.At i → ⊥
+nothing_found : (i : ℕ) → None ≡ Some i → ⊥
 nothing_found i e = let z : ◌≡◌ {A = ℕ} 0 1 = cc in omega arith
 
 -- node i is below a bound, and at the place
 abbrev There : List ℕ → ℕ → ℕ → ℕ → ℕ → Type 0
 There bs x y high i = (i < high) × (((node_of bs i).x ≡ x) × ((node_of bs i).y ≡ y))
 
-search_there : (bs : List ℕ) (x y i left low high : ℕ) → search left bs x y low high ≡ Found.At i → There bs x y high i
+search_there : (bs : List ℕ) (x y i left low high : ℕ) → search left bs x y low high ≡ Some i → There bs x y high i
 search_there bs x y i zero low high e = absurd (nothing_found i (sym (search-zero bs x y low high) ∙ e))
 search_there bs x y i (suc left) low high e =
     go (ltb low high) (node_first bs x y (middle low high)) (place_first bs x y (middle low high)) refl refl refl
@@ -98,8 +97,8 @@ search_there bs x y i (suc left) low high e =
     (search_there bs x y i left low (middle low high))
   where
     go : (some node place : Bool) → ltb low high ≡ some → node_first bs x y (middle low high) ≡ node → place_first bs x y (middle low high) ≡ place
-        → (search left bs x y (middle low high + 1) high ≡ Found.At i → There bs x y high i)
-        → (search left bs x y low (middle low high) ≡ Found.At i → There bs x y (middle low high) i)
+        → (search left bs x y (middle low high + 1) high ≡ Some i → There bs x y high i)
+        → (search left bs x y low (middle low high) ≡ Some i → There bs x y (middle low high) i)
         → There bs x y high i
     go false node place p q r right low_half = absurd (nothing_found i (sym (search_none bs x y (suc left) low high (ltb-false low high p)) ∙ e))
     go true true place p q r right low_half = right (rw (search_some bs x y left low high (ltb-true low high p), q) at e)
@@ -107,13 +106,13 @@ search_there bs x y i (suc left) low high e =
         let l : There bs x y (middle low high) i = low_half (rw (search_some bs x y left low high (ltb-true low high p), q, r) at e) in
         (omega (arith, ltb-true low high p), l.1)
     go true false false p q r right low_half =
-        let hit : Found.At (middle low high) ≡ Found.At i = rw (search_some bs x y left low high (ltb-true low high p), q, r) at e in
+        let hit : Some (middle low high) ≡ Some i = rw (search_some bs x y left low high (ltb-true low high p), q, r) at e in
         let same : middle low high ≡ i = cc in (
           omega (arith, ltb-true low high p),
           rw same at (same_place (node_of bs (middle low high)).y (node_of bs (middle low high)).x y x q r),
         )
 
-pub node_at_there : (bs : List ℕ) (x y i : ℕ) → node_at bs x y ≡ Found.At i → (i < nodes_of bs) × (((node_of bs i).x ≡ x) × ((node_of bs i).y ≡ y))
+pub node_at_there : (bs : List ℕ) (x y i : ℕ) → node_at bs x y ≡ Some i → (i < nodes_of bs) × (((node_of bs i).x ≡ x) × ((node_of bs i).y ≡ y))
 unfolding node_at
 node_at_there bs x y i e =
     let there : There bs x y (nodes_there bs) i = search_there bs x y i (nodes_there bs) 0 (nodes_there bs) e in (omega arith, there.1)
@@ -150,7 +149,7 @@ module _ (bs : List ℕ) (ordered : Ordered bs) (x y i : ℕ) (at_x : (node_of b
       go true q = absurd (true≢false (sym e ∙ (rw (at_x, at_y) at (ordered_up_to bs ordered m i (leb-true m i q) k))))
       go false q = leb-false m i q
 
-  search_found : (left low high : ℕ) → high - low ≤ left → low ≤ i → i < high → high ≤ nodes_of bs → search left bs x y low high ≡ Found.Nothing → ⊥
+  search_found : (left low high : ℕ) → high - low ≤ left → low ≤ i → i < high → high ≤ nodes_of bs → search left bs x y low high ≡ None → ⊥
   search_found zero low high enough from to within e = omega arith
   search_found (suc left) low high enough from to within e =
       go (node_first bs x y (middle low high)) (place_first bs x y (middle low high)) refl refl
@@ -158,8 +157,8 @@ module _ (bs : List ℕ) (ordered : Ordered bs) (x y i : ℕ) (at_x : (node_of b
       (λ short. search_found left low (middle low high) (omega arith) from short (omega arith))
     where
       go : (node place : Bool) → node_first bs x y (middle low high) ≡ node → place_first bs x y (middle low high) ≡ place
-          → (middle low high < i → search left bs x y (middle low high + 1) high ≡ Found.Nothing → ⊥)
-          → (i < middle low high → search left bs x y low (middle low high) ≡ Found.Nothing → ⊥)
+          → (middle low high < i → search left bs x y (middle low high + 1) high ≡ None → ⊥)
+          → (i < middle low high → search left bs x y low (middle low high) ≡ None → ⊥)
           → ⊥
       go true place q r right low_half =
           right (behind (middle low high) (omega arith) q) (rw (search_some bs x y left low high (omega arith), q) at e)
@@ -168,7 +167,7 @@ module _ (bs : List ℕ) (ordered : Ordered bs) (x y i : ℕ) (at_x : (node_of b
       go false false q r right low_half =
           nothing_found (middle low high) (sym (rw (search_some bs x y left low high (omega arith), q, r) at e))
 
-node_at_found : (bs : List ℕ) → Ordered bs → (x y i : ℕ) → i < nodes_there bs → (node_of bs i).x ≡ x → (node_of bs i).y ≡ y → node_at bs x y ≡ Found.Nothing → ⊥
+node_at_found : (bs : List ℕ) → Ordered bs → (x y i : ℕ) → i < nodes_there bs → (node_of bs i).x ≡ x → (node_of bs i).y ≡ y → node_at bs x y ≡ None → ⊥
 unfolding node_at
 node_at_found bs ordered x y i h at_x at_y e =
     search_found bs ordered x y i at_x at_y (nodes_there bs) 0 (nodes_there bs) (omega arith) (omega arith) h (omega arith) e
@@ -187,18 +186,18 @@ stands_not bs x y i not_there = go (eqb (node_of bs i).x x) (eqb (node_of bs i).
     go false b p q = refl
 
 -- document 02, request 7: a node is found exactly if one stands at that place
-ordered_exact : (bs : List ℕ) → nodes_ordered bs ≡ true → nodes_there bs ≡ nodes_of bs → (x y : ℕ) → is_found (node_at bs x y) ≡ is_there bs x y
+ordered_exact : (bs : List ℕ) → nodes_ordered bs ≡ true → nodes_there bs ≡ nodes_of bs → (x y : ℕ) → is_some (node_at bs x y) ≡ is_there bs x y
 ordered_exact bs e All-there x y = go (node_at bs x y) refl
   where
     ordered : Ordered bs
     ordered i j h k = in_order_all (node_of bs) (nodes_of bs) i j e h k
 
-    go : (found : Found) → node_at bs x y ≡ found → is_found found ≡ is_there bs x y
-    go (Found.At i) q =
+    go : (found : Option ℕ) → node_at bs x y ≡ found → is_some found ≡ is_there bs x y
+    go (Some i) q =
         let there = node_at_there bs x y i q in sym (any_at (stands_at bs x y) i (nodes_of bs) there.0 (stands bs x y i there.1.0 there.1.1))
-    go Found.Nothing q =
+    go None q =
         sym (any_none (stands_at bs x y) (nodes_of bs)
         (λ (i : ℕ) (h : i < nodes_of bs). stands_not bs x y i (λ at_x at_y. node_at_found bs ordered x y i (rw All-there h) at_x at_y q)))
 
-pub node_at_exact : (bs : List ℕ) (key : TileKey) (size : ℕ) → accepts bs key size ≡ true → (x y : ℕ) → is_found (node_at bs x y) ≡ is_there bs x y
+pub node_at_exact : (bs : List ℕ) (key : TileKey) (size : ℕ) → accepts bs key size ≡ true → (x y : ℕ) → is_some (node_at bs x y) ≡ is_there bs x y
 node_at_exact bs key size ok = ordered_exact bs (accepted_order bs key size ok) (nodes_there_lem bs key size ok)

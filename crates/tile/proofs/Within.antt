@@ -12,16 +12,13 @@ use lib.ListN as ListN
 use borrow.Author.Tests.{ltb-true, ltb-false, leb-true, eqb-true, eqb-false, lt-ltb, le-leb}
 use Rattle.pack.specs.Bytes.{u16_at, u32_at}
 use Rattle.pack.specs.declared.TileKey.{TileKey}
+use Rattle.std.specs.Prelude.{Ok, Err}
+use Rattle.refusal.specs.declared.Refusal.{Refusal}
 use Rattle.tile.specs.Layout.{nodes_of, edges_of, vertices_of, head_of, length, node_start, entry_start, edge_start, vertex_start, place_at, node_of, edge_of, entry_of, point_of, adjacency_start, adjacency_end}
 use Rattle.tile.specs.Parse.{accepts, parse, clauses, node_ok, edge_fits, edge_ok, entry_ok, nodes_ordered}
 use Rattle.tile.specs.Readers as Readers
 use Rattle.tile.specs.declared.Head.{Head}
-use Rattle.tile.specs.declared.Parsed.{Parsed}
-use Rattle.tile.specs.declared.Parsed.TheVariants as Parsed
-use Rattle.tile.specs.declared.NodeRead.TheVariants as NodeRead
-use Rattle.tile.specs.declared.EdgeRead.TheVariants as EdgeRead
-use Rattle.tile.specs.declared.Entries.TheVariants as Entries
-use Rattle.tile.specs.declared.EntryRead.TheVariants as EntryRead
+use Rattle.std.specs.declared.ops.Range.{Range}
 use Rattle.tile.proofs.Laws.{and_left, and_right, all_at, clause}
 use Rattle.tile.proofs.Slices.{length_right, node_there, entry_there, edge_there}
 
@@ -76,15 +73,15 @@ module _ (bs : List ℕ) where
   pub has_node_lem : (i : ℕ) → i < nodes_of bs → node_start i + 8 ≤ ListN.length bs → Readers.has_node bs i ≡ true
   has_node_lem i h k = both (lt-ltb i (nodes_of bs) h) (le-leb (node_start i + 8) (ListN.length bs) k)
 
-  pub node_reads : (i : ℕ) → i < nodes_of bs → node_start i + 8 ≤ ListN.length bs → Readers.node bs i ≡ NodeRead.At (node_of bs i)
+  pub node_reads : (i : ℕ) → i < nodes_of bs → node_start i + 8 ≤ ListN.length bs → Readers.node bs i ≡ Ok (node_of bs i)
   unfolding Readers.node
   node_reads i h k = rw (has_node_lem i h k)
 
-  pub edge_reads : (i : ℕ) → i < edges_of bs → edge_start bs i + 16 ≤ ListN.length bs → Readers.edge bs i ≡ EdgeRead.At (edge_of bs i)
+  pub edge_reads : (i : ℕ) → i < edges_of bs → edge_start bs i + 16 ≤ ListN.length bs → Readers.edge bs i ≡ Ok (edge_of bs i)
   unfolding Readers.edge
   edge_reads i h k = rw (lt-ltb i (edges_of bs) h, le-leb (edge_start bs i + 16) (ListN.length bs) k)
 
-  pub entry_reads : (j : ℕ) → j < edges_of bs * 2 → entry_start bs j + 2 ≤ ListN.length bs → Readers.incident_entry bs j ≡ EntryRead.At (entry_of bs j)
+  pub entry_reads : (j : ℕ) → j < edges_of bs * 2 → entry_start bs j + 2 ≤ ListN.length bs → Readers.incident_entry bs j ≡ Ok (entry_of bs j)
   unfolding Readers.incident_entry
   entry_reads j h k = rw (lt-ltb j (edges_of bs * 2) h, le-leb (entry_start bs j + 2) (ListN.length bs) k)
 
@@ -92,9 +89,12 @@ module _ (bs : List ℕ) where
 abbrev pub entries_end : List ℕ → ℕ → ℕ
 entries_end bs i = max (adjacency_end bs i) (adjacency_start bs i)
 
+abbrev pub entries : List ℕ → ℕ → Range ℕ
+entries bs i = record { start = adjacency_start bs i; end = entries_end bs i }
+
 -- a node's entries are read where the records of all nodes are within the bytes
 pub incident_reads : (bs : List ℕ) (i : ℕ) → i < nodes_of bs → node_start (nodes_of bs) ≤ ListN.length bs
-    → Readers.incident bs i ≡ Entries.Range (adjacency_start bs i) (entries_end bs i)
+    → Readers.incident bs i ≡ Ok (entries bs i)
 unfolding Readers.incident
 incident_reads bs i h k = rw (go (ltb (i + 1) (nodes_of bs)) refl)
   where
@@ -140,16 +140,16 @@ module _ (bs : List ℕ) (key : TileKey) (size : ℕ) (ok : accepts bs key size 
 
   -- so each record that is below its count is read
 
-  pub accepted_node : (i : ℕ) → i < nodes_of bs → Readers.node bs i ≡ NodeRead.At (node_of bs i)
+  pub accepted_node : (i : ℕ) → i < nodes_of bs → Readers.node bs i ≡ Ok (node_of bs i)
   accepted_node i h = node_reads bs i h (node_within i h)
 
-  pub accepted_edge : (i : ℕ) → i < edges_of bs → Readers.edge bs i ≡ EdgeRead.At (edge_of bs i)
+  pub accepted_edge : (i : ℕ) → i < edges_of bs → Readers.edge bs i ≡ Ok (edge_of bs i)
   accepted_edge i h = edge_reads bs i h (edge_within i h)
 
-  pub accepted_entry : (j : ℕ) → j < edges_of bs * 2 → Readers.incident_entry bs j ≡ EntryRead.At (entry_of bs j)
+  pub accepted_entry : (j : ℕ) → j < edges_of bs * 2 → Readers.incident_entry bs j ≡ Ok (entry_of bs j)
   accepted_entry j h = entry_reads bs j h (entry_within j h)
 
-  pub accepted_incident : (i : ℕ) → i < nodes_of bs → Readers.incident bs i ≡ Entries.Range (adjacency_start bs i) (entries_end bs i)
+  pub accepted_incident : (i : ℕ) → i < nodes_of bs → Readers.incident bs i ≡ Ok (entries bs i)
   accepted_incident i h = incident_reads bs i h (omega (arith, length_is))
 
   -- and the search goes over every node
@@ -180,7 +180,7 @@ module _ (bs : List ℕ) (key : TileKey) (size : ℕ) (ok : accepts bs key size 
       go false e = rw e (omega arith)
 
   -- every point of an edge is there
-  pub point_reads : (i : ℕ) → i < edges_of bs → (index : ℕ) → Readers.point bs (edge_of bs i) index ≡ NodeRead.At (point_of bs (edge_of bs i) index)
+  pub point_reads : (i : ℕ) → i < edges_of bs → (index : ℕ) → Readers.point bs (edge_of bs i) index ≡ Ok (point_of bs (edge_of bs i) index)
   unfolding Readers.point Readers.has_point
   point_reads i h index = rw (go (eqb index 0) (ltb (edge_of bs i).vertices index) refl refl)
     where
@@ -197,18 +197,18 @@ module _ (bs : List ℕ) (key : TileKey) (size : ℕ) (ok : accepts bs key size 
 
 -- ---- what an answer of `parse` says
 
-pub parse-accepts : (bs : List ℕ) (key : TileKey) (size : ℕ) (h : Head) → parse bs key size ≡ Parsed.Tile h → (accepts bs key size ≡ true) × (h ≡ head_of bs)
+pub parse-accepts : (bs : List ℕ) (key : TileKey) (size : ℕ) (h : Head) → parse bs key size ≡ Ok h → (accepts bs key size ≡ true) × (h ≡ head_of bs)
 unfolding parse
 parse-accepts bs key size h e = go (accepts bs key size) e
   where
-    go : (b : Bool) → cond b (Parsed.Tile (head_of bs)) (Parsed.Refused 4) ≡ Parsed.Tile h → (b ≡ true) × (h ≡ head_of bs)
+    go : (b : Bool) → cond b (Ok (head_of bs)) (Err Refusal.Corrupt) ≡ Ok h → (b ≡ true) × (h ≡ head_of bs)
     go true q = (refl, cc)
-    go false q = let z : ◌≡◌ {A = ℕ} 0 1 = cc in absurd (omega arith)
+    go false q = (cc, cc)
 
-pub parse_refuses : (bs : List ℕ) (key : TileKey) (size n : ℕ) → parse bs key size ≡ Parsed.Refused n → (accepts bs key size ≡ false) × (n ≡ 4)
+pub parse_refuses : (bs : List ℕ) (key : TileKey) (size : ℕ) (n : Refusal) → parse bs key size ≡ Err n → (accepts bs key size ≡ false) × (n ≡ Refusal.Corrupt)
 unfolding parse
 parse_refuses bs key size n e = go (accepts bs key size) e
   where
-    go : (b : Bool) → cond b (Parsed.Tile (head_of bs)) (Parsed.Refused 4) ≡ Parsed.Refused n → (b ≡ false) × (n ≡ 4)
-    go true q = let z : ◌≡◌ {A = ℕ} 0 1 = cc in absurd (omega arith)
+    go : (b : Bool) → cond b (Ok (head_of bs)) (Err Refusal.Corrupt) ≡ Err n → (b ≡ false) × (n ≡ Refusal.Corrupt)
+    go true q = (cc, cc)
     go false q = (refl, cc)

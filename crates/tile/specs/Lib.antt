@@ -5,5 +5,3 @@ pub mod Below
 pub mod Order
 pub mod Parse
 pub mod Readers
--- The number of each answer.
-pub mod Numbers

@@ -1,16 +1,16 @@
 -- When a tile's bytes are accepted: document 01, "tile.rs", and document 02, request 7, as a list of named clauses. Whatever fails, the number is 4.
-use Rattle.std.specs.Prelude.{ℕ, ◌+◌, ◌*◌, ◌/◌, min, Bool, ◌&&◌, cond, List, [], ◌∷◌, leb, ltb, eqb}
+use Rattle.std.specs.Prelude.{ℕ, ◌+◌, ◌*◌, ◌/◌, min, Bool, ◌&&◌, cond, List, [], ◌∷◌, leb, ltb, eqb, Result, Ok, Err}
 use Rattle.std.proofs.Math.ListN as ListN
 use Rattle.crc.specs.Fcs.{crc32_skipping}
 use Rattle.pack.specs.Bytes.{byte_at, u16_at, u32_at}
 use Rattle.pack.specs.Sector.{all_of}
 use Rattle.pack.specs.declared.TileKey.{TileKey}
+use Rattle.refusal.specs.declared.Refusal.{Refusal}
 use Rattle.tile.specs.Offsets as At
 use Rattle.tile.specs.Layout.{nodes_of, edges_of, vertices_of, length, node_start, entry_start, edge_start, node_of, head_of}
+use Rattle.tile.specs.declared.Head.{Head}
 unfoldable pub use Rattle.tile.specs.Below.{all_below}
 use Rattle.tile.specs.Order.{in_order}
-use Rattle.tile.specs.declared.Parsed.{Parsed}
-use Rattle.tile.specs.declared.Parsed.TheVariants as Parsed
 
 -- ---- the head
 
@@ -94,5 +94,5 @@ clauses bs key size =
 unfoldable pub accepts : List ℕ → TileKey → ℕ → Bool
 accepts bs key size = all_of (clauses bs key size)
 
-unfoldable pub parse : List ℕ → TileKey → ℕ → Parsed
-parse bs key size = cond (accepts bs key size) (Parsed.Tile (head_of bs)) (Parsed.Refused 4)
+unfoldable pub parse : List ℕ → TileKey → ℕ → Result Head Refusal
+parse bs key size = cond (accepts bs key size) (Ok (head_of bs)) (Err Refusal.Corrupt)

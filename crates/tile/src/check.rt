@@ -10,13 +10,9 @@ use pack::TileKey;
 pub(crate) fn is_head(bytes: &[u8]) -> bool
     ensures { result ≡ (Parse.is_long bytes.now && (Parse.is_magic bytes.now && Parse.is_version bytes.now)) }
 {
-    if bytes.len() < 32 {
-        return false;
-    }
-    if pack::bytes::u16_at(bytes, 0) != 0x5456 {
-        return false;
-    }
-    pack::bytes::byte_at(bytes, 2) == 1
+    bytes.len() >= 32
+        && pack::bytes::u16_at(bytes, 0) == 0x5456
+        && pack::bytes::byte_at(bytes, 2) == 1
 }
 
 pub(crate) fn is_sum(bytes: &[u8]) -> bool
@@ -28,10 +24,7 @@ pub(crate) fn is_sum(bytes: &[u8]) -> bool
 pub fn is_key(bytes: &[u8], key: TileKey) -> bool
     ensures { result ≡ Parse.is_key bytes.now key }
 {
-    if pack::bytes::u16_at(bytes, 4) == key.row {
-        return pack::bytes::u16_at(bytes, 6) == key.col;
-    }
-    false
+    pack::bytes::u16_at(bytes, 4) == key.row && pack::bytes::u16_at(bytes, 6) == key.col
 }
 
 pub(crate) fn is_length(bytes: &[u8]) -> bool
@@ -65,8 +58,7 @@ fn all_nodes(bytes: &[u8], size: u32) -> bool
     let nodes = pack::bytes::u16_at(bytes, 8) as u32;
     let last = (pack::bytes::u16_at(bytes, 10) as u32) * 2;
     let mut before: u32 = 0;
-    let mut index: u32 = 0;
-    while index < nodes {
+    for index in 0..nodes {
         let at = 32 + (index as usize) * 8;
         let node = &bytes[at..at + 8];
         if !node_ok(node, size, last) {
@@ -79,7 +71,6 @@ fn all_nodes(bytes: &[u8], size: u32) -> bool
             return false;
         }
         before = place;
-        index += 1;
     }
     true
 }
@@ -89,13 +80,11 @@ pub(crate) fn nodes_good(bytes: &[u8], size: u32) -> bool
     requires { Parse.is_length bytes.now ≡ true }
     ensures { result ≡ (Parse.nodes_good bytes.now size && Parse.nodes_ordered bytes.now) }
 {
-    if 65535 < size {
-        return all_nodes(bytes, 65535);
-    }
-    all_nodes(bytes, size)
+    all_nodes(bytes, size.min(65535))
 }
 
 // An edge's two nodes are there, and its vertices. `edge` is its record.
+#[tactic(auto, using(std::proofs::lemmas::Bool::Decides::nat_tests), unfolding(crate::specs::Parse::edge_fits))]
 fn edge_ok(edge: &[u8], nodes: u16, vertices: u32) -> bool
     ensures { result ≡ Parse.edge_fits edge.now nodes vertices 0 }
 {
@@ -119,13 +108,11 @@ pub(crate) fn edges_good(bytes: &[u8]) -> bool
     let edges = pack::bytes::u16_at(bytes, 10);
     let vertices = pack::bytes::u32_at(bytes, 12);
     let base = 32 + (nodes as usize) * 8 + (edges as usize) * 4;
-    let mut index: u16 = 0;
-    while index < edges {
+    for index in 0..edges {
         let at = base + (index as usize) * 16;
         if !edge_ok(&bytes[at..at + 16], nodes, vertices) {
             return false;
         }
-        index += 1;
     }
     true
 }
@@ -139,13 +126,11 @@ pub(crate) fn entries_good(bytes: &[u8]) -> bool
     let edges = pack::bytes::u16_at(bytes, 10);
     let last = (edges as u32) * 2;
     let base = 32 + nodes * 8;
-    let mut entry: u32 = 0;
-    while entry < last {
+    for entry in 0..last {
         let at = base + (entry as usize) * 2;
         if edges <= pack::bytes::u16_at(&bytes[at..at + 2], 0) / 2 {
             return false;
         }
-        entry += 1;
     }
     true
 }

@@ -25,6 +25,7 @@ ghost use Rattle.tile.specs.Layout as Layout;
 ghost use Rattle.tile.specs.Parse as Parse;
 
 use pack::TileKey;
+use refusal::Refusal;
 
 pub const HEADER: usize = 32;
 // `z` counts steps of 2 decimetres from -500 m: up to 12,607 m.
@@ -32,14 +33,14 @@ pub const Z_STEP_DM: i32 = 2;
 
 pub const Z_OFFSET_DM: i32 = 5000;
 
-#[derive(Clone, Copy)]
+#[derive(Clone, Copy, PartialEq, Eq, Debug)]
 pub struct Node {
     pub x: u16,
     pub y: u16,
     pub z: u16,
 }
 
-#[derive(Clone, Copy)]
+#[derive(Clone, Copy, PartialEq, Eq, Debug)]
 pub struct Edge {
     pub from: u16,
     pub to: u16,
@@ -59,7 +60,7 @@ impl Edge {
 }
 
 // One tile's bytes: where on the grid, and which version of them. An edge or point number holds only for the tile it was read from.
-#[derive(Clone, Copy)]
+#[derive(Clone, Copy, PartialEq, Eq, Debug)]
 pub struct TileId {
     pub key: TileKey,
     pub crc: u32,
@@ -67,7 +68,7 @@ pub struct TileId {
 }
 
 // The fields of a tile's header.
-#[derive(Clone, Copy)]
+#[derive(Clone, Copy, PartialEq, Eq, Debug)]
 pub struct Head {
     pub key: TileKey,
     pub nodes: u16,
@@ -77,48 +78,11 @@ pub struct Head {
     pub lon_um: u32,
 }
 
-#[derive(Clone, Copy)]
-pub enum Parsed {
-    Tile(Head),
-    Refused(u32),
-}
-
-#[derive(Clone, Copy)]
-pub enum NodeRead {
-    At(Node),
-    Refused(u32),
-}
-
-#[derive(Clone, Copy)]
-pub enum EdgeRead {
-    At(Edge),
-    Refused(u32),
-}
-
 // An edge at a node, and whether it ends there.
-#[derive(Clone, Copy)]
+#[derive(Clone, Copy, PartialEq, Eq, Debug)]
 pub struct Incident {
     pub edge: u16,
     pub ends: bool,
-}
-
-// The adjacency entries of a node, from the first up to the last.
-#[derive(Clone, Copy)]
-pub enum Entries {
-    Range(u32, u32),
-    Refused(u32),
-}
-
-#[derive(Clone, Copy)]
-pub enum EntryRead {
-    At(Incident),
-    Refused(u32),
-}
-
-#[derive(Clone, Copy)]
-pub enum Found {
-    At(u16),
-    Nothing,
 }
 
 // Bytes that a tile of these counts takes, exactly.
@@ -130,32 +94,33 @@ pub fn length(nodes: u32, edges: u32, vertices: u32) -> u64
 
 // Check the CRC, the key, every count against the length, and every index, so that no reader of an accepted tile leaves its bytes; and the order of its
 // nodes, so that `read::node_at` finds every node that is there.
-pub fn parse(bytes: &[u8], key: TileKey, size: u32) -> Parsed
+#[tactic(auto, unfolding(crate::specs::Parse::parse, crate::specs::Parse::accepts))]
+pub fn parse(bytes: &[u8], key: TileKey, size: u32) -> Result<Head, Refusal>
     ensures { result ≡ Parse.parse bytes.now key size }
 {
     if !check::is_head(bytes) {
-        return Parsed::Refused(4);
+        return Err(Refusal::Corrupt);
     }
     if !check::is_sum(bytes) {
-        return Parsed::Refused(4);
+        return Err(Refusal::Corrupt);
     }
     if !check::is_key(bytes, key) {
-        return Parsed::Refused(4);
+        return Err(Refusal::Corrupt);
     }
     if !check::is_length(bytes) {
-        return Parsed::Refused(4);
+        return Err(Refusal::Corrupt);
     }
     if pack::bytes::u32_at(bytes, 16) == 0 {
-        return Parsed::Refused(4);
+        return Err(Refusal::Corrupt);
     }
     if !check::nodes_good(bytes, size) {
-        return Parsed::Refused(4);
+        return Err(Refusal::Corrupt);
     }
     if !check::edges_good(bytes) {
-        return Parsed::Refused(4);
+        return Err(Refusal::Corrupt);
     }
     if !check::entries_good(bytes) {
-        return Parsed::Refused(4);
+        return Err(Refusal::Corrupt);
     }
-    Parsed::Tile(read::head(bytes))
+    Ok(read::head(bytes))
 }

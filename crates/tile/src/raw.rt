@@ -7,6 +7,7 @@ ghost use Rattle.tile.specs.Readers as Readers;
 use crate::{Edge, Incident, Node};
 
 // x, y and z at a place of the bytes: a node's or a vertex's.
+#[tactic(auto, using(std::proofs::lemmas::Bool::Decides::nat_tests), unfolding(crate::specs::Layout::place_at))]
 fn place(bytes: &[u8], at: usize) -> Node
     requires { at + 4 < 2 ^ 64 }
     ensures { result ≡ Layout.place_at bytes.now at }
@@ -53,6 +54,7 @@ pub fn entry(bytes: &[u8], entry: u32) -> Incident
     }
 }
 
+#[tactic(auto, using(std::proofs::lemmas::Bool::Decides::nat_tests), unfolding(crate::specs::Layout::edge_of))]
 pub fn edge(bytes: &[u8], index: u16) -> Edge
     ensures { result ≡ Layout.edge_of bytes.now index }
 {
@@ -166,6 +168,7 @@ pub fn nodes_there(bytes: &[u8]) -> u16
 }
 
 // Whether what a point number reads is there.
+#[tactic(auto, using(std::proofs::lemmas::Bool::Decides::nat_tests), unfolding(crate::specs::Readers::has_point))]
 pub fn has_point(bytes: &[u8], edge: Edge, index: usize) -> bool
     ensures { result ≡ Readers.has_point bytes.now edge index }
 {
@@ -179,6 +182,7 @@ pub fn has_point(bytes: &[u8], edge: Edge, index: usize) -> bool
 }
 
 // Point `index` of an edge; past its vertices the end node.
+#[tactic(auto, using(std::proofs::lemmas::Bool::Decides::nat_tests), unfolding(crate::specs::Layout::point_of))]
 pub fn point(bytes: &[u8], edge: Edge, index: usize) -> Node
     ensures { result ≡ Layout.point_of bytes.now edge index }
 {
@@ -195,11 +199,5 @@ pub fn point(bytes: &[u8], edge: Edge, index: usize) -> Node
 pub fn before(ay: u16, ax: u16, by: u16, bx: u16) -> bool
     ensures { result ≡ Readers.before ay ax by bx }
 {
-    if ay < by {
-        return true;
-    }
-    if ay == by {
-        return ax < bx;
-    }
-    false
+    (ay, ax) < (by, bx)
 }

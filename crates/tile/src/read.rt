@@ -3,8 +3,10 @@ ghost use Rattle.std.specs.Prelude.{◌≡◌};
 ghost use Rattle.tile.specs.Layout as Layout;
 ghost use Rattle.tile.specs.Readers as Readers;
 
-use crate::{Edge, EdgeRead, Entries, EntryRead, Found, Head, NodeRead, TileId};
+use crate::{Edge, Head, Incident, Node, TileId, raw};
 use pack::TileKey;
+use refusal::Refusal;
+use std::ops::Range;
 
 // The fields of a tile's header, as they stand.
 pub fn head(bytes: &[u8]) -> Head
@@ -35,57 +37,59 @@ pub fn id(bytes: &[u8]) -> TileId
     }
 }
 
-pub fn node(bytes: &[u8], index: u16) -> NodeRead
+#[tactic(auto, unfolding(crate::specs::Readers::node))]
+pub fn node(bytes: &[u8], index: u16) -> Result<Node, Refusal>
     ensures { result ≡ Readers.node bytes.now index }
 {
-    if crate::raw::has_node(bytes, index as u32) {
-        return NodeRead::At(crate::raw::node(bytes, index));
+    if raw::has_node(bytes, index as u32) {
+        return Ok(raw::node(bytes, index));
     }
-    NodeRead::Refused(7)
+    Err(Refusal::PastTile)
 }
 
-pub fn edge(bytes: &[u8], index: u16) -> EdgeRead
+#[tactic(auto, unfolding(crate::specs::Readers::edge))]
+pub fn edge(bytes: &[u8], index: u16) -> Result<Edge, Refusal>
     ensures { result ≡ Readers.edge bytes.now index }
 {
-    if crate::raw::has_edge(bytes, index) {
-        return EdgeRead::At(crate::raw::edge(bytes, index));
+    if raw::has_edge(bytes, index) {
+        return Ok(raw::edge(bytes, index));
     }
-    EdgeRead::Refused(7)
+    Err(Refusal::PastTile)
 }
 
 // The adjacency entries of a node. Starts may fall: then there are none.
-pub fn incident(bytes: &[u8], node: u16) -> Entries
+#[tactic(auto, using(std::proofs::lemmas::Bool::Decides::nat_tests), unfolding(crate::specs::Readers::incident))]
+pub fn incident(bytes: &[u8], node: u16) -> Result<Range<u32>, Refusal>
     ensures { result ≡ Readers.incident bytes.now node }
 {
-    if !crate::raw::has_node(bytes, crate::raw::last_read(bytes, node)) {
-        return Entries::Refused(7);
+    if !raw::has_node(bytes, raw::last_read(bytes, node)) {
+        return Err(Refusal::PastTile);
     }
-    let start = crate::raw::adjacency_start(bytes, node as u32) as u32;
-    let end = crate::raw::adjacency_end(bytes, node);
-    if end < start {
-        return Entries::Range(start, start);
-    }
-    Entries::Range(start, end)
+    let start = raw::adjacency_start(bytes, node as u32) as u32;
+    let end = raw::adjacency_end(bytes, node);
+    Ok(start..end.max(start))
 }
 
 // An edge at a node, by its place among all adjacency entries.
-pub fn incident_entry(bytes: &[u8], entry: u32) -> EntryRead
+#[tactic(auto, unfolding(crate::specs::Readers::incident_entry))]
+pub fn incident_entry(bytes: &[u8], entry: u32) -> Result<Incident, Refusal>
     ensures { result ≡ Readers.incident_entry bytes.now entry }
 {
-    if crate::raw::has_entry(bytes, entry) {
-        return EntryRead::At(crate::raw::entry(bytes, entry));
+    if raw::has_entry(bytes, entry) {
+        return Ok(raw::entry(bytes, entry));
     }
-    EntryRead::Refused(7)
+    Err(Refusal::PastTile)
 }
 
 // Point `index` of an edge from its `from` node (0) to its `to` node (`points(edge) - 1` and above), as a node. Only what is read is refused.
-pub fn point(bytes: &[u8], edge: Edge, index: usize) -> NodeRead
+#[tactic(auto, unfolding(crate::specs::Readers::point))]
+pub fn point(bytes: &[u8], edge: Edge, index: usize) -> Result<Node, Refusal>
     ensures { result ≡ Readers.point bytes.now edge index }
 {
-    if crate::raw::has_point(bytes, edge, index) {
-        return NodeRead::At(crate::raw::point(bytes, edge, index));
+    if raw::has_point(bytes, edge, index) {
+        return Ok(raw::point(bytes, edge, index));
     }
-    NodeRead::Refused(7)
+    Err(Refusal::PastTile)
 }
 
 pub fn points(edge: Edge) -> usize
@@ -95,21 +99,21 @@ pub fn points(edge: Edge) -> usize
 }
 
 // The node at exactly (x, y), by binary search over the (y, x) order of the nodes that are there.
-pub fn node_at(bytes: &[u8], x: u16, y: u16) -> Found
+pub fn node_at(bytes: &[u8], x: u16, y: u16) -> Option<u16>
     ensures { result ≡ Readers.node_at bytes.now x y }
 {
     let mut low: u32 = 0;
-    let mut high = crate::raw::nodes_there(bytes) as u32;
+    let mut high = raw::nodes_there(bytes) as u32;
     while low < high {
         let middle = (low + high) / 2;
-        let n = crate::raw::node(bytes, middle as u16);
-        if crate::raw::before(n.y, n.x, y, x) {
+        let n = raw::node(bytes, middle as u16);
+        if raw::before(n.y, n.x, y, x) {
             low = middle + 1;
-        } else if crate::raw::before(y, x, n.y, n.x) {
+        } else if raw::before(y, x, n.y, n.x) {
             high = middle;
         } else {
-            return Found::At(middle as u16);
+            return Some(middle as u16);
         }
     }
-    Found::Nothing
+    None
 }

@@ -16,9 +16,11 @@ ghost use Rattle.geo.specs.Points as Points;
 ghost use Rattle.cache.specs.Lookups as Lookups;
 ghost use Rattle.view.specs.Views as Views;
 
-use geo::EdgePoint;
+use geo::Point;
 use pack::{Header, TileKey};
-use tile::{Edge, EdgeRead, Entries, EntryRead, Found, Head, NodeRead, Parsed, TileId};
+use refusal::Refusal;
+use std::ops::Range;
+use tile::{Edge, Head, Incident, Node, TileId};
 
 // Key, counts and micrometres per micro-degree stand in the head, as `tile::read::head` has it. The readers go by the bytes alone, so that no count can
 // disagree with them.
@@ -26,14 +28,6 @@ use tile::{Edge, EdgeRead, Entries, EntryRead, Found, Head, NodeRead, Parsed, Ti
 pub struct Tile<'a> {
     pub bytes: &'a [u8],
     pub head: Head,
-}
-
-// What a search in bytes that may be no tile finds.
-#[derive(Clone, Copy)]
-pub enum NodeFound {
-    At(u16),
-    Nothing,
-    Refused(u32),
 }
 
 impl<'a> Tile<'a> {
@@ -86,48 +80,53 @@ impl<'a> Tile<'a> {
         on::edge_count(self.bytes)
     }
 
-    pub fn node(self, index: u16) -> NodeRead
+    pub fn node(self, index: u16) -> Result<Node, Refusal>
         ensures { result ≡ Readers.node self.entry.bytes.now index }
     {
         tile::read::node(self.bytes, index)
     }
 
     // The adjacency entries of a node.
-    pub fn incident(self, node: u16) -> Entries
+    pub fn incident(self, node: u16) -> Result<Range<u32>, Refusal>
         ensures { result ≡ Readers.incident self.entry.bytes.now node }
     {
         tile::read::incident(self.bytes, node)
     }
 
     // An edge at a node, by its place among all adjacency entries, and whether it ends there.
-    pub fn incident_entry(self, entry: u32) -> EntryRead
+    pub fn incident_entry(self, entry: u32) -> Result<Incident, Refusal>
         ensures { result ≡ Readers.incident_entry self.entry.bytes.now entry }
     {
         tile::read::incident_entry(self.bytes, entry)
     }
 
-    pub fn edge(self, index: u16) -> EdgeRead
+    pub fn edge(self, index: u16) -> Result<Edge, Refusal>
         ensures { result ≡ Readers.edge self.entry.bytes.now index }
     {
         tile::read::edge(self.bytes, index)
     }
 
     // Point `index` of an edge, as a node.
-    pub fn point(self, edge: Edge, index: usize) -> NodeRead
+    pub fn point(self, edge: Edge, index: usize) -> Result<Node, Refusal>
         ensures { result ≡ Readers.point self.entry.bytes.now edge index }
     {
         tile::read::point(self.bytes, edge, index)
     }
 
     // The node at exactly (x, y).
-    pub fn node_at(self, x: u16, y: u16) -> Found
+    pub fn node_at(self, x: u16, y: u16) -> Option<u16>
         ensures { result ≡ Readers.node_at self.entry.bytes.now x y }
     {
         tile::read::node_at(self.bytes, x, y)
     }
 
     // Point `index` of an edge, as a global point and elevation: geo.rs's function of that name.
-    pub fn edge_point(self, header: Header, edge: Edge, index: usize) -> EdgePoint
+    pub fn edge_point(
+        self,
+        header: Header,
+        edge: Edge,
+        index: usize,
+    ) -> Result<(Point, i32), Refusal>
         ensures { result ≡ Points.edge_point header self.entry.bytes.now edge index }
     {
         on::edge_point(self.bytes, header, edge, index)
@@ -135,16 +134,17 @@ impl<'a> Tile<'a> {
 }
 
 // The node at exactly (x, y) of a tile's bytes; 4 where they are no tile of that key.
-pub fn node_at(bytes: &[u8], key: TileKey, size: u32, x: u16, y: u16) -> NodeFound
+pub fn node_at(
+    bytes: &[u8],
+    key: TileKey,
+    size: u32,
+    x: u16,
+    y: u16,
+) -> Result<Option<u16>, Refusal>
     ensures { result ≡ Views.node_at bytes.now key size x y }
 {
-    match tile::parse(bytes, key, size) {
-        Parsed::Refused(number) => NodeFound::Refused(number),
-        Parsed::Tile(_) => match through::node_at(bytes, x, y) {
-            Found::At(index) => NodeFound::At(index),
-            Found::Nothing => NodeFound::Nothing,
-        },
-    }
+    tile::parse(bytes, key, size)?;
+    Ok(through::node_at(bytes, x, y))
 }
 
 // Point `index` of an edge of the tile in a run of the arena, as a global point and elevation.
@@ -155,7 +155,7 @@ pub fn edge_point(
     header: Header,
     edge: Edge,
     index: usize,
-) -> EdgePoint
+) -> Result<(Point, i32), Refusal>
     ensures { result ≡ Points.edge_point header (Lookups.run_bytes arena.now first len) edge index }
 {
     through::edge_point(on::run(arena, first, len), header, edge, index)

@@ -4,8 +4,9 @@ ghost use Rattle.tile.specs.Layout as Layout;
 ghost use Rattle.geo.specs.Points as Points;
 ghost use Rattle.cache.specs.Lookups as Lookups;
 
-use geo::EdgePoint;
+use geo::Point;
 use pack::Header;
+use refusal::Refusal;
 use tile::Edge;
 
 // The bytes of a run: `len` of them from page `first` on, or as many as the arena has there.
@@ -36,7 +37,12 @@ pub fn edge_count(bytes: &[u8]) -> usize
 }
 
 // geo.rs's edge_point, with the bytes first.
-pub fn edge_point(bytes: &[u8], header: Header, edge: Edge, index: usize) -> EdgePoint
+pub fn edge_point(
+    bytes: &[u8],
+    header: Header,
+    edge: Edge,
+    index: usize,
+) -> Result<(Point, i32), Refusal>
     ensures { result ≡ Points.edge_point header bytes.now edge index }
 {
     geo::edge_point(header, bytes, edge, index)

@@ -5,9 +5,11 @@ ghost use Rattle.tile.specs.Readers as Readers;
 ghost use Rattle.geo.specs.Points as Points;
 
 use crate::Tile;
-use geo::EdgePoint;
+use geo::Point;
 use pack::Header;
-use tile::{Edge, EdgeRead, Entries, EntryRead, Found, NodeRead};
+use refusal::Refusal;
+use std::ops::Range;
+use tile::{Edge, Incident, Node};
 
 pub fn node_count(bytes: &[u8]) -> usize
     ensures { result ≡ Layout.nodes_of bytes.now }
@@ -21,31 +23,31 @@ pub fn edge_count(bytes: &[u8]) -> usize
     Tile::view(bytes).edge_count()
 }
 
-pub fn node(bytes: &[u8], index: u16) -> NodeRead
+pub fn node(bytes: &[u8], index: u16) -> Result<Node, Refusal>
     ensures { result ≡ Readers.node bytes.now index }
 {
     Tile::view(bytes).node(index)
 }
 
-pub fn incident(bytes: &[u8], node: u16) -> Entries
+pub fn incident(bytes: &[u8], node: u16) -> Result<Range<u32>, Refusal>
     ensures { result ≡ Readers.incident bytes.now node }
 {
     Tile::view(bytes).incident(node)
 }
 
-pub fn incident_entry(bytes: &[u8], entry: u32) -> EntryRead
+pub fn incident_entry(bytes: &[u8], entry: u32) -> Result<Incident, Refusal>
     ensures { result ≡ Readers.incident_entry bytes.now entry }
 {
     Tile::view(bytes).incident_entry(entry)
 }
 
-pub fn edge(bytes: &[u8], index: u16) -> EdgeRead
+pub fn edge(bytes: &[u8], index: u16) -> Result<Edge, Refusal>
     ensures { result ≡ Readers.edge bytes.now index }
 {
     Tile::view(bytes).edge(index)
 }
 
-pub fn point(bytes: &[u8], edge: Edge, index: usize) -> NodeRead
+pub fn point(bytes: &[u8], edge: Edge, index: usize) -> Result<Node, Refusal>
     ensures { result ≡ Readers.point bytes.now edge index }
 {
     Tile::view(bytes).point(edge, index)
@@ -58,13 +60,18 @@ pub fn points(edge: Edge) -> usize
     tile::read::points(edge)
 }
 
-pub fn node_at(bytes: &[u8], x: u16, y: u16) -> Found
+pub fn node_at(bytes: &[u8], x: u16, y: u16) -> Option<u16>
     ensures { result ≡ Readers.node_at bytes.now x y }
 {
     Tile::view(bytes).node_at(x, y)
 }
 
-pub fn edge_point(bytes: &[u8], header: Header, edge: Edge, index: usize) -> EdgePoint
+pub fn edge_point(
+    bytes: &[u8],
+    header: Header,
+    edge: Edge,
+    index: usize,
+) -> Result<(Point, i32), Refusal>
     ensures { result ≡ Points.edge_point header bytes.now edge index }
 {
     Tile::view(bytes).edge_point(header, edge, index)

@@ -1,12 +1,13 @@
 -- A loop that fills an array, one place a turn, makes the table of its values (`filled`); so it does for a struct's arrays, one turn a place of each (`pages_read`, `ring_read`,
 -- `places_read`). The idea: after n turns the first n places are the table's, and the rest as before.
+use Rattle.std.specs.Prelude.{Option}
+use Rattle.pack.specs.declared.TileKey.{TileKey}
 use Rattle.std.proofs.Common.{◌≡◌, ℕ, zero, suc, ◌+◌, ◌*◌, ◌≤◌, List, [], ◌∷◌, ◌++◌, length, get_or, drop, set, sym, refl, ap, ◌∙◌, append-nil, arith, length-append, drop_of_length-le, drop-cons}
 use lib.Seq.{set_at, append_snoc}
 use Rattle.num.specs.Fold.{up_to}
 use Rattle.geo.specs.declared.Point.{Point}
 use Rattle.cache.specs.declared.Pages.{Pages}
 use Rattle.cache.specs.declared.Ring.{Ring}
-use Rattle.cache.specs.declared.RingKey.{RingKey}
 use Rattle.cache.specs.declared.Slot.{Slot}
 use Rattle.engine.specs.declared.Places.{Places}
 use Rattle.words.specs.Words.{table, from, slot_by, place_by, point_by}
@@ -62,7 +63,7 @@ pages_read ws g s u c k = pages_apart ws g 96 ∙ rw (filled (slot_in ws) g.slot
 
 -- ---- the ring
 
-abbrev key_in : List ℕ → ℕ → RingKey
+abbrev key_in : List ℕ → ℕ → Option TileKey
 key_in ws j = place_by (from ws (401 + 2 * j))
 
 abbrev pub ring_turn : List ℕ → Ring → ℕ → Ring

@@ -1,5 +1,8 @@
 -- An engine is read back from its words (`engine_words`), so its words are accepted (`accepted-words`). The idea: dropping what stands before a piece leaves the piece and the rest; the
 -- piece's own reader then meets the piece's own words.
+use Rattle.std.specs.Prelude.{Option, Some, None}
+use Rattle.cache.specs.declared.Loading.{Loading}
+use Rattle.pack.specs.declared.TileKey.{TileKey}
 use Rattle.std.proofs.Common.{◌≡◌, ℕ, ◌+◌, ◌*◌, ◌%◌, ◌<◌, true, List, [], ◌∷◌, ◌++◌, length, get_or, drop, ℤ, pos, sym, refl, ap, ◌∙◌, append-nil, arith}
 use Rattle.num.specs.Cast.{bits32}
 use Rattle.pack.specs.Bytes.{signed32}
@@ -8,20 +11,13 @@ use Rattle.geo.specs.declared.Point.{Point}
 use Rattle.cache.specs.Keys.{empty_place}
 use Rattle.cache.specs.Runs.{empty_slot}
 use Rattle.cache.specs.declared.Cache.{Cache}
-use Rattle.cache.specs.declared.MaybeLoading.{MaybeLoading}
-use Rattle.cache.specs.declared.MaybeLoading.TheVariants as MaybeLoading
 use Rattle.cache.specs.declared.Pages.{Pages}
 use Rattle.cache.specs.declared.Pending.{Pending}
-use Rattle.cache.specs.declared.Pending.TheVariants as Pending
 use Rattle.cache.specs.declared.Ring.{Ring}
-use Rattle.cache.specs.declared.RingKey.{RingKey}
 use Rattle.cache.specs.declared.Slot.{Slot}
 use Rattle.matcher.specs.declared.Challenger.{Challenger}
-use Rattle.matcher.specs.declared.Challenger.TheVariants as Challenger
 use Rattle.matcher.specs.declared.Current.{Current}
-use Rattle.matcher.specs.declared.Current.TheVariants as Current
 use Rattle.matcher.specs.declared.Heading.{Heading}
-use Rattle.matcher.specs.declared.Heading.TheVariants as Heading
 use Rattle.matcher.specs.declared.Matched.{Matched}
 use Rattle.matcher.specs.declared.Matcher.{Matcher}
 use Rattle.engine.specs.declared.Ahead.{Ahead}
@@ -29,9 +25,7 @@ use Rattle.engine.specs.declared.Due.{Due}
 use Rattle.engine.specs.declared.Engine.{Engine}
 use Rattle.engine.specs.declared.Follower.{Follower}
 use Rattle.engine.specs.declared.MaybeFix.{MaybeFix}
-use Rattle.engine.specs.declared.MaybeFix.TheVariants as MaybeFix
 use Rattle.engine.specs.declared.MaybeTime.{MaybeTime}
-use Rattle.engine.specs.declared.MaybeTime.TheVariants as MaybeTime
 use Rattle.engine.specs.declared.Places.{Places}
 use Rattle.engine.specs.declared.Shared.{Shared}
 use Rattle.engine.specs.declared.Sight.{Sight}
@@ -128,7 +122,7 @@ pages_back g t ws zs e =
       clock,
     )
 
-place_by_lem : (p : RingKey) (w : ℕ → ℕ) → w 0 ≡ key_tag p.key → w 1 ≡ key_held p.key → maybe_key_of (key_tag p.key) (key_held p.key) ≡ p.key → place_by w ≡ p
+place_by_lem : (p : Option TileKey) (w : ℕ → ℕ) → w 0 ≡ key_tag p → w 1 ≡ key_held p → maybe_key_of (key_tag p) (key_held p) ≡ p → place_by w ≡ p
 place_by_lem p w a b m = rw (a, b, m)
 
 keys_back : (r : Ring) → TypedRing r → (ws zs : List ℕ) → drop 401 ws ≡ keys_words r.keys ++ zs → table (λ (i : ℕ). place_by (from ws (401 + 2 * i))) 64 ≡ r.keys
@@ -136,10 +130,10 @@ unfolding keys_words
 keys_back r t ws zs e =
     table_back (λ (i : ℕ). place_by (from ws (401 + 2 * i))) empty_place r.keys 64 t.keys
     (λ (i : ℕ) (h : i < 64).
-    place_by_lem (get_or r.keys i empty_place) (from ws (401 + 2 * i)) (word i h 0 (omega arith)) (word i h 1 (omega arith)) (maybe_back (get_or r.keys i empty_place).key (t.key i h)))
+    place_by_lem (get_or r.keys i empty_place) (from ws (401 + 2 * i)) (word i h 0 (omega arith)) (word i h 1 (omega arith)) (maybe_back (get_or r.keys i empty_place) (t.key i h)))
   where
-    word : (i : ℕ) → i < 64 → (k : ℕ) → k < 2 → from ws (401 + 2 * i) k ≡ get_or (maybe_key_words (get_or r.keys i empty_place).key) k 0
-    word i h k l = word_of (λ (j : ℕ). maybe_key_words (get_or r.keys j empty_place).key) 2 (λ (j : ℕ). refl) ws 401 64 zs e i k h l
+    word : (i : ℕ) → i < 64 → (k : ℕ) → k < 2 → from ws (401 + 2 * i) k ≡ get_or (maybe_key_words (get_or r.keys i empty_place)) k 0
+    word i h k l = word_of (λ (j : ℕ). maybe_key_words (get_or r.keys j empty_place)) 2 (λ (j : ℕ). refl) ws 401 64 zs e i k h l
 
 ring_back : (r : Ring) → TypedRing r → (ws zs : List ℕ) → drop 401 ws ≡ ring_words r ++ zs → ring_of ws 401 ≡ r
 unfolding ring_words ring_of
@@ -149,9 +143,9 @@ ring_back r t ws zs e =
     let n : get_or ws 529 0 ≡ r.next = at_is ws 529 (flat (c ∷ []) ++ zs) e2 0 ∙ word_back r.next t.next in
     rw (keys_back r t ws (flat (c ∷ []) ++ zs) (here ws 401 (keys_words r.keys) (c ∷ []) zs e), n)
 
-loading_by_lem : (l : MaybeLoading) → TypedLoading l → (zs : List ℕ) → loading_by (λ (k : ℕ). get_or (loading_words l ++ zs) k 0) ≡ l
-loading_by_lem MaybeLoading.Nothing t zs = refl
-loading_by_lem (MaybeLoading.Tile l) t zs = rw (key_back l.key t.0, word_back l.slot t.1)
+loading_by_lem : (l : Option Loading) → TypedLoading l → (zs : List ℕ) → loading_by (λ (k : ℕ). get_or (loading_words l ++ zs) k 0) ≡ l
+loading_by_lem None t zs = refl
+loading_by_lem (Some l) t zs = rw (key_back l.key t.0, word_back l.slot t.1)
 
 pending_by : (p : Pending) → TypedPending p → (zs : List ℕ) → pending_of (get_or (pending_words p ++ zs) 0 0) (get_or (pending_words p ++ zs) 1 0) ≡ p
 pending_by Pending.Nothing t zs = refl

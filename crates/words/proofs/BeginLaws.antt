@@ -1,11 +1,12 @@
 -- A load that begins, on words. What is read of a page: its head, whether it starts a run, its age (`head_own`, .., `age_bare`), the pages of its run (`room_none`, .., `room_all`). What a turn
 -- of each loop leaves: words of the same engine with other pages, from which the definition goes on to the same end (`Standing`; `clear_on`, `evict_on`, `piece_on`). What the whole leaves
 -- (`begun_in`, `begun_left`), and that an entry which begins a load does nothing else (`entry_begins`).
+use Rattle.cache.specs.declared.Loading.{Loading}
+use Rattle.std.specs.Prelude.{Option, Some, None, Result, Ok, Err}
+use Rattle.refusal.specs.declared.Refusal.{Refusal}
 use Rattle.std.proofs.Common.{◌≡◌, ℕ, zero, suc, ◌+◌, ◌-◌, ◌*◌, ◌/◌, ◌%◌, ◌<◌, ◌≤◌, Bool, true, false, cond, ◌&&◌, eqb, ltb, ◌≢◌, List, [], ◌∷◌, length, get_or, set, sym, refl, ap, ◌∙◌, ⊎_elim, true≢false, add-zero, arith, length-set, get_or-set_other, get_or-set_same, ltb-true, le-ltb, lt-ltb, eq-eqb, ne_eqb, eqb-true}
 use Rattle.pack.specs.Grid.{in_grid, locate_of}
 use Rattle.pack.specs.declared.Header.{Header}
-use Rattle.pack.specs.declared.Located.{Located}
-use Rattle.pack.specs.declared.Located.TheVariants as Located
 use Rattle.pack.specs.declared.TileKey.{TileKey}
 use Rattle.pack.proofs.Laws.{and_left, and_right, clause}
 use Rattle.cache.specs.Begin.{replaced}
@@ -19,18 +20,10 @@ use Rattle.cache.specs.State.{state_ok, runs_ok, ring_ok, load_ok, is_entry}
 use Rattle.cache.specs.State as Caches
 use Rattle.cache.specs.Victim.{since, age, Aged, victim, oldest}
 use Rattle.cache.specs.declared.Cache.{Cache}
-use Rattle.cache.specs.declared.MaybeKey.{MaybeKey}
-use Rattle.cache.specs.declared.MaybeKey.TheVariants as MaybeKey
-use Rattle.cache.specs.declared.MaybeLoading.{MaybeLoading}
-use Rattle.cache.specs.declared.MaybeLoading.TheVariants as MaybeLoading
 use Rattle.cache.specs.declared.Pages.{Pages}
 use Rattle.cache.specs.declared.Pending.{Pending}
-use Rattle.cache.specs.declared.Pending.TheVariants as Pending
 use Rattle.cache.specs.declared.Slot.{Slot}
 use Rattle.cache.specs.declared.next.Next.{Next}
-use Rattle.cache.specs.declared.next.Next.TheVariants as Next
-use Rattle.cache.specs.declared.victim.Found.{Found}
-use Rattle.cache.specs.declared.victim.Found.TheVariants as Found
 use Rattle.cache.proofs.Below.{same_or}
 use Rattle.cache.proofs.FillLaws.{fill-length}
 use Rattle.cache.proofs.Turns.{Full, clear_one, piece_one, head_self, clear_turn, clear_none, clear_past, piece_turn, piece_none, piece_past, evict_turn, evict_none, evict_past, place_past}
@@ -38,7 +31,6 @@ use Rattle.engine.specs.Deliver.{After, over, loaded, need_came, need_came_by}
 use Rattle.engine.specs.State.{engine_ok, is_ready, refused}
 use Rattle.engine.specs.declared.Engine.{Engine}
 use Rattle.engine.specs.declared.Phase.{Phase}
-use Rattle.engine.specs.declared.Phase.TheVariants as Phase
 use Rattle.engine.specs.declared.Status.TheVariants as Status
 use Rattle.engine.proofs.NeedLaws.{part_is}
 use Rattle.engine.proofs.TestedLaws.{causes, state_in, need_in}
@@ -48,7 +40,6 @@ use Rattle.words.specs.Put.{put}
 use Rattle.words.specs.Typed.{TypedKey}
 use Rattle.words.specs.Words.{from, key_word, maybe_key_of, header_by, due_of, loading_words, pending_words, slot_words, pages_of, cache_of, shared_of, follower_of, words, engine_of, accepted}
 use Rattle.words.specs.declared.deliver.Begins.{Begins}
-use Rattle.words.specs.declared.deliver.Begins.TheVariants as Begins
 use Rattle.words.proofs.BackLaws.{SlotBack, PagesBack, typed_slot}
 use Rattle.cache.proofs.VictimLaws.{oldest_is}
 use Rattle.words.proofs.PageSetLaws.{slot_put, age_put, loading_there, pages_read, pages_again, accepted_again, engine_own, own_pages}
@@ -110,7 +101,7 @@ module _ (ws : List ℕ) (p : ℕ) {head : ℕ} (e : head ≡ head_of p (kind_at
   age_run l q = rw (← e, q, used_in ws head l, clock_in ws)
 
 -- the victim by the ages
-pub victim_by : (ws v : List ℕ) (pages : ℕ) {count : ℕ} {r : Found} → count ≡ get_or ws 399 0 → Aged (pages_of ws 15) v count → r ≡ oldest v count pages
+pub victim_by : (ws v : List ℕ) (pages : ℕ) {count : ℕ} {r : Option ℕ} → count ≡ get_or ws 399 0 → Aged (pages_of ws 15) v count → r ≡ oldest v count pages
     → r ≡ victim (pages_of ws 15) pages
 victim_by ws v pages {count} c a q =
     let all : count ≡ (pages_of ws 15).count = c ∙ sym (count_is ws 15) in
@@ -343,11 +334,11 @@ module _ (ws : List ℕ) (h : accepted ws ≡ true) (at : ℕ) (key : TileKey) (
 -- the load, no fetch open, and the step counted
 pub begun_left : (ws : List ℕ) (key : TileKey) (slot offset len : ℕ) {us : List ℕ}
     → us ≡ words (with_pages (engine_of ws) (replaced (pages_of ws 15) slot key len))
-    → put 1149 (after (get_or ws 1149 0) ∷ []) (put 536 (pending_words Pending.Nothing) (put 530 (loading_words (MaybeLoading.Tile (new_load key slot offset len))) us))
+    → put 1149 (after (get_or ws 1149 0) ∷ []) (put 536 (pending_words Pending.Nothing) (put 530 (loading_words (Some (new_load key slot offset len))) us))
     ≡ words (begun (engine_of ws) key slot offset len)
 unfolding engine_of shared_of cache_of follower_of
 begun_left ws key slot offset len q =
-    let load = MaybeLoading.Tile (new_load key slot offset len) in
+    let load = Some (new_load key slot offset len) in
     let next = after (get_or ws 1149 0) ∷ [] in
     ap (λ (r : List ℕ). put 1149 next (put 536 (pending_words Pending.Nothing) (put 530 (loading_words load) r))) q
     ∙ ap (λ (r : List ℕ). put 1149 next (put 536 (pending_words Pending.Nothing) r)) (loading_put _ load)
@@ -368,7 +359,7 @@ need_in_words : (ws : List ℕ) → (engine_of ws).follower.due.need ≡ maybe_k
 unfolding engine_of follower_of due_of
 need_in_words ws = refl
 
-idle_in : (ws : List ℕ) → get_or ws 530 0 ≡ 0 → (engine_of ws).shared.cache.loading ≡ MaybeLoading.Nothing
+idle_in : (ws : List ℕ) → get_or ws 530 0 ≡ 0 → (engine_of ws).shared.cache.loading ≡ None
 unfolding engine_of shared_of cache_of
 idle_in ws z = rw z
 
@@ -389,21 +380,21 @@ module _ (ws : List ℕ) (failure : ℕ) (bs : List ℕ) where
   unfolding begins
   begins_busy h z = by (eqb failure 0 && eqb (length bs) 8) (engine_of ws).shared.cache.loading refl
     where
-      by : (t : Bool) (m : MaybeLoading) → (engine_of ws).shared.cache.loading ≡ m → Begins.Nothing ≡ cond t (begins_over m (engine_of ws) bs) Begins.Nothing
-      by true (MaybeLoading.Tile l) q = refl
-      by true MaybeLoading.Nothing q = absurd (z (ap (λ (x : List ℕ). get_or x 530 0) (sym (words_engine ws h)) ∙ loading_there (engine_of ws) ∙ rw q))
+      by : (t : Bool) (m : Option Loading) → (engine_of ws).shared.cache.loading ≡ m → Begins.Nothing ≡ cond t (begins_over m (engine_of ws) bs) Begins.Nothing
+      by true (Some l) q = refl
+      by true None q = absurd (z (ap (λ (x : List ℕ). get_or x 530 0) (sym (words_engine ws h)) ∙ loading_there (engine_of ws) ∙ rw q))
       by false m q = refl
 
-  pub begins_free : eqb failure 0 ≡ true → eqb (length bs) 8 ≡ true → get_or ws 530 0 ≡ 0 → {need : MaybeKey} → need ≡ maybe_key_of (get_or ws 608 0) (get_or ws 609 0)
+  pub begins_free : eqb failure 0 ≡ true → eqb (length bs) 8 ≡ true → get_or ws 530 0 ≡ 0 → {need : Option TileKey} → need ≡ maybe_key_of (get_or ws 608 0) (get_or ws 609 0)
       → begins_for need (engine_of ws) bs ≡ made_of
   unfolding begins
   begins_free q r z n = rw (q, r, idle_in ws z, need_in_words ws, n)
 
   -- the located entry of the needed tile
-  pub begins_there : eqb failure 0 ≡ true → eqb (length bs) 8 ≡ true → get_or ws 530 0 ≡ 0 → {need : MaybeKey} {key : TileKey} → need ≡ maybe_key_of (get_or ws 608 0) (get_or ws 609 0)
-      → need ≡ MaybeKey.Key key → {h : Header} {at : Located} → h ≡ header_by (from ws 2) → at ≡ locate_of h bs → begins_by at (engine_of ws) key ≡ made_of
+  pub begins_there : eqb failure 0 ≡ true → eqb (length bs) 8 ≡ true → get_or ws 530 0 ≡ 0 → {need : Option TileKey} {key : TileKey} → need ≡ maybe_key_of (get_or ws 608 0) (get_or ws 609 0)
+      → need ≡ Some key → {h : Header} {at : Result (Option (ℕ × ℕ)) Refusal} → h ≡ header_by (from ws 2) → at ≡ locate_of h bs → begins_by at (engine_of ws) key ≡ made_of
   begins_there q r z {key = key} n k {h} a l =
-      ap (λ (x : Located). begins_by x (engine_of ws) key) (l ∙ ap (λ (x : Header). locate_of x bs) (a ∙ sym (header_in ws)))
+      ap (λ (x : Result (Option (ℕ × ℕ)) Refusal). begins_by x (engine_of ws) key) (l ∙ ap (λ (x : Header). locate_of x bs) (a ∙ sym (header_in ws)))
       ∙ begins_free q r z (sym k ∙ n)
 
 -- ---- an entry that begins a load
@@ -411,11 +402,11 @@ module _ (ws : List ℕ) (failure : ℕ) (bs : List ℕ) where
 -- what it asks
 pub record Beginning (e : Engine) (failure : ℕ) (bs : List ℕ) (key : TileKey) (slot offset len : ℕ) : Type 0 where
   pub read : (eqb failure 0 && eqb (length bs) 8) ≡ true
-  pub idle : e.shared.cache.loading ≡ MaybeLoading.Nothing
-  pub needed : e.follower.due.need ≡ MaybeKey.Key key
-  pub there : locate_of e.shared.header bs ≡ Located.Tile offset len
+  pub idle : e.shared.cache.loading ≡ None
+  pub needed : e.follower.due.need ≡ Some key
+  pub there : locate_of e.shared.header bs ≡ Ok (Some (offset, len))
   pub small : ltb 49152 len ≡ false
-  pub room : victim e.shared.cache.pages (span len) ≡ Found.At slot
+  pub room : victim e.shared.cache.pages (span len) ≡ Some slot
 
 abbrev is_at : Begins → Bool
 is_at Begins.Nothing = false
@@ -428,11 +419,11 @@ module _ (e : Engine) (failure : ℕ) (bs : List ℕ) (key : TileKey) (slot offs
   none_not : Begins.Nothing ≡ At → ⊥
   none_not q = true≢false (sym (ap is_at q))
 
-  module _ (k : TileKey) (o l : ℕ) (read : (eqb failure 0 && eqb (length bs) 8) ≡ true) (idle : e.shared.cache.loading ≡ MaybeLoading.Nothing)
-      (needed : e.follower.due.need ≡ MaybeKey.Key k) (there : locate_of e.shared.header bs ≡ Located.Tile o l) where
-    by_found : ltb 49152 l ≡ false → (f : Found) → victim e.shared.cache.pages (span l) ≡ f → begins_in f k o l ≡ At → Beginning e failure bs key slot offset len
-    by_found small Found.Nothing room q = absurd (none_not q)
-    by_found small (Found.At s) room q =
+  module _ (k : TileKey) (o l : ℕ) (read : (eqb failure 0 && eqb (length bs) 8) ≡ true) (idle : e.shared.cache.loading ≡ None)
+      (needed : e.follower.due.need ≡ Some k) (there : locate_of e.shared.header bs ≡ Ok (Some (o, l))) where
+    by_found : ltb 49152 l ≡ false → (f : Option ℕ) → victim e.shared.cache.pages (span l) ≡ f → begins_in f k o l ≡ At → Beginning e failure bs key slot offset len
+    by_found small None room q = absurd (none_not q)
+    by_found small (Some s) room q =
         let a : k ≡ key = cc in
         let b : s ≡ slot = cc in
         let c : o ≡ offset = cc in
@@ -440,10 +431,10 @@ module _ (e : Engine) (failure : ℕ) (bs : List ℕ) (key : TileKey) (slot offs
         record {
           read = read;
           idle = idle;
-          needed = needed ∙ ap MaybeKey.Key a;
+          needed = needed ∙ ap Some a;
           there = there ∙ rw (c, d);
           small = ap (ltb 49152) (sym d) ∙ small;
-          room = ap (λ (n : ℕ). victim e.shared.cache.pages (span n)) (sym d) ∙ room ∙ ap Found.At b;
+          room = ap (λ (n : ℕ). victim e.shared.cache.pages (span n)) (sym d) ∙ room ∙ ap Some b;
         }
 
     by_len : (t : Bool) → ltb 49152 l ≡ t → cond t Begins.Nothing (begins_in (victim e.shared.cache.pages (span l)) k o l) ≡ At
@@ -451,21 +442,21 @@ module _ (e : Engine) (failure : ℕ) (bs : List ℕ) (key : TileKey) (slot offs
     by_len true large q = absurd (none_not q)
     by_len false small q = by_found small (victim e.shared.cache.pages (span l)) refl q
 
-  by_place : (k : TileKey) → (eqb failure 0 && eqb (length bs) 8) ≡ true → e.shared.cache.loading ≡ MaybeLoading.Nothing → e.follower.due.need ≡ MaybeKey.Key k
-      → (x : Located) → locate_of e.shared.header bs ≡ x → begins_by x e k ≡ At → Beginning e failure bs key slot offset len
-  by_place k read idle needed Located.NoTile there q = absurd (none_not q)
-  by_place k read idle needed (Located.Refused n) there q = absurd (none_not q)
-  by_place k read idle needed (Located.Tile o l) there q = by_len k o l read idle needed there (ltb 49152 l) refl q
+  by_place : (k : TileKey) → (eqb failure 0 && eqb (length bs) 8) ≡ true → e.shared.cache.loading ≡ None → e.follower.due.need ≡ Some k
+      → (x : Result (Option (ℕ × ℕ)) Refusal) → locate_of e.shared.header bs ≡ x → begins_by x e k ≡ At → Beginning e failure bs key slot offset len
+  by_place k read idle needed (Ok None) there q = absurd (none_not q)
+  by_place k read idle needed (Err n) there q = absurd (none_not q)
+  by_place k read idle needed (Ok (Some (o, l))) there q = by_len k o l read idle needed there (ltb 49152 l) refl q
 
-  by_need : (eqb failure 0 && eqb (length bs) 8) ≡ true → e.shared.cache.loading ≡ MaybeLoading.Nothing
-      → (n : MaybeKey) → e.follower.due.need ≡ n → begins_for n e bs ≡ At → Beginning e failure bs key slot offset len
-  by_need read idle MaybeKey.Nothing needed q = absurd (none_not q)
-  by_need read idle (MaybeKey.Key k) needed q = by_place k read idle needed (locate_of e.shared.header bs) refl q
+  by_need : (eqb failure 0 && eqb (length bs) 8) ≡ true → e.shared.cache.loading ≡ None
+      → (n : Option TileKey) → e.follower.due.need ≡ n → begins_for n e bs ≡ At → Beginning e failure bs key slot offset len
+  by_need read idle None needed q = absurd (none_not q)
+  by_need read idle (Some k) needed q = by_place k read idle needed (locate_of e.shared.header bs) refl q
 
-  by_load : (eqb failure 0 && eqb (length bs) 8) ≡ true → (m : MaybeLoading) → e.shared.cache.loading ≡ m → begins_over m e bs ≡ At
+  by_load : (eqb failure 0 && eqb (length bs) 8) ≡ true → (m : Option Loading) → e.shared.cache.loading ≡ m → begins_over m e bs ≡ At
       → Beginning e failure bs key slot offset len
-  by_load read MaybeLoading.Nothing idle q = by_need read idle e.follower.due.need refl q
-  by_load read (MaybeLoading.Tile l) idle q = absurd (none_not q)
+  by_load read None idle q = by_need read idle e.follower.due.need refl q
+  by_load read (Some l) idle q = absurd (none_not q)
 
   by_answer : (t : Bool) → (eqb failure 0 && eqb (length bs) 8) ≡ t → cond t (begins_over e.shared.cache.loading e bs) Begins.Nothing ≡ At
       → Beginning e failure bs key slot offset len
@@ -510,7 +501,7 @@ module _ (e : Engine) (arena bs : List ℕ) (failure : ℕ) (k : TileKey) (ok : 
   fetched_key : key ≡ k
   fetched_key =
       same_keys key k
-      (sym (ap (λ (m : MaybeKey). holds m k) b.needed) ∙ and_right (is_ready e.shared.phase) _ open_ok)
+      (sym (ap (λ (m : Option TileKey). holds m k) b.needed) ∙ and_right (is_ready e.shared.phase) _ open_ok)
 
   inside : in_grid e.shared.header key ≡ true
   inside = need_in e₁ (length arena) ok key (phase_ready e.shared.phase (and_left (is_ready e.shared.phase) _ open_ok)) b.needed
@@ -525,7 +516,7 @@ module _ (e : Engine) (arena bs : List ℕ) (failure : ℕ) (k : TileKey) (ok : 
       ≡ Loads.over (Loads.more (record {
         pages = replaced c₁.pages slot key len;
         missing = c₁.missing;
-        loading = MaybeLoading.Tile (new_load key slot offset len);
+        loading = Some (new_load key slot offset len);
         pending = Pending.Nothing;
         loads = c₁.loads;
       })) arena
@@ -543,7 +534,7 @@ module _ (e : Engine) (arena bs : List ℕ) (failure : ℕ) (k : TileKey) (ok : 
 
   pub entry_begins : need_came e₁ arena failure bs ≡ over (record { answer = Status.Working; engine = begun e key slot offset len }) arena
   entry_begins =
-      ap (λ (n : MaybeKey). need_came_by n e₁ arena failure bs) b.needed
+      ap (λ (n : Option TileKey). need_came_by n e₁ arena failure bs) b.needed
       ∙ part_is e₁ arena key failure bs inside
       ∙ ap (λ (n : Next). made n (Loads.takes n e.shared.header key failure (length bs))) next_entry
       ∙ ap (made Next.Entry) entry_taken

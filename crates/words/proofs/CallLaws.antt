@@ -25,7 +25,6 @@ use Rattle.matcher.proofs.GatherLaws.{updated_uses}
 use Rattle.predict.specs.Predict as Predict
 use Rattle.predict.specs.Predict.{Forecast, cache_after, after_of, predict_tested, untouched, from_looks}
 use Rattle.predict.specs.declared.Outcome.{Outcome}
-use Rattle.predict.specs.declared.Outcome.TheVariants as Outcome
 use Rattle.predict.proofs.InCache.{looks_predict}
 use Rattle.words.specs.Calls as Calls
 use Rattle.words.specs.Calls.{left}

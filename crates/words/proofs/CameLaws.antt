@@ -2,11 +2,13 @@
 -- Which definition that is, by the tests: number 12 (`deliver_tested`, `deliver_refused`, `step_refused`), a chunk that leaves more to come (`chunk_goes_on`), a read from a lent pack (`read_there`,
 -- `read_past`), and what a step over one leaves open (`step_fetches`, `step_works`). The idea of the first: accepted words are an engine's (`words_engine`), and a piece that is put gives
 -- the words of that engine with the piece (`SetLaws`).
+use Rattle.std.specs.Prelude.{Option, Some, None}
+use Rattle.std.specs.Prelude.{Ok, Err}
+use Rattle.refusal.specs.declared.Refusal.{Refusal}
 use Rattle.std.proofs.Common.{◌≡◌, ℕ, ◌+◌, ◌-◌, ◌%◌, ◌<◌, ◌≤◌, Bool, true, false, cond, ◌&&◌, eqb, ltb, ◌⊎◌, List, [], ◌∷◌, length, get_or, take, drop, sym, refl, ap, ◌∙◌, true≢false, arith, ltb-true, eqb-true}
 use denote.Enum.Declared.{tag_of}
 use Rattle.pack.specs.Grid.{read}
 use Rattle.pack.specs.declared.Header.{Header}
-use Rattle.pack.specs.declared.Range.TheVariants as Range
 use Rattle.pack.specs.declared.TileKey.{TileKey}
 use Rattle.pack.proofs.Laws.{and_left, and_right}
 use Rattle.cache.specs.Calls.{load_tested}
@@ -15,12 +17,7 @@ use Rattle.cache.specs.Loads as Loads
 use Rattle.cache.specs.Lookups.{after}
 use Rattle.cache.specs.declared.Cache.{Cache}
 use Rattle.cache.specs.declared.Loading.{Loading}
-use Rattle.cache.specs.declared.MaybeKey.{MaybeKey}
-use Rattle.cache.specs.declared.MaybeKey.TheVariants as MaybeKey
-use Rattle.cache.specs.declared.MaybeLoading.{MaybeLoading}
-use Rattle.cache.specs.declared.MaybeLoading.TheVariants as MaybeLoading
 use Rattle.cache.specs.declared.Pending.{Pending}
-use Rattle.cache.specs.declared.Pending.TheVariants as Pending
 use Rattle.cache.proofs.StepLaws.{chunk_less}
 use Rattle.engine.specs.Calls as Engines
 use Rattle.engine.specs.Deliver.{over, with_pending, header_failed, needless, loaded, load_failed, part_came, need_came_by, need_came, delivered_by, delivered}
@@ -28,9 +25,7 @@ use Rattle.engine.specs.State.{engine_ok, refused}
 use Rattle.engine.specs.Steps.{request_of, opened, stepped}
 use Rattle.engine.specs.declared.Engine.{Engine}
 use Rattle.engine.specs.declared.Phase.{Phase}
-use Rattle.engine.specs.declared.Phase.TheVariants as Phase
 use Rattle.engine.specs.declared.Status.{Status}
-use Rattle.engine.specs.declared.Status.TheVariants as Status
 use Rattle.engine.specs.declared.Stepped.{Stepped}
 use Rattle.engine.specs.declared.plan.Plan.{Plan}
 use Rattle.engine.specs.contracts.Status as Statuses
@@ -146,10 +141,10 @@ module _ (ws : List ℕ) (h : accepted ws ≡ true) where
       ∙ phase_put _ Phase.Failed)
 
   pub further_left : (l : Loading) (come : ℕ)
-      → put 1149 next (put 536 (pending_words Pending.Nothing) (put 530 (loading_words (MaybeLoading.Tile (Came.load_with l come))) ws)) ≡ words (Came.further e₀ l come)
+      → put 1149 next (put 536 (pending_words Pending.Nothing) (put 530 (loading_words (Some (Came.load_with l come))) ws)) ≡ words (Came.further e₀ l come)
   unfolding engine_of follower_of
   further_left l come =
-      let load = MaybeLoading.Tile (Came.load_with l come) in
+      let load = Some (Came.load_with l come) in
       ap (λ (r : List ℕ). put 1149 next (put 536 (pending_words Pending.Nothing) (put 530 (loading_words load) r))) here
       ∙ ap (λ (r : List ℕ). put 1149 next (put 536 (pending_words Pending.Nothing) r)) (loading_put _ load)
       ∙ ap (put 1149 next) (pending_put _ Pending.Nothing)
@@ -185,23 +180,23 @@ module _ (ws : List ℕ) (p : Pending) (arena : List ℕ) (failure : ℕ) (bs : 
   abbrev e₁ : Engine
   e₁ = opened_as (engine_of ws) p
 
-  pub none_came : (engine_of ws).follower.due.need ≡ MaybeKey.Nothing → need_came e₁ arena failure bs ≡ over (refused e₁ 11) arena
-  none_came q = ap (λ (k : MaybeKey). need_came_by k e₁ arena failure bs) q
+  pub none_came : (engine_of ws).follower.due.need ≡ None → need_came e₁ arena failure bs ≡ over (refused e₁ 11) arena
+  none_came q = ap (λ (k : Option TileKey). need_came_by k e₁ arena failure bs) q
 
-  pub some_came : {key : TileKey} → (engine_of ws).follower.due.need ≡ MaybeKey.Key key
+  pub some_came : {key : TileKey} → (engine_of ws).follower.due.need ≡ Some key
       → (let x = load_tested (with_pending (cache_of ws 15) p) arena (header_by (from ws 2)) key failure bs in
       need_came e₁ arena failure bs ≡ over (loaded e₁ (Loads.told x)) x.arena)
   unfolding part_came engine_of shared_of
-  some_came q = ap (λ (k : MaybeKey). need_came_by k e₁ arena failure bs) q
+  some_came q = ap (λ (k : Option TileKey). need_came_by k e₁ arena failure bs) q
 
 -- ---- a chunk that leaves more to come
 
 -- it is part of what is left of its tile
-pub tile_less : {m : MaybeLoading} {l : Loading} → m ≡ MaybeLoading.Tile l → chunk_len l ≤ l.len - l.done
+pub tile_less : {m : Option Loading} {l : Loading} → m ≡ Some l → chunk_len l ≤ l.len - l.done
 tile_less {m} {l} q = chunk_less l
 
 module _ (e : Engine) (arena bs : List ℕ) (failure : ℕ) (ok : engine_ok (opened_as e Pending.Chunk) (length arena) ≡ true)
-    {l : Loading} (loads : e.shared.cache.loading ≡ MaybeLoading.Tile l) (more : Came.is_more l failure (length bs) ≡ true) where
+    {l : Loading} (loads : e.shared.cache.loading ≡ Some l) (more : Came.is_more l failure (length bs) ≡ true) where
   pub chunk_goes_on : need_came (opened_as e Pending.Chunk) arena failure bs
       ≡ over (record { answer = Status.Working; engine = Came.further e l (l.done + chunk_len l) }) (Loads.put arena l.slot l.done bs)
   unfolding delivered moved
@@ -222,11 +217,11 @@ by_fetch e {p} r arena failure bs = ap (λ (x : Pending). delivered_by x (opened
 -- ---- a read from a lent pack
 
 module _ (e : Engine) (arena : List ℕ) (offset len : ℕ) (pack : List ℕ) (ok : engine_ok e (length arena) ≡ true) where
-  pub read_there : {a : ℕ} → read pack offset len ≡ Range.At a → Engines.answered_from e arena offset len pack ≡ delivered e arena 0 (take (a + len - a) (drop a pack))
+  pub read_there : {a : ℕ} → read pack offset len ≡ Ok a → Engines.answered_from e arena offset len pack ≡ delivered e arena 0 (take (a + len - a) (drop a pack))
   unfolding Engines.answered_from Engines.deliver
   read_there {a} there = let long : a + len - a ≡ len = omega arith in rw (there, long, ok)
 
-  pub read_past : {n : ℕ} → read pack offset len ≡ Range.Refused n → Engines.answered_from e arena offset len pack ≡ delivered e arena 2 []
+  pub read_past : {n : Refusal} → read pack offset len ≡ Err n → Engines.answered_from e arena offset len pack ≡ delivered e arena 2 []
   unfolding Engines.answered_from Engines.deliver
   read_past past = rw (past, ok)
 

@@ -49,7 +49,7 @@ used_kept ws =
 
 pub keys_kept : (ws : List ℕ) → held_at 401 (keys_words (ring_of ws 401).keys) ws ≡ keys_held ws 64
 unfolding keys_words ring_of
-keys_kept ws = tabled (λ p. maybe_key_words p.key) 2 (λ p. refl) (λ (i : ℕ). place_by (from ws (401 + 2 * i))) empty_place 401 64 ws
+keys_kept ws = tabled (λ p. maybe_key_words p) 2 (λ p. refl) (λ (i : ℕ). place_by (from ws (401 + 2 * i))) empty_place 401 64 ws
 
 pub points_kept : (ws : List ℕ) → held_at 544 (points_words (places_of ws 544).v) ws ≡ points_held ws 16
 unfolding points_words places_of

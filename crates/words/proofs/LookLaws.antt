@@ -1,25 +1,25 @@
 -- What the cache's lookups read, where it stands among the words: a run's length (`len_at`, `len_past`), a page's age (`age_at`), and the key of the tile that is ready on a page (`ready_key_lem`).
 -- So a page taken out of the words is the page taken out of the cache that they hold (`page_taken`), and so is a place of the ring (`place_taken`).
+use Rattle.std.specs.Prelude.{Option, Some, None}
+use Rattle.pack.specs.declared.TileKey.{TileKey}
 use Rattle.std.proofs.Common.{◌≡◌, ℕ, ◌+◌, ◌*◌, ◌/◌, ◌%◌, ◌<◌, ◌≤◌, Bool, true, false, cond, ◌&&◌, eqb, List, get_or, set, refl, ap, ◌∙◌, add-zero, arith}
 use Rattle.cache.specs.Ages.{row_of, col_of, ready_key, page_in, place_in}
 use Rattle.cache.specs.Keys.{key_at}
 use Rattle.cache.specs.Runs.{slot_at}
 use Rattle.cache.specs.Stands.{Sized}
-use Rattle.cache.specs.declared.MaybeKey.{MaybeKey}
-use Rattle.cache.specs.declared.MaybeKey.TheVariants as MaybeKey
 use Rattle.words.specs.Words.{from, key_of, slot_by, pages_of, ring_of, cache_of, shared_of, engine_of}
 use Rattle.words.proofs.ArrayLaws.{length-table}
 use Rattle.words.proofs.PagesLaws.{slots_size, slot_at_lem, slot_past, place_at, both_bits}
 use Rattle.words.proofs.TripLaws.{table_at}
 
 -- the key of a word, or none
-abbrev pub key_if : Bool → ℕ → MaybeKey
-key_if t n = cond t (MaybeKey.Key (key_of n)) MaybeKey.Nothing
+abbrev pub key_if : Bool → ℕ → Option TileKey
+key_if t n = cond t (Some (key_of n)) None
 
 ready_key_lem : (w : ℕ → ℕ) → ready_key (slot_by w) ≡ key_if (eqb (w 0 % 4) 3) (w 1)
 ready_key_lem w = by (eqb (w 0 / 2 % 2) 1) (eqb (w 0 % 2) 1) ∙ ap (λ (t : Bool). key_if t (w 1)) (both_bits (w 0))
   where
-    by : (ready has : Bool) → cond ready (key_if has (w 1)) MaybeKey.Nothing ≡ key_if (ready && has) (w 1)
+    by : (ready has : Bool) → cond ready (key_if has (w 1)) None ≡ key_if (ready && has) (w 1)
     by true has = refl
     by false has = refl
 

@@ -1,9 +1,7 @@
 -- The words of a matcher, piece by piece as the code takes them over; and words of another count, which are not the same.
 use Rattle.std.proofs.Common.{◌≡◌, ℕ, suc, Bool, true, false, ◌&&◌, eqb, List, [], ◌∷◌, ◌++◌, length, get_or, refl, ap}
 use Rattle.matcher.specs.declared.Challenger.{Challenger}
-use Rattle.matcher.specs.declared.Challenger.TheVariants as Challenger
 use Rattle.matcher.specs.declared.Current.{Current}
-use Rattle.matcher.specs.declared.Current.TheVariants as Current
 use Rattle.words.specs.Words.{same_words, current_words, challenger_words}
 
 -- 14 words of a match and 6 of a challenger

@@ -1,21 +1,14 @@
 -- Each number is read back from its words: the laws that a struct's fields cite.
-use Rattle.std.proofs.Common.{◌≡◌, ℕ, ◌+◌, ◌-◌, ◌*◌, ◌/◌, ◌%◌, ◌<◌, ◌≤◌, Bool, true, false, T, ℤ, pos, negsuc, refl, ap, ◌∙◌, arith, le-ltb, lt-ltb, ne_eqb}
+use Rattle.std.proofs.Common.{◌≡◌, ℕ, ◌+◌, ◌-◌, ◌*◌, ◌/◌, ◌%◌, ◌<◌, ◌≤◌, Bool, true, false, T, ℤ, pos, negsuc, refl, ap, ◌∙◌, arith, le-ltb, lt-ltb, ne_eqb, Option, Some, None}
 use lib.Ieee.{Float, binary32, fits}
 use lib.Ieee.Bits.{of_bits-to_bits}
 use Rattle.num.specs.Cast.{bits32, low16}
 use Rattle.pack.specs.Bytes.{signed32}
 use Rattle.pack.specs.declared.TileKey.{TileKey}
-use Rattle.cache.specs.declared.MaybeKey.{MaybeKey}
-use Rattle.cache.specs.declared.MaybeKey.TheVariants as MaybeKey
 use Rattle.cache.specs.declared.Part.{Part}
-use Rattle.cache.specs.declared.Part.TheVariants as Part
 use Rattle.cache.specs.declared.Slot.{Slot}
-use Rattle.matcher.specs.declared.Forward.{Forward}
-use Rattle.matcher.specs.declared.Forward.TheVariants as Forward
 use Rattle.predict.specs.declared.End.{End}
-use Rattle.predict.specs.declared.End.TheVariants as End
 use Rattle.engine.specs.declared.Phase.{Phase}
-use Rattle.engine.specs.declared.Phase.TheVariants as Phase
 use Rattle.words.specs.Typed.{Word, Short, Byte, Signed, Height, TypedKey, TypedMaybe, TypedPart, TypedSlot}
 use Rattle.words.specs.Words.{bit, is_set, low_word, high_word, long_of, float_word, float_of, height_of, key_word, key_of, key_tag, key_held, maybe_key_of, phase_word, phase_of, part_word, part_of, slot_by, forward_word, forward_of, end_word, end_of}
 
@@ -66,19 +59,19 @@ pub bit_back : (b : Bool) → is_set (bit b) ≡ b
 bit_back true = refl
 bit_back false = refl
 
-pub maybe_back : (k : MaybeKey) → TypedMaybe k → maybe_key_of (key_tag k) (key_held k) ≡ k
-maybe_back MaybeKey.Nothing h = refl
-maybe_back (MaybeKey.Key k) h = ap MaybeKey.Key (key_back k h)
+pub maybe_back : (k : Option TileKey) → TypedMaybe k → maybe_key_of (key_tag k) (key_held k) ≡ k
+maybe_back None h = refl
+maybe_back (Some k) h = ap Some (key_back k h)
 
 pub phase_back : (p : Phase) → phase_of (phase_word p) ≡ p
 phase_back Phase.Unread = refl
 phase_back Phase.Ready = refl
 phase_back Phase.Failed = refl
 
-pub forward_back : (f : Forward) → forward_of (forward_word f) ≡ f
-forward_back Forward.Unknown = refl
-forward_back (Forward.Is true) = refl
-forward_back (Forward.Is false) = refl
+pub forward_back : (f : Option Bool) → forward_of (forward_word f) ≡ f
+forward_back None = refl
+forward_back (Some true) = refl
+forward_back (Some false) = refl
 
 pub end_back : (e : End) → end_of (end_word e) ≡ e
 end_back End.Horizon = refl
@@ -94,9 +87,9 @@ part_back (Part.Of h) b =
     let same : (h + 1 - 1) % 256 ≡ h = omega (arith, b) in
     rw (ne_eqb (h + 1) 0 (λ e. omega (arith, e)), same)
 
-tag_le : (k : MaybeKey) → key_tag k ≤ 1
-tag_le MaybeKey.Nothing = omega arith
-tag_le (MaybeKey.Key k) = omega arith
+tag_le : (k : Option TileKey) → key_tag k ≤ 1
+tag_le None = omega arith
+tag_le (Some k) = omega arith
 
 bit_le : (b : Bool) → bit b ≤ 1
 bit_le true = omega arith

@@ -1,9 +1,10 @@
 -- A step that leaves a fetch open does nothing else (`opens_step`), and one that opens none asks for no read (`closed_step`). The idea: by the open fetch, else by the plan; towards a
 -- tile by the cache's next step, and where that makes no read the cache settles the tile (`need_settled`).
+use Rattle.refusal.specs.declared.Refusal.{Refusal}
+use Rattle.std.specs.Prelude.{Result, Ok, Err}
+use Rattle.std.specs.Prelude.{Option, Some, None}
 use Rattle.std.proofs.Common.{◌≡◌, ℕ, ◌+◌, Bool, true, false, cond, eqb, ltb, List, [], replicate, pos, sym, refl, ap, ◌∙◌, true≢false}
 use Rattle.pack.specs.Grid.{key_of, in_grid}
-use Rattle.pack.specs.declared.Keyed.{Keyed}
-use Rattle.pack.specs.declared.Keyed.TheVariants as Keyed
 use Rattle.pack.specs.declared.TileKey.{TileKey}
 use Rattle.cache.specs.Calls.{load_tested}
 use Rattle.cache.specs.Loads as Loads
@@ -11,16 +12,10 @@ use Rattle.cache.specs.Loads.{unread_step}
 use Rattle.cache.specs.Lookups.{next_step, passes, len_at, touched}
 use Rattle.cache.specs.declared.Cache.{Cache}
 use Rattle.cache.specs.declared.Loaded.{Loaded}
-use Rattle.cache.specs.declared.MaybeKey.{MaybeKey}
-use Rattle.cache.specs.declared.MaybeKey.TheVariants as MaybeKey
 use Rattle.cache.specs.declared.Pending.{Pending}
-use Rattle.cache.specs.declared.Pending.TheVariants as Pending
 use Rattle.cache.specs.declared.Progress.{Progress}
-use Rattle.cache.specs.declared.Progress.TheVariants as Progress
 use Rattle.cache.specs.declared.next.Next.{Next}
-use Rattle.cache.specs.declared.next.Next.TheVariants as Next
 use Rattle.matcher.specs.declared.Current.{Current}
-use Rattle.matcher.specs.declared.Current.TheVariants as Current
 use Rattle.matcher.specs.declared.Matched.{Matched}
 use Rattle.matcher.specs.declared.Updated.{Updated}
 use Rattle.matcher.specs.declared.Outcome as MatchOutcome
@@ -41,14 +36,10 @@ use Rattle.engine.specs.declared.Engine.{Engine}
 use Rattle.engine.specs.declared.Fix.{Fix}
 use Rattle.engine.specs.declared.Follower.{Follower}
 use Rattle.engine.specs.declared.MaybeFix.{MaybeFix}
-use Rattle.engine.specs.declared.MaybeFix.TheVariants as MaybeFix
 use Rattle.engine.specs.declared.Phase.{Phase}
-use Rattle.engine.specs.declared.Phase.TheVariants as Phase
 use Rattle.engine.specs.declared.Status.{Status}
-use Rattle.engine.specs.declared.Status.TheVariants as Status
 use Rattle.engine.specs.declared.Stepped.{Stepped}
 use Rattle.engine.specs.declared.plan.Plan.{Plan}
-use Rattle.engine.specs.declared.plan.Plan.TheVariants as Plan
 use Rattle.cache.proofs.FromLaws.{next_chunk, bytes_left}
 use Rattle.cache.proofs.UnreadLaws.{unread_steps}
 use Rattle.engine.proofs.NeedLaws.{need_settles}
@@ -79,10 +70,9 @@ no_due true road m fix = refl
 no_due false true m fix = no_road m fix
 no_due false false m fix = refl
 
-no_fix : (k : Keyed) (fix : Fix) (due : Due) (m : Current) → is_need (of_fix k fix due m) ≡ false
-no_fix (Keyed.In key) fix due m = no_due due.matching due.road m fix
-no_fix Keyed.Outside fix due m = refl
-no_fix (Keyed.Refused number) fix due m = refl
+no_fix : (k : Option TileKey) (fix : Fix) (due : Due) (m : Current) → is_need (of_fix k fix due m) ≡ false
+no_fix (Some key) fix due m = no_due due.matching due.road m fix
+no_fix None fix due m = refl
 
 module _ (e : Engine) where
   no_sight : (f : MaybeFix) → is_need (of_sight f e.shared.header e.follower.due e.follower.matcher.current) ≡ false
@@ -90,14 +80,14 @@ module _ (e : Engine) where
   no_sight (MaybeFix.Is fix) = no_fix (key_of e.shared.header fix.lat fix.lon) fix e.follower.due e.follower.matcher.current
 
   -- the planned tile is the needed one
-  needed_by : (n : MaybeKey) (key : TileKey)
-      → of_need n e.shared.header e.follower.sight.fix e.follower.due e.follower.matcher.current ≡ Plan.Need key → n ≡ MaybeKey.Key key
-  needed_by (MaybeKey.Key k) key q = cc
-  needed_by MaybeKey.Nothing key q = absurd (true≢false (sym (ap is_need q) ∙ no_sight e.follower.sight.fix))
+  needed_by : (n : Option TileKey) (key : TileKey)
+      → of_need n e.shared.header e.follower.sight.fix e.follower.due e.follower.matcher.current ≡ Plan.Need key → n ≡ Some key
+  needed_by (Some k) key q = cc
+  needed_by None key q = absurd (true≢false (sym (ap is_need q) ∙ no_sight e.follower.sight.fix))
 
   ready_by : (p : Phase) (key : TileKey)
       → of_state p e.shared.header e.follower.sight.fix e.follower.due e.follower.matcher.current ≡ Plan.Need key
-      → (p ≡ Phase.Ready) × (e.follower.due.need ≡ MaybeKey.Key key)
+      → (p ≡ Phase.Ready) × (e.follower.due.need ≡ Some key)
   ready_by Phase.Ready key q = (refl, needed_by e.follower.due.need key q)
   ready_by Phase.Failed key q = absurd (true≢false (sym (ap is_need q)))
   ready_by Phase.Unread key q = absurd (true≢false (sym (ap is_need q)))
@@ -206,22 +196,22 @@ module _ (e : Engine) (arena : List ℕ) (size : ℕ) (ok : engine_ok e size ≡
       by true = refl
       by false = refl
 
-  closed_load : (a : Progress) (c : Cache) → is_fetch (loaded_by a e c).answer ≡ false
+  closed_load : (a : Result Progress Refusal) (c : Cache) → is_fetch (loaded_by a e c).answer ≡ false
   unfolding arrived load_failed
-  closed_load Progress.Done c = refl
-  closed_load Progress.More c = refl
-  closed_load (Progress.Failed number) c = by (ltb e.follower.failures 7) (counted e.follower)
+  closed_load (Ok Progress.Done) c = refl
+  closed_load (Ok Progress.More) c = refl
+  closed_load (Ok (Progress.Failed number)) c = by (ltb e.follower.failures 7) (counted e.follower)
     where
       by : (b : Bool) (f : Follower) → is_fetch (cond b (ended e c (failing f (f.failures + 1)) Status.Working) (failed_pack e c (failing f 8))).answer ≡ false
       by true f = refl
       by false f = refl
-  closed_load (Progress.Refused number) c = refl
+  closed_load (Err number) c = refl
 
   -- towards a tile: the cache asks for no read
   closed_next : (key : TileKey) (n : Next) → is_open (opens_next n key) ≡ false → awaits_read (unread_step c₁ n arena key e.shared.header.tile).answer ≡ false
   closed_next key (Next.Ready i) t = by (passes arena i (len_at c₁ i) key e.shared.header.tile)
     where
-      by : (b : Bool) → awaits_read (cond b (Loads.done (touched c₁ i)) (Loads.refused c₁ 12)).answer ≡ false
+      by : (b : Bool) → awaits_read (cond b (Loads.done (touched c₁ i)) (Loads.refused c₁ Refusal.BadState)).answer ≡ false
       by true = refl
       by false = refl
   closed_next key Next.Missing t = refl

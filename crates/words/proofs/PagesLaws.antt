@@ -1,6 +1,8 @@
 -- Pages and ring read where they stand among the words: which slot and which key stand at a place (`slot_at_lem`, `place_at`), and each test of them as a test of their words (`held_key`,
 -- `ready_is`, `run_is`, `loads_is`). A key's word has row and column, so equal words are equal keys (`same_key`). Then the searches of `in_ring` and `ready_at` by word (`ring_is`,
 -- `ready_at_is`); what `page_ok` asks of a page's words (`page_asks`), and the turn of `pages_ok` (`page_fails`, `slots_more`, `turn_run`, `turn_on`).
+use Rattle.std.specs.Prelude.{Option, Some, None}
+use Rattle.std.specs.Prelude.{is_some}
 use Rattle.std.proofs.Common.{◌≡◌, ℕ, ◌+◌, ◌-◌, ◌*◌, ◌/◌, ◌%◌, ◌<◌, ◌≤◌, Bool, true, false, cond, not, ◌&&◌, ◌||◌, eqb, ltb, leb, List, length, get_or, sym, refl, ap, ◌∙◌, true≢false, add-zero, add-one, arith, ltb-false, ltb-true, lt-ltb, eq-eqb, ne_eqb, eqb-true, leb-false, leb-true}
 use mathlib.Core.Bool.{and-true, and-false}
 use lib.ListN.{get_or-eq_default}
@@ -9,17 +11,11 @@ use Rattle.pack.specs.declared.TileKey.{TileKey}
 use Rattle.cache.specs.Keys.{same_key, holds, empty_place, key_at, in_ring, is_ready, ready_at}
 use Rattle.cache.specs.Pass.{fits_by, fits, after}
 use Rattle.cache.specs.Runs.{empty_slot, slot_at, kind_by, kind_of, is_run, span, runs_ok}
-use Rattle.cache.specs.Search.{or_else, lowest, is_found}
+use Rattle.cache.specs.Search.{or_else, lowest}
 use Rattle.cache.specs.State.{tile_loads}
 use Rattle.cache.specs.declared.Loading.{Loading}
-use Rattle.cache.specs.declared.MaybeKey.{MaybeKey}
-use Rattle.cache.specs.declared.MaybeKey.TheVariants as MaybeKey
 use Rattle.cache.specs.declared.Part.{Part}
-use Rattle.cache.specs.declared.Part.TheVariants as Part
-use Rattle.cache.specs.declared.RingKey.{RingKey}
 use Rattle.cache.specs.declared.Slot.{Slot}
-use Rattle.cache.specs.declared.victim.Found.{Found}
-use Rattle.cache.specs.declared.victim.Found.TheVariants as Found
 use Rattle.cache.proofs.PassLaws.{Passed, passed, pass_fails}
 use Rattle.cache.proofs.SearchLaws.{lowest_same}
 use Rattle.tile.proofs.Laws.{all_more, all_miss}
@@ -53,7 +49,7 @@ module _ (ws : List ℕ) (at : ℕ) where
 
   pub place_at : (i : ℕ) → i < 64 → key_at (ring_of ws at) i ≡ maybe_key_of (from ws (at + 2 * i) 0) (from ws (at + 2 * i) 1)
   unfolding ring_of
-  place_at i h = ap (λ (p : RingKey). p.key) (table_at (λ (j : ℕ). place_by (from ws (at + 2 * j))) empty_place 64 i h)
+  place_at i h = ap (λ (p : Option TileKey). p) (table_at (λ (j : ℕ). place_by (from ws (at + 2 * j))) empty_place 64 i h)
 
 -- ---- tests
 
@@ -67,14 +63,14 @@ and_shift true b c = refl
 and_shift false b c = refl
 
 -- one place more was looked at
-pub found_more : (p : ℕ → Bool) (i : ℕ) → is_found (lowest p (i + 1)) ≡ (is_found (lowest p i) || p i)
+pub found_more : (p : ℕ → Bool) (i : ℕ) → is_some (lowest p (i + 1)) ≡ (is_some (lowest p i) || p i)
 unfolding lowest
 found_more p i = rw add-one (by (lowest p i) (p i))
   where
-    by : (x : Found) (t : Bool) → is_found (or_else x (cond t (Found.At i) Found.Nothing)) ≡ (is_found x || t)
-    by (Found.At j) t = refl
-    by Found.Nothing true = refl
-    by Found.Nothing false = refl
+    by : (x : Option ℕ) (t : Bool) → is_some (or_else x (cond t (Some i) None)) ≡ (is_some x || t)
+    by (Some j) t = refl
+    by None true = refl
+    by None false = refl
 
 -- ---- keys
 
@@ -94,7 +90,7 @@ same_key_lem n key h = by (eqb n (key_word key)) refl
 pub held_key : (tag n : ℕ) (key : TileKey) → key.col < 65536 → holds (maybe_key_of tag n) key ≡ (eqb tag 1 && eqb n (key_word key))
 held_key tag n key h = by (eqb tag 1)
   where
-    by : (t : Bool) → holds (cond t (MaybeKey.Key (key_of n)) MaybeKey.Nothing) key ≡ (t && eqb n (key_word key))
+    by : (t : Bool) → holds (cond t (Some (key_of n)) None) key ≡ (t && eqb n (key_word key))
     by true = same_key_lem n key h
     by false = refl
 
@@ -129,7 +125,7 @@ pub run_is : (w : ℕ → ℕ) → is_run (kind_of (slot_by w)) ≡ (eqb (w 0 / 
 run_is w = by (eqb (w 0 / 4) 0) (eqb (w 0 % 2) 1)
   where
     by : (a b : Bool)
-        → is_run (kind_by (cond a Part.Head (Part.Of ((w 0 / 4 - 1) % 256))) (cond b (MaybeKey.Key (key_of (w 1))) MaybeKey.Nothing)) ≡ (a && b)
+        → is_run (kind_by (cond a Part.Head (Part.Of ((w 0 / 4 - 1) % 256))) (cond b (Some (key_of (w 1))) None)) ≡ (a && b)
     by true true = refl
     by true false = refl
     by false b = refl
@@ -181,15 +177,15 @@ module _ (ws : List ℕ) (key : TileKey) (h : key.col < 65536) where
   place_is : (i : ℕ) → i < 64 → holds (key_at (ring_of ws 401) i) key ≡ place_in ws (key_word key) i
   place_is i l =
       let next : 401 + 2 * i + 1 ≡ 402 + 2 * i = omega arith in
-      ap (λ (m : MaybeKey). holds m key) (place_at ws 401 i l)
+      ap (λ (m : Option TileKey). holds m key) (place_at ws 401 i l)
       ∙ held_key (from ws (401 + 2 * i) 0) (from ws (401 + 2 * i) 1) key h
       ∙ rw (add-zero (401 + 2 * i), next)
 
-  pub ring_is : {word : ℕ} → word ≡ key_word key → in_ring (ring_of ws 401) key ≡ is_found (lowest (place_in ws word) 64)
+  pub ring_is : {word : ℕ} → word ≡ key_word key → in_ring (ring_of ws 401) key ≡ is_some (lowest (place_in ws word) 64)
   unfolding in_ring
   ring_is e =
       rw e
-      (ap is_found (lowest_same (λ (i : ℕ). holds (key_at (ring_of ws 401) i) key) (place_in ws (key_word key)) 64 place_is))
+      (ap is_some (lowest_same (λ (i : ℕ). holds (key_at (ring_of ws 401) i) key) (place_in ws (key_word key)) 64 place_is))
 
   page_is : (i : ℕ) → is_ready key (slot_at (pages_of ws 15).slots i) ≡ ready_in ws (key_word key) i
   unfolding is_ready
@@ -214,7 +210,7 @@ module _ (ws : List ℕ) (key : TileKey) (h : key.col < 65536) where
 low_bits : (tag key : ℕ) → key_tag (maybe_key_of (tag % 2) key) + 2 * bit (is_set (tag / 2 % 2)) ≡ tag % 4
 low_bits tag key = by (eqb (tag % 2) 1) (eqb (tag / 2 % 2) 1) refl refl
   where
-    by : (a b : Bool) → eqb (tag % 2) 1 ≡ a → eqb (tag / 2 % 2) 1 ≡ b → key_tag (cond a (MaybeKey.Key (key_of key)) MaybeKey.Nothing) + 2 * bit b ≡ tag % 4
+    by : (a b : Bool) → eqb (tag % 2) 1 ≡ a → eqb (tag / 2 % 2) 1 ≡ b → key_tag (cond a (Some (key_of key)) None) + 2 * bit b ≡ tag % 4
     by true true e f = omega (arith, eqb-true (tag % 2) 1 e, eqb-true (tag / 2 % 2) 1 f)
     by true false e f = omega (arith, eqb-true (tag % 2) 1 e, eqb-false (tag / 2 % 2) 1 f)
     by false true e f = omega (arith, eqb-false (tag % 2) 1 e, eqb-true (tag / 2 % 2) 1 f)
@@ -232,7 +228,7 @@ first_held tag = by (eqb (tag / 4) 0) (ltb tag 1028) refl refl
     by false false e f = ne_eqb _ tag (λ q. omega (arith, q, ltb-false tag 1028 f))
 
 -- a key is its word, and none is 0
-key_held_lem : (t : Bool) (key : ℕ) → eqb (key_held (cond t (MaybeKey.Key (key_of key)) MaybeKey.Nothing)) key ≡ (t || eqb key 0)
+key_held_lem : (t : Bool) (key : ℕ) → eqb (key_held (cond t (Some (key_of key)) None)) key ≡ (t || eqb key 0)
 key_held_lem true key = eq-eqb (key / 65536 * 65536 + key % 65536) key (omega arith)
 key_held_lem false key = by (eqb key 0) refl
   where
@@ -267,7 +263,7 @@ first_page tag = by (ltb tag 4) refl
 module _ (w : ℕ → ℕ) (p head end n : ℕ) where
   abbrev slot_for : Bool → Bool → Slot
   slot_for a b = record {
-    key = cond b (MaybeKey.Key (key_of (w 1))) MaybeKey.Nothing;
+    key = cond b (Some (key_of (w 1))) None;
     len = w 2 % 65536;
     ready = is_set (w 0 / 2 % 2);
     part = cond a Part.Head (Part.Of ((w 0 / 4 - 1) % 256));

@@ -1,32 +1,26 @@
 -- The pieces of each struct's words, with their lengths: put one behind the other they are the struct's words (`pages_put`, .., `engine_put`), held one behind the
 -- other they are held as one (`pages_held`, .., `engine_held`), and an engine has 1,150 words (`words-length`), whatever its arrays hold.
+use Rattle.std.specs.Prelude.{Option, Some, None}
+use Rattle.cache.specs.declared.Loading.{Loading}
+use Rattle.pack.specs.declared.TileKey.{TileKey}
 use Rattle.std.proofs.Common.{◌≡◌, ℕ, ◌+◌, List, [], ◌∷◌, length, ℤ, sym, refl, ◌∙◌, arith, length-append}
 use Rattle.num.specs.Cast.{bits32}
 use Rattle.geo.specs.declared.Point.{Point}
 use Rattle.cache.specs.declared.Cache.{Cache}
-use Rattle.cache.specs.declared.MaybeLoading.{MaybeLoading}
-use Rattle.cache.specs.declared.MaybeLoading.TheVariants as MaybeLoading
 use Rattle.cache.specs.declared.Pages.{Pages}
 use Rattle.cache.specs.declared.Pending.{Pending}
-use Rattle.cache.specs.declared.Pending.TheVariants as Pending
 use Rattle.cache.specs.declared.Ring.{Ring}
-use Rattle.cache.specs.declared.RingKey.{RingKey}
 use Rattle.cache.specs.declared.Slot.{Slot}
 use Rattle.matcher.specs.declared.Challenger.{Challenger}
-use Rattle.matcher.specs.declared.Challenger.TheVariants as Challenger
 use Rattle.matcher.specs.declared.Current.{Current}
-use Rattle.matcher.specs.declared.Current.TheVariants as Current
 use Rattle.matcher.specs.declared.Heading.{Heading}
-use Rattle.matcher.specs.declared.Heading.TheVariants as Heading
 use Rattle.matcher.specs.declared.Matcher.{Matcher}
 use Rattle.engine.specs.declared.Ahead.{Ahead}
 use Rattle.engine.specs.declared.Due.{Due}
 use Rattle.engine.specs.declared.Engine.{Engine}
 use Rattle.engine.specs.declared.Follower.{Follower}
 use Rattle.engine.specs.declared.MaybeFix.{MaybeFix}
-use Rattle.engine.specs.declared.MaybeFix.TheVariants as MaybeFix
 use Rattle.engine.specs.declared.MaybeTime.{MaybeTime}
-use Rattle.engine.specs.declared.MaybeTime.TheVariants as MaybeTime
 use Rattle.engine.specs.declared.Places.{Places}
 use Rattle.engine.specs.declared.Shared.{Shared}
 use Rattle.engine.specs.declared.Sight.{Sight}
@@ -54,7 +48,7 @@ pub used_long : (u : List ℕ) → length (used_words u) ≡ 96
 unfolding used_words
 used_long u = length-spread _ 1 (λ (j : ℕ). refl) 96
 
-pub keys_long : (k : List RingKey) → length (keys_words k) ≡ 128
+pub keys_long : (k : List (Option TileKey)) → length (keys_words k) ≡ 128
 unfolding keys_words
 keys_long k = length-spread _ 2 (λ (j : ℕ). refl) 64
 
@@ -66,9 +60,9 @@ pub heights_long : (z : List ℤ) (n : ℕ) → length (heights_words z n) ≡ n
 unfolding heights_words
 heights_long z n = length-spread _ 1 (λ (j : ℕ). refl) n ∙ omega arith
 
-pub loading_long : (l : MaybeLoading) → length (loading_words l) ≡ 6
-loading_long MaybeLoading.Nothing = refl
-loading_long (MaybeLoading.Tile l) = refl
+pub loading_long : (l : Option Loading) → length (loading_words l) ≡ 6
+loading_long None = refl
+loading_long (Some l) = refl
 
 pub pending_long : (p : Pending) → length (pending_words p) ≡ 2
 pending_long Pending.Nothing = refl

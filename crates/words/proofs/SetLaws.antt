@@ -1,11 +1,12 @@
 -- A piece put at its place gives the words of the engine with that part, and with no other changed (`phase_put`, .., `steps_put`), whichever engine it is: so a call may write the words that
 -- change and leave the rest. The idea: the words are pieces of known lengths, one behind the other; a place is looked for behind the pieces that end before it (`behind`) and inside the one that
 -- holds it (`inside`), down to the piece that begins there (`instead`).
+use Rattle.std.specs.Prelude.{Option}
+use Rattle.cache.specs.declared.Loading.{Loading}
 use Rattle.std.proofs.Common.{◌≡◌, ℕ, zero, suc, ◌+◌, ◌<◌, ◌≤◌, Bool, List, [], ◌∷◌, ◌++◌, length, take, drop, set, sym, refl, ap, ◌∙◌, append_assoc, arith, drop_at}
 use lib.Seq.{drop-append-le}
 use Rattle.pack.specs.declared.Header.{Header}
 use Rattle.cache.specs.declared.Cache.{Cache}
-use Rattle.cache.specs.declared.MaybeLoading.{MaybeLoading}
 use Rattle.cache.specs.declared.Pages.{Pages}
 use Rattle.cache.specs.declared.Pending.{Pending}
 use Rattle.matcher.specs.declared.Matcher.{Matcher}
@@ -59,13 +60,13 @@ aged e u = paged e (used_at e.shared.cache.pages u)
 abbrev pub clocked : Engine → ℕ → Engine
 clocked e n = paged e (clock_at e.shared.cache.pages n)
 
-abbrev loading_in : Cache → MaybeLoading → Cache
+abbrev loading_in : Cache → Option Loading → Cache
 loading_in c l = record { pages = c.pages; missing = c.missing; loading = l; pending = c.pending; loads = c.loads }
 
 abbrev pending_in : Cache → Pending → Cache
 pending_in c p = record { pages = c.pages; missing = c.missing; loading = c.loading; pending = p; loads = c.loads }
 
-abbrev pub loading_as : Engine → MaybeLoading → Engine
+abbrev pub loading_as : Engine → Option Loading → Engine
 loading_as e l = cached e (loading_in e.shared.cache l)
 
 abbrev pub pending_as : Engine → Pending → Engine
@@ -198,7 +199,7 @@ pages_clock g n =
     behind (n ∷ []) 1 refl (slots_words g.slots) (used_words g.used ++ counts) 288 385 97 (slots_long g.slots) refl
     (behind (n ∷ []) 1 refl (used_words g.used) counts 96 97 1 (used_long g.used) refl (counts_clock (low_word g.count) g.clock n))
 
-cache_loading : (c : Cache) (l : MaybeLoading) → put 515 (loading_words l) (cache_words c) ≡ cache_words (loading_in c l)
+cache_loading : (c : Cache) (l : Option Loading) → put 515 (loading_words l) (cache_words c) ≡ cache_words (loading_in c l)
 unfolding cache_words
 cache_loading c l =
     let after : List ℕ = flat (pending_words c.pending ∷ (c.loads ∷ []) ∷ []) in
@@ -245,7 +246,7 @@ module _ (e : Engine) where
   pub clock_put : (n : ℕ) → put 400 (n ∷ []) (words e) ≡ words (clocked e n)
   clock_put n = in_held_pages (n ∷ []) 1 refl (clock_at held.pages n) 400 385 refl (omega arith) (pages_clock held.pages n)
 
-  pub loading_put : (l : MaybeLoading) → put 530 (loading_words l) (words e) ≡ words (loading_as e l)
+  pub loading_put : (l : Option Loading) → put 530 (loading_words l) (words e) ≡ words (loading_as e l)
   loading_put l = in_held (loading_words l) 6 (loading_long l) (loading_in held l) 530 515 refl (omega arith) (cache_loading held l)
 
   pub pending_put : (p : Pending) → put 536 (pending_words p) (words e) ≡ words (pending_as e p)

@@ -1,12 +1,12 @@
 -- What number 12 leaves alone has counts that fit a word (`small`).
+use Rattle.std.specs.Prelude.{Option, Some, None}
+use Rattle.cache.specs.declared.Loading.{Loading}
 use Rattle.std.proofs.Common.{◌≡◌, ℕ, ◌<◌, ◌≤◌, Bool, true, false, ◌&&◌, ltb, leb, List, [], ◌∷◌, length, get_or, sym, refl, ap, ◌∙◌, true≢false, arith, ltb-false, ltb-true, leb-true}
 use lib.ListN.{get_or-eq_default}
 use Rattle.pack.specs.Sector.{all_of}
 use Rattle.pack.proofs.Laws.{clause}
 use Rattle.cache.specs.Runs.{empty_slot, is_run, kind_of}
 use Rattle.cache.specs.State.{state_ok, tile_loads, loads_ok, runs_ok, ring_ok, load_ok, pending_ok}
-use Rattle.cache.specs.declared.MaybeLoading.{MaybeLoading}
-use Rattle.cache.specs.declared.MaybeLoading.TheVariants as MaybeLoading
 use Rattle.cache.specs.declared.Cache.{Cache}
 use Rattle.cache.specs.declared.Pages.{Pages}
 use Rattle.cache.specs.declared.Slot.{Slot}
@@ -30,10 +30,10 @@ load_at g i l ok = by (ltb i 96) refl
         let out : get_or g.slots i empty_slot ≡ empty_slot = get_or-eq_default g.slots empty_slot {n = i} (omega (arith, l, ltb-false i 96 e)) in
         absurd (true≢false (sym ok ∙ ap (λ (s : Slot). is_run (kind_of s)) out))
 
-load_small : (g : Pages) (m : MaybeLoading) → length g.slots ≡ 96 → loads_ok g m ≡ true → LoadSmall m
+load_small : (g : Pages) (m : Option Loading) → length g.slots ≡ 96 → loads_ok g m ≡ true → LoadSmall m
 unfolding tile_loads
-load_small g MaybeLoading.Nothing l ok = tt
-load_small g (MaybeLoading.Tile m) l ok =
+load_small g None l ok = tt
+load_small g (Some m) l ok =
     omega (arith, load_at g m.slot l (both (is_run (kind_of (get_or g.slots m.slot empty_slot))) _ ok).0)
 
 -- the cache's counts

@@ -6,7 +6,6 @@ use mathlib.Core.Bool.{and_assoc}
 use Rattle.cache.specs.Lookups.{after}
 use Rattle.cache.specs.State.{state_ok}
 use Rattle.cache.specs.declared.Pending.{Pending}
-use Rattle.cache.specs.declared.Pending.TheVariants as Pending
 use Rattle.pack.proofs.Laws.{and_left, and_right}
 use Rattle.engine.specs.Calls as Engines
 use Rattle.engine.specs.Plans.{plan_of, done_by}
@@ -18,7 +17,6 @@ use Rattle.engine.specs.declared.Engine.{Engine}
 use Rattle.engine.specs.declared.Status.TheVariants as Status
 use Rattle.engine.specs.declared.summary.Summary.{Summary}
 use Rattle.engine.specs.declared.plan.Plan.{Plan}
-use Rattle.engine.specs.declared.plan.Plan.TheVariants as Plan
 use Rattle.pack.specs.declared.TileKey.{TileKey}
 use Rattle.engine.proofs.PlanLaws.{plan_step}
 use Rattle.engine.proofs.SummaryLaws.{summary_ok}

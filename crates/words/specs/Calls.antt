@@ -15,7 +15,6 @@ use Rattle.predict.specs.Predict.{After}
 use Rattle.engine.specs.Calls as Calls
 use Rattle.engine.specs.Deliver as Deliver
 use Rattle.engine.specs.declared.Status.{Status}
-use Rattle.engine.specs.declared.Status.TheVariants as Status
 use Rattle.engine.specs.declared.Stepped.{Stepped}
 use Rattle.engine.specs.declared.Engine.{Engine}
 use Rattle.words.specs.Words.{words, engine_of, cache_of, accepted}

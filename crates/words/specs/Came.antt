@@ -1,9 +1,9 @@
 -- What the answer to a fetch leaves, by the parts that are put: this restates private code (`deliver.rt`), each as the engine's own definitions say it (`Deliver` of the engine).
+use Rattle.std.specs.Prelude.{Option, Some, None, Result, Ok, Err}
+use Rattle.refusal.specs.declared.Refusal.{Refusal}
 use Rattle.std.specs.Prelude.{ℕ, ◌+◌, Bool, cond, ◌&&◌, List, [], length, ◌==◌, nat_lt}
 use Rattle.pack.specs.Grid.{locate_of}
 use Rattle.pack.specs.declared.Header.{Header}
-use Rattle.pack.specs.declared.Located.{Located}
-use Rattle.pack.specs.declared.Located.TheVariants as Located
 use Rattle.pack.specs.declared.TileKey.{TileKey}
 use Rattle.cache.specs.Begin.{replaced}
 use Rattle.cache.specs.Calls.{load_tested}
@@ -12,14 +12,8 @@ use Rattle.cache.specs.Runs.{span}
 use Rattle.cache.specs.Victim.{victim}
 use Rattle.cache.specs.declared.Cache.{Cache}
 use Rattle.cache.specs.declared.Loading.{Loading}
-use Rattle.cache.specs.declared.MaybeKey.{MaybeKey}
-use Rattle.cache.specs.declared.MaybeKey.TheVariants as MaybeKey
-use Rattle.cache.specs.declared.MaybeLoading.{MaybeLoading}
-use Rattle.cache.specs.declared.MaybeLoading.TheVariants as MaybeLoading
 use Rattle.cache.specs.declared.Pages.{Pages}
 use Rattle.cache.specs.declared.Pending.TheVariants as Pending
-use Rattle.cache.specs.declared.victim.Found.{Found}
-use Rattle.cache.specs.declared.victim.Found.TheVariants as Found
 use Rattle.engine.specs.Deliver.{with_pending, failing, needless, loaded}
 use Rattle.engine.specs.Work.{counted, ended, with_due}
 use Rattle.engine.specs.declared.Engine.{Engine}
@@ -27,7 +21,6 @@ use Rattle.engine.specs.declared.Phase.{Phase}
 use Rattle.engine.specs.declared.Status.TheVariants as Status
 use Rattle.engine.specs.declared.Stepped.{Stepped}
 use Rattle.words.specs.declared.deliver.Begins.{Begins}
-use Rattle.words.specs.declared.deliver.Begins.TheVariants as Begins
 
 -- the pack in another phase, with no fetch open and so many failures
 abbrev pub phased : Engine → Phase → Header → ℕ → Engine
@@ -50,7 +43,7 @@ abbrev pub further_cache : Cache → Loading → ℕ → Cache
 further_cache c l come = record {
   pages = c.pages;
   missing = c.missing;
-  loading = MaybeLoading.Tile (load_with l come);
+  loading = Some (load_with l come);
   pending = Pending.Nothing;
   loads = c.loads;
 }
@@ -84,25 +77,25 @@ with_pages e g = record {
   follower = e.follower;
 }
 
-abbrev pub begins_in : Found → TileKey → ℕ → ℕ → Begins
-begins_in Found.Nothing key offset len = Begins.Nothing
-begins_in (Found.At slot) key offset len = Begins.At key slot offset len
+abbrev pub begins_in : Option ℕ → TileKey → ℕ → ℕ → Begins
+begins_in None key offset len = Begins.Nothing
+begins_in (Some slot) key offset len = Begins.At key slot offset len
 
 abbrev pub begins_at : Engine → TileKey → ℕ → ℕ → Begins
 begins_at e key offset len = cond (nat_lt 49152 len) Begins.Nothing (begins_in (victim e.shared.cache.pages (span len)) key offset len)
 
-abbrev pub begins_by : Located → Engine → TileKey → Begins
-begins_by Located.NoTile e key = Begins.Nothing
-begins_by (Located.Refused number) e key = Begins.Nothing
-begins_by (Located.Tile offset len) e key = begins_at e key offset len
+abbrev pub begins_by : Result (Option (ℕ × ℕ)) Refusal → Engine → TileKey → Begins
+begins_by (Ok None) e key = Begins.Nothing
+begins_by (Err number) e key = Begins.Nothing
+begins_by (Ok (Some (offset, len))) e key = begins_at e key offset len
 
-abbrev pub begins_for : MaybeKey → Engine → List ℕ → Begins
-begins_for MaybeKey.Nothing e bs = Begins.Nothing
-begins_for (MaybeKey.Key key) e bs = begins_by (locate_of e.shared.header bs) e key
+abbrev pub begins_for : Option TileKey → Engine → List ℕ → Begins
+begins_for None e bs = Begins.Nothing
+begins_for (Some key) e bs = begins_by (locate_of e.shared.header bs) e key
 
-abbrev pub begins_over : MaybeLoading → Engine → List ℕ → Begins
-begins_over MaybeLoading.Nothing e bs = begins_for e.follower.due.need e bs
-begins_over (MaybeLoading.Tile l) e bs = Begins.Nothing
+abbrev pub begins_over : Option Loading → Engine → List ℕ → Begins
+begins_over None e bs = begins_for e.follower.due.need e bs
+begins_over (Some l) e bs = Begins.Nothing
 
 unfoldable pub begins : Engine → ℕ → List ℕ → Begins
 begins e failure bs = cond (failure == 0 && length bs == 8) (begins_over e.shared.cache.loading e bs) Begins.Nothing
@@ -111,7 +104,7 @@ abbrev pub begun_cache : Cache → TileKey → ℕ → ℕ → ℕ → Cache
 begun_cache c key slot offset len = record {
   pages = replaced c.pages slot key len;
   missing = c.missing;
-  loading = MaybeLoading.Tile (new_load key slot offset len);
+  loading = Some (new_load key slot offset len);
   pending = Pending.Nothing;
   loads = c.loads;
 }

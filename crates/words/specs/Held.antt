@@ -14,7 +14,7 @@ abbrev pub slot_held : List ℕ → ℕ → Bool
 slot_held ws at = held_at at (slot_words (slot_by (from ws at))) ws
 
 abbrev pub place_held : List ℕ → ℕ → Bool
-place_held ws at = held_at at (maybe_key_words (place_by (from ws at)).key) ws
+place_held ws at = held_at at (maybe_key_words (place_by (from ws at))) ws
 
 abbrev pub point_held : List ℕ → ℕ → Bool
 point_held ws at = held_at at (point_words (point_by (from ws at))) ws

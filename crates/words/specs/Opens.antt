@@ -6,17 +6,13 @@ use Rattle.cache.specs.Lookups.{next_step}
 use Rattle.cache.specs.State.{state_ok, cache_ok}
 use Rattle.cache.specs.declared.Cache.{Cache}
 use Rattle.cache.specs.declared.Pending.{Pending}
-use Rattle.cache.specs.declared.Pending.TheVariants as Pending
 use Rattle.cache.specs.declared.next.Next.{Next}
-use Rattle.cache.specs.declared.next.Next.TheVariants as Next
 use Rattle.engine.specs.Plans.{plan_of}
 use Rattle.engine.specs.State.{engine_ok}
 use Rattle.engine.specs.Steps.{opened}
 use Rattle.engine.specs.declared.Engine.{Engine}
 use Rattle.engine.specs.declared.plan.Plan.{Plan}
-use Rattle.engine.specs.declared.plan.Plan.TheVariants as Plan
 use Rattle.words.specs.declared.steps.Planned.{Planned}
-use Rattle.words.specs.declared.steps.Planned.TheVariants as Planned
 use Rattle.words.specs.Words.{accepted, engine_of, cache_of}
 
 -- words of an engine whose cache's own state number 12 leaves alone

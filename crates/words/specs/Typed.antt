@@ -1,5 +1,7 @@
 -- What the Rust types say of an engine, as far as writing it as words asks it: each number that could be cut within its field, each float a single float, each array of its length; and that the counts that the Rust has as `usize` fit a word, which
 -- number 12 says of them (`small` of the proofs). An engine that the code holds is so by its types; that every call's definition leaves one so is `typed_kept` of crate terrain_lists.
+use Rattle.std.specs.Prelude.{Option, Some, None}
+use Rattle.cache.specs.declared.Loading.{Loading}
 use Rattle.std.specs.Prelude.{◌≡◌, ℕ, ◌<◌, T, length, get_or, ℤ, pos, slice_index_or, Float}
 use Rattle.std.specs.Float.{binary32}
 use Rattle.std.specs.Float.Ieee.{fits}
@@ -11,23 +13,14 @@ use Rattle.geo.specs.declared.Point.{Point}
 use Rattle.cache.specs.Keys.{empty_place}
 use Rattle.cache.specs.Runs.{empty_slot}
 use Rattle.cache.specs.declared.Cache.{Cache}
-use Rattle.cache.specs.declared.MaybeKey.{MaybeKey}
-use Rattle.cache.specs.declared.MaybeKey.TheVariants as MaybeKey
-use Rattle.cache.specs.declared.MaybeLoading.{MaybeLoading}
-use Rattle.cache.specs.declared.MaybeLoading.TheVariants as MaybeLoading
 use Rattle.cache.specs.declared.Part.{Part}
-use Rattle.cache.specs.declared.Part.TheVariants as Part
 use Rattle.cache.specs.declared.Pages.{Pages}
 use Rattle.cache.specs.declared.Pending.{Pending}
-use Rattle.cache.specs.declared.Pending.TheVariants as Pending
 use Rattle.cache.specs.declared.Ring.{Ring}
 use Rattle.cache.specs.declared.Slot.{Slot}
 use Rattle.matcher.specs.declared.Challenger.{Challenger}
-use Rattle.matcher.specs.declared.Challenger.TheVariants as Challenger
 use Rattle.matcher.specs.declared.Current.{Current}
-use Rattle.matcher.specs.declared.Current.TheVariants as Current
 use Rattle.matcher.specs.declared.Heading.{Heading}
-use Rattle.matcher.specs.declared.Heading.TheVariants as Heading
 use Rattle.matcher.specs.declared.Matched.{Matched}
 use Rattle.matcher.specs.declared.Matcher.{Matcher}
 use Rattle.engine.specs.declared.Ahead.{Ahead}
@@ -35,7 +28,6 @@ use Rattle.engine.specs.declared.Due.{Due}
 use Rattle.engine.specs.declared.Engine.{Engine}
 use Rattle.engine.specs.declared.Follower.{Follower}
 use Rattle.engine.specs.declared.MaybeFix.{MaybeFix}
-use Rattle.engine.specs.declared.MaybeFix.TheVariants as MaybeFix
 use Rattle.engine.specs.declared.Places.{Places}
 use Rattle.engine.specs.declared.Shared.{Shared}
 use Rattle.engine.specs.declared.Sight.{Sight}
@@ -64,9 +56,9 @@ Single x = T (fits binary32 x)
 abbrev pub TypedKey : TileKey → Type 0
 TypedKey k = Short k.row × Short k.col
 
-abbrev pub TypedMaybe : MaybeKey → Type 0
-TypedMaybe MaybeKey.Nothing = Unit
-TypedMaybe (MaybeKey.Key k) = TypedKey k
+abbrev pub TypedMaybe : Option TileKey → Type 0
+TypedMaybe None = Unit
+TypedMaybe (Some k) = TypedKey k
 
 -- ---- the pack
 
@@ -95,12 +87,12 @@ pub record TypedPages (g : Pages) : Type 0 where
 
 pub record TypedRing (r : Ring) : Type 0 where
   pub keys : length r.keys ≡ 64
-  pub key : (i : ℕ) → i < 64 → TypedMaybe (get_or r.keys i empty_place).key
+  pub key : (i : ℕ) → i < 64 → TypedMaybe (get_or r.keys i empty_place)
   pub next : Word r.next
 
-abbrev pub TypedLoading : MaybeLoading → Type 0
-TypedLoading MaybeLoading.Nothing = Unit
-TypedLoading (MaybeLoading.Tile l) = TypedKey l.key × Word l.slot
+abbrev pub TypedLoading : Option Loading → Type 0
+TypedLoading None = Unit
+TypedLoading (Some l) = TypedKey l.key × Word l.slot
 
 abbrev pub TypedPending : Pending → Type 0
 TypedPending Pending.Nothing = Unit
@@ -204,9 +196,9 @@ pub record Typed (e : Engine) : Type 0 where
   pub follower : TypedFollower e.follower
 
 -- the counts that the Rust has as `usize`, beside the slots': what number 12 leaves alone has them within a word
-abbrev pub LoadSmall : MaybeLoading → Type 0
-LoadSmall MaybeLoading.Nothing = Unit
-LoadSmall (MaybeLoading.Tile l) = Word l.slot
+abbrev pub LoadSmall : Option Loading → Type 0
+LoadSmall None = Unit
+LoadSmall (Some l) = Word l.slot
 
 pub record Small (e : Engine) : Type 0 where
   pub count : Word e.shared.cache.pages.count

@@ -7,7 +7,8 @@
 --
 -- `engine_of` reads every field at its place, whatever stands there: it cuts what a field can't hold, and takes an unknown tag for the first variant. Nobody needs to believe it:
 -- words are accepted only where the words of what was read are the same again (`words_engine`), and of an engine within its types it is the way back (`engine_words`).
-use Rattle.std.specs.Prelude.{ℕ, zero, suc, ◌+◌, ◌-◌, ◌*◌, ◌/◌, ◌%◌, Bool, true, false, cond, ◌&&◌, List, [], ◌∷◌, ◌++◌, get_or, ℤ, pos, ◌==◌, from_bits, slice_index, slice_index_or, to_bits, Float}
+use Rattle.cache.specs.declared.Loading.{Loading}
+use Rattle.std.specs.Prelude.{ℕ, zero, suc, ◌+◌, ◌-◌, ◌*◌, ◌/◌, ◌%◌, Bool, true, false, cond, ◌&&◌, List, [], ◌∷◌, ◌++◌, get_or, ℤ, pos, ◌==◌, from_bits, slice_index, slice_index_or, to_bits, Float, Option, Some, None}
 use Rattle.std.specs.Float.{binary32}
 use Rattle.num.specs.Cast.{bits32, low16}
 use Rattle.pack.specs.Bytes.{signed32}
@@ -18,40 +19,24 @@ use Rattle.geo.specs.declared.Point.{Point}
 use Rattle.cache.specs.Runs.{empty_slot}
 use Rattle.cache.specs.Keys.{empty_place}
 use Rattle.cache.specs.declared.Cache.{Cache}
-use Rattle.cache.specs.declared.MaybeKey.{MaybeKey}
-use Rattle.cache.specs.declared.MaybeKey.TheVariants as MaybeKey
-use Rattle.cache.specs.declared.MaybeLoading.{MaybeLoading}
-use Rattle.cache.specs.declared.MaybeLoading.TheVariants as MaybeLoading
 use Rattle.cache.specs.declared.Pages.{Pages}
 use Rattle.cache.specs.declared.Part.{Part}
-use Rattle.cache.specs.declared.Part.TheVariants as Part
 use Rattle.cache.specs.declared.Pending.{Pending}
-use Rattle.cache.specs.declared.Pending.TheVariants as Pending
 use Rattle.cache.specs.declared.Ring.{Ring}
-use Rattle.cache.specs.declared.RingKey.{RingKey}
 use Rattle.cache.specs.declared.Slot.{Slot}
 use Rattle.matcher.specs.declared.Challenger.{Challenger}
-use Rattle.matcher.specs.declared.Challenger.TheVariants as Challenger
 use Rattle.matcher.specs.declared.Current.{Current}
-use Rattle.matcher.specs.declared.Current.TheVariants as Current
-use Rattle.matcher.specs.declared.Forward.{Forward}
-use Rattle.matcher.specs.declared.Forward.TheVariants as Forward
 use Rattle.matcher.specs.declared.Heading.{Heading}
-use Rattle.matcher.specs.declared.Heading.TheVariants as Heading
 use Rattle.matcher.specs.declared.Matched.{Matched}
 use Rattle.matcher.specs.declared.Matcher.{Matcher}
 use Rattle.predict.specs.declared.End.{End}
-use Rattle.predict.specs.declared.End.TheVariants as End
 use Rattle.engine.specs.declared.Ahead.{Ahead}
 use Rattle.engine.specs.declared.Due.{Due}
 use Rattle.engine.specs.declared.Engine.{Engine}
 use Rattle.engine.specs.declared.Follower.{Follower}
 use Rattle.engine.specs.declared.MaybeFix.{MaybeFix}
-use Rattle.engine.specs.declared.MaybeFix.TheVariants as MaybeFix
 use Rattle.engine.specs.declared.MaybeTime.{MaybeTime}
-use Rattle.engine.specs.declared.MaybeTime.TheVariants as MaybeTime
 use Rattle.engine.specs.declared.Phase.{Phase}
-use Rattle.engine.specs.declared.Phase.TheVariants as Phase
 use Rattle.engine.specs.declared.Places.{Places}
 use Rattle.engine.specs.declared.Shared.{Shared}
 use Rattle.engine.specs.declared.Sight.{Sight}
@@ -113,19 +98,19 @@ abbrev pub key_of : ℕ → TileKey
 key_of n = record { row = n / 0x1_0000; col = n % 0x1_0000 }
 
 -- a key or none
-abbrev pub key_tag : MaybeKey → ℕ
-key_tag MaybeKey.Nothing = 0
-key_tag (MaybeKey.Key k) = 1
+abbrev pub key_tag : Option TileKey → ℕ
+key_tag None = 0
+key_tag (Some k) = 1
 
-abbrev pub key_held : MaybeKey → ℕ
-key_held MaybeKey.Nothing = 0
-key_held (MaybeKey.Key k) = key_word k
+abbrev pub key_held : Option TileKey → ℕ
+key_held None = 0
+key_held (Some k) = key_word k
 
-abbrev pub maybe_key_words : MaybeKey → List ℕ
+abbrev pub maybe_key_words : Option TileKey → List ℕ
 maybe_key_words k = key_tag k ∷ key_held k ∷ []
 
-abbrev pub maybe_key_of : ℕ → ℕ → MaybeKey
-maybe_key_of tag n = cond (is_set tag) (MaybeKey.Key (key_of n)) MaybeKey.Nothing
+abbrev pub maybe_key_of : ℕ → ℕ → Option TileKey
+maybe_key_of tag n = cond (is_set tag) (Some (key_of n)) None
 
 -- ---- the pack
 
@@ -214,27 +199,27 @@ pages_of ws at = record {
 }
 
 -- 64 places of the ring of 2 words
-unfoldable pub keys_words : List RingKey → List ℕ
-keys_words ks = spread (λ (i : ℕ). maybe_key_words (get_or ks i empty_place).key) 64
+unfoldable pub keys_words : List (Option TileKey) → List ℕ
+keys_words ks = spread (λ (i : ℕ). maybe_key_words (get_or ks i empty_place)) 64
 
 -- 129 words: the ring of missing tiles, and its next place
 unfoldable pub ring_words : Ring → List ℕ
 ring_words r = flat (keys_words r.keys ∷ (low_word r.next ∷ []) ∷ [])
 
-abbrev pub place_by : (ℕ → ℕ) → RingKey
-place_by w = record { key = maybe_key_of (w 0) (w 1) }
+abbrev pub place_by : (ℕ → ℕ) → Option TileKey
+place_by w = maybe_key_of (w 0) (w 1)
 
 unfoldable pub ring_of : List ℕ → ℕ → Ring
 ring_of ws at = record { keys = table (λ (i : ℕ). place_by (from ws (at + 2 * i))) 64; next = from ws at 128 }
 
 -- 6 words
-abbrev pub loading_words : MaybeLoading → List ℕ
-loading_words MaybeLoading.Nothing = 0 ∷ 0 ∷ 0 ∷ 0 ∷ 0 ∷ 0 ∷ []
-loading_words (MaybeLoading.Tile l) = 1 ∷ key_word l.key ∷ low_word l.slot ∷ l.offset ∷ l.len ∷ l.done ∷ []
+abbrev pub loading_words : Option Loading → List ℕ
+loading_words None = 0 ∷ 0 ∷ 0 ∷ 0 ∷ 0 ∷ 0 ∷ []
+loading_words (Some l) = 1 ∷ key_word l.key ∷ low_word l.slot ∷ l.offset ∷ l.len ∷ l.done ∷ []
 
-abbrev pub loading_by : (ℕ → ℕ) → MaybeLoading
+abbrev pub loading_by : (ℕ → ℕ) → Option Loading
 loading_by w =
-    cond (is_set (w 0)) (MaybeLoading.Tile (record { key = key_of (w 1); slot = w 2; offset = w 3; len = w 4; done = w 5 })) MaybeLoading.Nothing
+    cond (is_set (w 0)) (Some (record { key = key_of (w 1); slot = w 2; offset = w 3; len = w 4; done = w 5 })) None
 
 -- 2 words
 abbrev pub pending_words : Pending → List ℕ
@@ -326,12 +311,12 @@ sight_of ws at = record {
 
 -- ---- the match
 
-abbrev pub forward_word : Forward → ℕ
-forward_word Forward.Unknown = 0
-forward_word (Forward.Is ahead) = cond ahead 2 1
+abbrev pub forward_word : Option Bool → ℕ
+forward_word None = 0
+forward_word (Some ahead) = cond ahead 2 1
 
-abbrev pub forward_of : ℕ → Forward
-forward_of n = cond (n == 1) (Forward.Is false) (cond (n == 2) (Forward.Is true) Forward.Unknown)
+abbrev pub forward_of : ℕ → Option Bool
+forward_of n = cond (n == 1) (Some false) (cond (n == 2) (Some true) None)
 
 abbrev pub id_of : ℕ → ℕ → ℕ → TileId
 id_of n crc edges = record { key = key_of n; crc = crc; edges = edges % 0x1_0000 }

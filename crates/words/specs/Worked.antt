@@ -11,7 +11,6 @@ use Rattle.matcher.specs.declared.Matched.{Matched}
 use Rattle.matcher.specs.declared.Matcher.{Matcher}
 use Rattle.predict.specs.declared.End.TheVariants as End
 use Rattle.predict.specs.declared.Outcome.{Outcome}
-use Rattle.predict.specs.declared.Outcome.TheVariants as Outcome
 use Rattle.predict.specs.declared.Prediction.{Prediction}
 use Rattle.engine.specs.Work.{counted, ended, emptied, matched, road_done, road_asks, rematch, road_ended_by, with_matcher, with_due, with_ahead}
 use Rattle.engine.specs.declared.Ahead.{Ahead}

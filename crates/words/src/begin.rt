@@ -9,7 +9,6 @@ ghost use Rattle.words.specs.Put.{put};
 ghost use Rattle.words.specs.Words as Words;
 
 use crate::{decode, encode};
-use cache::victim::Found;
 use pack::TileKey;
 
 // The first page of the run that page `p` is of.
@@ -54,21 +53,19 @@ fn ages(ws: &[u32; crate::WORDS], count: usize) -> [u32; cache::MAX_PAGES]
     ensures { Victim.Aged (Words.pages_of ws.now 15) result count }
 {
     let mut v = [0u32; cache::MAX_PAGES];
-    let mut i = 0;
-    while i < count {
+    for i in 0..count {
         v[i] = age(ws, i);
-        i += 1;
     }
     v
 }
 
 // The run of pages to replace.
-fn victim(ws: &[u32; crate::WORDS], pages: usize) -> Found
+fn victim(ws: &[u32; crate::WORDS], pages: usize) -> Option<usize>
     ensures { result ≡ Victim.victim (Words.pages_of ws.now 15) pages }
 {
     let count = decode::size(ws[399]);
     if cache::MAX_PAGES < count {
-        return Found::Nothing;
+        return None;
     }
     let v = ages(ws, count);
     cache::victim::oldest(&v, count, pages)
@@ -175,7 +172,7 @@ pub(crate) fn begin(ws: &mut [u32; crate::WORDS], at: usize, key: TileKey, len: 
 }
 
 // The run of pages to replace by a tile of `len` bytes.
-pub(crate) fn victim_of(ws: &[u32; crate::WORDS], len: u16) -> Found
+pub(crate) fn victim_of(ws: &[u32; crate::WORDS], len: u16) -> Option<usize>
     ensures { result ≡ Victim.victim (Words.pages_of ws.now 15) (Runs.span len) }
 {
     victim(ws, cache::runs::span(len as usize))

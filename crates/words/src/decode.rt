@@ -4,13 +4,13 @@ ghost use Rattle.std.specs.Prelude.{◌≡◌, ◌+◌, ◌%◌, ◌≤◌};
 ghost use Rattle.engine.specs.Summaries.{summary_of};
 ghost use Rattle.words.specs.Words as Words;
 
-use cache::{Cache, Loading, MaybeKey, MaybeLoading, Pages, Part, Pending, Ring, RingKey, Slot};
+use cache::{Cache, Loading, Pages, Part, Pending, Ring, Slot};
 use engine::summary::Summary;
 use engine::{
     Ahead, Due, Engine, Fix, Follower, MaybeFix, MaybeTime, Phase, Places, Shared, Sight,
 };
 use geo::Point;
-use matcher::{Challenger, Current, Forward, Heading, Matched, Matcher};
+use matcher::{Challenger, Current, Heading, Matched, Matcher};
 use pack::{Header, TileKey};
 use predict::End;
 use tile::TileId;
@@ -62,13 +62,13 @@ fn key(n: u32) -> TileKey
     }
 }
 
-pub(crate) fn maybe_key(tag: u32, n: u32) -> MaybeKey
+pub(crate) fn maybe_key(tag: u32, n: u32) -> Option<TileKey>
     ensures { result ≡ Words.maybe_key_of tag n }
 {
     if tag == 1 {
-        return MaybeKey::Key(key(n));
+        return Some(key(n));
     }
-    MaybeKey::Nothing
+    None
 }
 
 // ---- the pack
@@ -137,7 +137,7 @@ fn pages(ws: &[u32; crate::WORDS]) -> Pages
     ensures { result ≡ Words.pages_of ws.now 15 }
 {
     let none = Slot {
-        key: MaybeKey::Nothing,
+        key: None,
         len: 0,
         ready: false,
         part: Part::Head,
@@ -150,50 +150,42 @@ fn pages(ws: &[u32; crate::WORDS]) -> Pages
         count: size(ws[399]),
         clock: ws[400],
     };
-    let mut i = 0;
-    while i < cache::MAX_PAGES {
+    for i in 0..cache::MAX_PAGES {
         let s = slot(ws, 15 + 3 * i);
         g.slots[i] = s;
         g.used[i] = ws[303 + i];
-        i += 1;
     }
     g
 }
 
 // The place of the ring whose words begin at `at`.
-pub(crate) fn place(ws: &[u32; crate::WORDS], at: usize) -> RingKey
+pub(crate) fn place(ws: &[u32; crate::WORDS], at: usize) -> Option<TileKey>
     requires { at + 2 ≤ 1150 }
     ensures { result ≡ Words.place_by (Words.from ws.now at) }
 {
-    let key = maybe_key(ws[at], ws[at + 1]);
-    RingKey { key }
+    maybe_key(ws[at], ws[at + 1])
 }
 
 fn ring(ws: &[u32; crate::WORDS]) -> Ring
     ensures { result ≡ Words.ring_of ws.now 401 }
 {
-    let none = RingKey {
-        key: MaybeKey::Nothing,
-    };
-    let keys = [none; cache::MISSING];
+    let keys = [None; cache::MISSING];
     let mut r = Ring {
         keys,
         next: size(ws[529]),
     };
-    let mut i = 0;
-    while i < cache::MISSING {
+    for i in 0..cache::MISSING {
         let k = place(ws, 401 + 2 * i);
         r.keys[i] = k;
-        i += 1;
     }
     r
 }
 
-pub(crate) fn loading(ws: &[u32; crate::WORDS]) -> MaybeLoading
+pub(crate) fn loading(ws: &[u32; crate::WORDS]) -> Option<Loading>
     ensures { result ≡ Words.loading_by (Words.from ws.now 530) }
 {
     if ws[530] == 1 {
-        return MaybeLoading::Tile(Loading {
+        return Some(Loading {
             key: key(ws[531]),
             slot: size(ws[532]),
             offset: ws[533],
@@ -201,7 +193,7 @@ pub(crate) fn loading(ws: &[u32; crate::WORDS]) -> MaybeLoading
             done: ws[535],
         });
     }
-    MaybeLoading::Nothing
+    None
 }
 
 pub(crate) fn pending(tag: u32, at: u32) -> Pending
@@ -283,11 +275,9 @@ fn places(ws: &[u32; crate::WORDS]) -> Places
         v,
         len: size(ws[576]),
     };
-    let mut i = 0;
-    while i < 16 {
+    for i in 0..16 {
         let p = point(ws, 544 + 2 * i);
         h.v[i] = p;
-        i += 1;
     }
     h
 }
@@ -317,16 +307,16 @@ pub(crate) fn sight(ws: &[u32; crate::WORDS]) -> Sight
 
 // ---- the match
 
-pub fn forward(tag: u32) -> Forward
+pub fn forward(tag: u32) -> Option<bool>
     ensures { result ≡ Words.forward_of tag }
 {
     if tag == 1 {
-        return Forward::Is(false);
+        return Some(false);
     }
     if tag == 2 {
-        return Forward::Is(true);
+        return Some(true);
     }
-    Forward::Unknown
+    None
 }
 
 pub fn id(at: u32, crc: u32, edges: u32) -> TileId
@@ -434,10 +424,8 @@ fn samples(ws: &[u32; crate::WORDS]) -> [i16; predict::MAX_SAMPLES]
     ensures { result ≡ Words.heights_of ws.now 629 501 }
 {
     let mut out = [0i16; predict::MAX_SAMPLES];
-    let mut i = 0;
-    while i < predict::MAX_SAMPLES {
+    for i in 0..predict::MAX_SAMPLES {
         out[i] = height(ws[629 + i]);
-        i += 1;
     }
     out
 }
@@ -446,10 +434,8 @@ fn behind(ws: &[u32; crate::WORDS]) -> [i16; predict::BEHIND_SAMPLES]
     ensures { result ≡ Words.heights_of ws.now 1131 11 }
 {
     let mut out = [0i16; predict::BEHIND_SAMPLES];
-    let mut i = 0;
-    while i < predict::BEHIND_SAMPLES {
+    for i in 0..predict::BEHIND_SAMPLES {
         out[i] = height(ws[1131 + i]);
-        i += 1;
     }
     out
 }

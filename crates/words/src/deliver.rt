@@ -13,10 +13,9 @@ ghost use Rattle.words.specs.Words as Words;
 
 use crate::steps::Planned;
 use crate::{decode, encode, steps};
-use cache::victim::Found;
-use cache::{Cache, Loaded, Loading, MaybeKey, MaybeLoading, Pending, Progress};
+use cache::{Cache, Loaded, Loading, Pending, Progress};
 use engine::{Due, Header, Phase, Status};
-use pack::{Located, TileKey};
+use pack::TileKey;
 
 // Refused: the fetch stays open.
 fn refused(ws: &mut [u32; crate::WORDS], pending: Pending, number: u32) -> Status
@@ -78,15 +77,12 @@ fn header_came(ws: &mut [u32; crate::WORDS], failure: u32, bytes: &[u8]) -> Stat
         return header_failed(ws, failure);
     }
     let sector = engine::deliver::sector_of(bytes);
-    let parsed = Header::parse(&sector);
-    let answer = parsed.answer;
-    match answer {
-        pack::Answer::Accepted => {
-            let header = parsed.header;
+    match Header::parse(&sector) {
+        Ok(header) => {
             put_read(ws, header);
             Status::Working
         }
-        pack::Answer::Refused(number) => header_failed(ws, number),
+        Err(refusal) => header_failed(ws, refusal.number()),
     }
 }
 
@@ -104,7 +100,7 @@ fn put_done(ws: &mut [u32; crate::WORDS], c: Cache)
         matching: due.matching,
         road: due.road,
         last_road,
-        need: MaybeKey::Nothing,
+        need: None,
         reloads: due.reloads,
     };
     encode::put_cache(c, ws);
@@ -151,16 +147,16 @@ fn left(ws: &mut [u32; crate::WORDS], pending: Pending, l: Loaded) -> Status
     let answer = l.answer;
     let c = l.cache;
     match answer {
-        Progress::Done => {
+        Ok(Progress::Done) => {
             put_done(ws, c);
             Status::Working
         }
-        Progress::More => {
+        Ok(Progress::More) => {
             put_more(ws, c);
             Status::Working
         }
-        Progress::Failed(_) => put_failed(ws, c),
-        Progress::Refused(number) => refused(ws, pending, number),
+        Ok(Progress::Failed(_)) => put_failed(ws, c),
+        Err(refusal) => refused(ws, pending, refusal.number()),
     }
 }
 
@@ -193,8 +189,8 @@ fn part_came(
     let due = decode::due(&*ws);
     let need = due.need;
     match need {
-        MaybeKey::Nothing => refused(ws, pending, 11),
-        MaybeKey::Key(key) => {
+        None => refused(ws, pending, 11),
+        Some(key) => {
             let before = decode::cache(&*ws);
             let c = engine::fetch::with_pending(before, pending);
             let header = decode::header(&*ws);
@@ -218,8 +214,8 @@ fn begins_at(ws: &[u32; crate::WORDS], key: TileKey, offset: u32, len: u32) -> B
         return Begins::Nothing;
     }
     match crate::begin::victim_of(ws, len as u16) {
-        Found::Nothing => Begins::Nothing,
-        Found::At(slot) => Begins::At(key, slot, offset, len),
+        None => Begins::Nothing,
+        Some(slot) => Begins::At(key, slot, offset, len),
     }
 }
 
@@ -238,13 +234,13 @@ fn entry_begins(ws: &[u32; crate::WORDS], failure: u32, bytes: &[u8]) -> Begins
     }
     let need = decode::maybe_key(ws[608], ws[609]);
     match need {
-        MaybeKey::Nothing => Begins::Nothing,
-        MaybeKey::Key(key) => {
+        None => Begins::Nothing,
+        Some(key) => {
             let entry = cache::step::entry_bytes(bytes);
             match pack::grid::locate_of(decode::header(ws), &entry) {
-                Located::NoTile => Begins::Nothing,
-                Located::Refused(_) => Begins::Nothing,
-                Located::Tile(offset, len) => begins_at(ws, key, offset, len),
+                Ok(None) => Begins::Nothing,
+                Err(_) => Begins::Nothing,
+                Ok(Some((offset, len))) => begins_at(ws, key, offset, len),
             }
         }
     }
@@ -264,7 +260,7 @@ fn put_begun(ws: &mut [u32; crate::WORDS], key: TileKey, slot: usize, offset: u3
         len,
         done: 0,
     };
-    encode::put_loading(MaybeLoading::Tile(l), ws);
+    encode::put_loading(Some(l), ws);
     encode::put_pending(Pending::Nothing, ws);
     encode::put_word(ws, 1149, n);
 }
@@ -306,7 +302,7 @@ fn put_further(ws: &mut [u32; crate::WORDS], l: Loading, done: u32)
         len: l.len,
         done,
     };
-    encode::put_loading(MaybeLoading::Tile(more), ws);
+    encode::put_loading(Some(more), ws);
     encode::put_pending(Pending::Nothing, ws);
     encode::put_word(ws, 1149, n);
 }
@@ -334,7 +330,7 @@ fn chunk_came(ws: &mut [u32; crate::WORDS], arena: &mut [u8], failure: u32, byte
     ensures arena_after { arena.new ≡ (Deliver.need_came (Opens.opened_as (Words.engine_of ws.old) Pendings.Chunk) arena.old failure bytes.now).arena }
 {
     let loading = decode::loading(&*ws);
-    if let MaybeLoading::Tile(l) = loading {
+    if let Some(l) = loading {
         if is_more(l, failure, bytes.len()) {
             cache::step::put(arena, l.slot, l.done, bytes);
             put_further(ws, l, l.done + cache::step::chunk_len(l));
@@ -402,8 +398,8 @@ fn answered(
     ensures arena_after { arena.new ≡ (Engines.answered_from (Opens.opened_as (Words.engine_of ws.old) pending) arena.old offset len pack.now).arena }
 {
     match pack::read(pack, offset, len) {
-        pack::Range::At(at) => came(ws, arena, pending, 0, &pack[at..at + len]),
-        pack::Range::Refused(_) => came(ws, arena, pending, 2, &pack[..0]),
+        Ok(at) => came(ws, arena, pending, 0, &pack[at..at + len]),
+        Err(_) => came(ws, arena, pending, 2, &pack[..0]),
     }
 }
 

@@ -4,10 +4,10 @@ ghost use Rattle.num.specs.Cast.{bits32};
 ghost use Rattle.words.specs.Put.{put, uses_in};
 ghost use Rattle.words.specs.Words as Words;
 
-use cache::{Aging, Cache, MaybeKey, MaybeLoading, Pages, Part, Pending, Ring, Slot};
+use cache::{Aging, Cache, Loading, Pages, Part, Pending, Ring, Slot};
 use engine::{Ahead, Due, Engine, Follower, MaybeFix, MaybeTime, Phase, Places, Shared, Sight};
 use geo::Point;
-use matcher::{Challenger, Current, Forward, Heading, Matched, Matcher};
+use matcher::{Challenger, Current, Heading, Matched, Matcher};
 use pack::{Header, TileKey};
 use predict::End;
 
@@ -17,10 +17,8 @@ fn put(out: &mut [u32; crate::WORDS], at: usize, piece: &[u32])
     ensures out_after { out.new ≡ put at piece.now out.old }
     ensures out_len { length out.new ≡ 1150 }
 {
-    let mut i = 0;
-    while i < piece.len() {
+    for i in 0..piece.len() {
         out[at + i] = piece[i];
-        i += 1;
     }
 }
 
@@ -92,22 +90,22 @@ pub(crate) fn of_key(key: TileKey) -> u32
 }
 
 // Whether there is a key, and the key.
-pub(crate) fn has(key: MaybeKey) -> u32
+pub(crate) fn has(key: Option<TileKey>) -> u32
     ensures value { result ≡ Words.key_tag key }
     ensures upper_bound { result ≤ 1 }
 {
     match key {
-        MaybeKey::Nothing => 0,
-        MaybeKey::Key(_) => 1,
+        None => 0,
+        Some(_) => 1,
     }
 }
 
-pub(crate) fn held(key: MaybeKey) -> u32
+pub(crate) fn held(key: Option<TileKey>) -> u32
     ensures { result ≡ Words.key_held key }
 {
     match key {
-        MaybeKey::Nothing => 0,
-        MaybeKey::Key(k) => of_key(k),
+        None => 0,
+        Some(k) => of_key(k),
     }
 }
 
@@ -182,11 +180,9 @@ fn put_slots(g: Pages, out: &mut [u32; crate::WORDS])
     ensures out_after { out.new ≡ put 15 (Words.slots_words g.slots) out.old }
     ensures out_len { length out.new ≡ 1150 }
 {
-    let mut i = 0;
-    while i < cache::MAX_PAGES {
+    for i in 0..cache::MAX_PAGES {
         let s = slot(g.slots[i]);
         put(out, 15 + 3 * i, &s);
-        i += 1;
     }
 }
 
@@ -195,11 +191,9 @@ fn put_used(used: &[u32; cache::MAX_PAGES], out: &mut [u32; crate::WORDS])
     ensures out_after { out.new ≡ put 303 (Words.used_words used.now) out.old }
     ensures out_len { length out.new ≡ 1150 }
 {
-    let mut i = 0;
-    while i < cache::MAX_PAGES {
+    for i in 0..cache::MAX_PAGES {
         let age = [used[i]];
         put(out, 303 + i, &age);
-        i += 1;
     }
 }
 
@@ -229,13 +223,10 @@ fn put_keys(ring: Ring, out: &mut [u32; crate::WORDS])
     ensures out_after { out.new ≡ put 401 (Words.keys_words ring.keys) out.old }
     ensures out_len { length out.new ≡ 1150 }
 {
-    let mut i = 0;
-    while i < cache::MISSING {
-        let place = ring.keys[i];
-        let key = place.key;
+    for i in 0..cache::MISSING {
+        let key = ring.keys[i];
         let k = [has(key), held(key)];
         put(out, 401 + 2 * i, &k);
-        i += 1;
     }
 }
 
@@ -249,12 +240,12 @@ fn put_ring(ring: Ring, out: &mut [u32; crate::WORDS])
     put(out, 529, &next);
 }
 
-pub(crate) fn loading(loading: MaybeLoading) -> [u32; 6]
+pub(crate) fn loading(loading: Option<Loading>) -> [u32; 6]
     ensures { result ≡ Words.loading_words loading }
 {
     match loading {
-        MaybeLoading::Nothing => [0, 0, 0, 0, 0, 0],
-        MaybeLoading::Tile(l) => {
+        None => [0, 0, 0, 0, 0, 0],
+        Some(l) => {
             let key = l.key;
             [1, of_key(key), size(l.slot), l.offset, l.len, l.done]
         }
@@ -272,7 +263,7 @@ pub(crate) fn pending(pending: Pending) -> [u32; 2]
     }
 }
 
-pub(crate) fn put_loading(l: MaybeLoading, out: &mut [u32; crate::WORDS])
+pub(crate) fn put_loading(l: Option<Loading>, out: &mut [u32; crate::WORDS])
     requires { length out.old ≡ 1150 }
     ensures out_after { out.new ≡ put 530 (Words.loading_words l) out.old }
     ensures out_len { length out.new ≡ 1150 }
@@ -348,11 +339,9 @@ fn put_points(h: Places, out: &mut [u32; crate::WORDS])
     ensures out_after { out.new ≡ put 544 (Words.points_words h.v) out.old }
     ensures out_len { length out.new ≡ 1150 }
 {
-    let mut i = 0;
-    while i < 16 {
+    for i in 0..16 {
         let p = point(h.v[i]);
         put(out, 544 + 2 * i, &p);
-        i += 1;
     }
 }
 
@@ -394,12 +383,12 @@ fn put_sight(s: Sight, out: &mut [u32; crate::WORDS])
 
 // ---- the match
 
-pub(crate) fn forward(forward: Forward) -> u32
+pub(crate) fn forward(forward: Option<bool>) -> u32
     ensures { result ≡ Words.forward_word forward }
 {
     match forward {
-        Forward::Unknown => 0,
-        Forward::Is(ahead) => {
+        None => 0,
+        Some(ahead) => {
             if ahead {
                 return 2;
             }
@@ -514,11 +503,9 @@ fn put_samples(a: Ahead, out: &mut [u32; crate::WORDS])
     ensures out_after { out.new ≡ put 629 (Words.heights_words a.samples 501) out.old }
     ensures out_len { length out.new ≡ 1150 }
 {
-    let mut i = 0;
-    while i < predict::MAX_SAMPLES {
+    for i in 0..predict::MAX_SAMPLES {
         let z = [height(a.samples[i])];
         put(out, 629 + i, &z);
-        i += 1;
     }
 }
 
@@ -527,11 +514,9 @@ fn put_behind(a: Ahead, out: &mut [u32; crate::WORDS])
     ensures out_after { out.new ≡ put 1131 (Words.heights_words a.behind 11) out.old }
     ensures out_len { length out.new ≡ 1150 }
 {
-    let mut i = 0;
-    while i < predict::BEHIND_SAMPLES {
+    for i in 0..predict::BEHIND_SAMPLES {
         let z = [height(a.behind[i])];
         put(out, 1131 + i, &z);
-        i += 1;
     }
 }
 

@@ -22,10 +22,8 @@ fn held(ws: &[u32; crate::WORDS], at: usize, piece: &[u32]) -> bool
     ensures { result ≡ Held.held_at at piece.now ws.now }
 {
     let mut ok = true;
-    let mut i = 0;
-    while i < piece.len() {
+    for i in 0..piece.len() {
         ok = both(ok, piece[i] == ws[at + i]);
-        i += 1;
     }
     ok
 }
@@ -44,10 +42,8 @@ fn slots(ws: &[u32; crate::WORDS]) -> bool
     ensures { result ≡ Held.slots_held ws.now 96 }
 {
     let mut ok = true;
-    let mut i = 0;
-    while i < cache::MAX_PAGES {
+    for i in 0..cache::MAX_PAGES {
         ok = both(ok, slot(ws, 15 + 3 * i));
-        i += 1;
     }
     ok
 }
@@ -56,8 +52,7 @@ fn place(ws: &[u32; crate::WORDS], at: usize) -> bool
     requires { at + 2 ≤ 1150 }
     ensures { result ≡ Held.place_held ws.now at }
 {
-    let p = decode::place(ws, at);
-    let key = p.key;
+    let key = decode::place(ws, at);
     let k = [encode::has(key), encode::held(key)];
     held(ws, at, &k)
 }
@@ -66,10 +61,8 @@ fn keys(ws: &[u32; crate::WORDS]) -> bool
     ensures { result ≡ Held.keys_held ws.now 64 }
 {
     let mut ok = true;
-    let mut i = 0;
-    while i < cache::MISSING {
+    for i in 0..cache::MISSING {
         ok = both(ok, place(ws, 401 + 2 * i));
-        i += 1;
     }
     ok
 }
@@ -86,10 +79,8 @@ fn points(ws: &[u32; crate::WORDS]) -> bool
     ensures { result ≡ Held.points_held ws.now 16 }
 {
     let mut ok = true;
-    let mut i = 0;
-    while i < 16 {
+    for i in 0..16 {
         ok = both(ok, point(ws, 544 + 2 * i));
-        i += 1;
     }
     ok
 }
@@ -105,10 +96,8 @@ fn heights(ws: &[u32; crate::WORDS], at: usize, n: usize) -> bool
     ensures { result ≡ Held.heights_held ws.now at n }
 {
     let mut ok = true;
-    let mut i = 0;
-    while i < n {
+    for i in 0..n {
         ok = both(ok, height(ws[at + i]));
-        i += 1;
     }
     ok
 }

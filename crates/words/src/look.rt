@@ -11,11 +11,11 @@ ghost use Rattle.words.specs.Put as Put;
 ghost use Rattle.words.specs.Words as Words;
 
 use crate::encode;
+use cache::Lookup;
 use cache::ages::LOOKUPS;
-use cache::victim::Found;
-use cache::{Lookup, MaybeKey};
 use matcher::{Landed, Landings, NearKey, NearKeys};
 use pack::TileKey;
+use refusal::Refusal;
 
 // What a lookup lands on, with the length of the run, which is not checked yet.
 fn landed(ws: &[u32; crate::WORDS], key: TileKey) -> Lookup
@@ -25,8 +25,8 @@ fn landed(ws: &[u32; crate::WORDS], key: TileKey) -> Lookup
         return Lookup::Missing;
     }
     match crate::pages::ready_at(ws, key) {
-        Found::Nothing => Lookup::Absent,
-        Found::At(i) => {
+        None => Lookup::Absent,
+        Some(i) => {
             if cache::MAX_PAGES <= i {
                 return Lookup::Ready(i, 0);
             }
@@ -40,11 +40,11 @@ fn land(ws: &[u32; crate::WORDS], place: NearKey) -> Landed
 {
     let key = place.key;
     match key {
-        MaybeKey::Nothing => Landed {
-            lookup: Lookup::Missing,
+        None => Landed {
+            lookup: Ok(Lookup::Missing),
         },
-        MaybeKey::Key(k) => {
-            let lookup = landed(ws, k);
+        Some(k) => {
+            let lookup = Ok(landed(ws, k));
             Landed { lookup }
         }
     }
@@ -78,15 +78,15 @@ fn use_run(ws: &mut [u32; crate::WORDS], first: usize)
 }
 
 // What a lookup landed on, if it is a run, is the most recently used.
-fn use_landed(ws: &mut [u32; crate::WORDS], lookup: Lookup)
+fn use_landed(ws: &mut [u32; crate::WORDS], lookup: Result<Lookup, Refusal>)
     requires { Words.accepted ws.old ≡ true }
     ensures { ws.new ≡ Put.uses_in (Gather.used_by lookup (Uses.uses_of (Words.cache_of ws.old 15))) ws.old }
 {
     match lookup {
-        Lookup::Missing => {}
-        Lookup::Absent => {}
-        Lookup::Refused(_) => {}
-        Lookup::Ready(first, _) => use_run(ws, first),
+        Ok(Lookup::Missing) => {}
+        Ok(Lookup::Absent) => {}
+        Err(_) => {}
+        Ok(Lookup::Ready(first, _)) => use_run(ws, first),
     }
 }
 
@@ -96,12 +96,10 @@ pub(crate) fn use_tiles(ws: &mut [u32; crate::WORDS], at: Landings, n: usize)
     requires n_bound { n ≤ 4 }
     ensures { ws.new ≡ Put.uses_in (Gather.uses_after at (Uses.uses_of (Words.cache_of ws.old 15)) n) ws.old }
 {
-    let mut i = 0;
-    while i < n {
+    for i in 0..n {
         let here = at.v[i];
         let lookup = here.lookup;
         use_landed(ws, lookup);
-        i += 1;
     }
 }
 
@@ -135,10 +133,8 @@ fn page_in(looks: &mut [u32; LOOKUPS], ws: &[u32; crate::WORDS], i: usize)
 fn pages_in(looks: &mut [u32; LOOKUPS], ws: &[u32; crate::WORDS])
     ensures { looks.new ≡ Ages.pages_in looks.old (Words.pages_of ws.now 15) 96 }
 {
-    let mut i = 0;
-    while i < cache::MAX_PAGES {
+    for i in 0..cache::MAX_PAGES {
         page_in(looks, ws, i);
-        i += 1;
     }
 }
 
@@ -161,10 +157,8 @@ fn place_in(looks: &mut [u32; LOOKUPS], ws: &[u32; crate::WORDS], i: usize)
 fn ring_in(looks: &mut [u32; LOOKUPS], ws: &[u32; crate::WORDS])
     ensures { looks.new ≡ Ages.ring_in looks.old (Words.ring_of ws.now 401) 64 }
 {
-    let mut i = 0;
-    while i < cache::MISSING {
+    for i in 0..cache::MISSING {
         place_in(looks, ws, i);
-        i += 1;
     }
 }
 

@@ -12,8 +12,7 @@ ghost use Rattle.words.specs.Words as Words;
 
 use crate::{decode, encode};
 use cache::next::Next;
-use cache::victim::Found;
-use cache::{Loading, MaybeLoading, Pending};
+use cache::{Loading, Pending};
 use pack::TileKey;
 
 // Whether a page's three words are those of a slot, and the page is as it must be behind the last run, from `head` on and before `end`: a page with a key is a first page, whose run ends by
@@ -56,8 +55,7 @@ pub(crate) fn pages_ok(ws: &[u32; crate::WORDS]) -> bool
     }
     let mut head = 0;
     let mut end = 0;
-    let mut p = 0;
-    while p < cache::MAX_PAGES {
+    for p in 0..cache::MAX_PAGES {
         let at = 15 + 3 * p;
         if !page_ok(ws, at, p, head, end, count) {
             return false;
@@ -66,7 +64,6 @@ pub(crate) fn pages_ok(ws: &[u32; crate::WORDS]) -> bool
             head = p;
             end = p + cache::runs::span((ws[at + 2] % 65536) as usize);
         }
-        p += 1;
     }
     true
 }
@@ -97,8 +94,8 @@ fn load_ok(ws: &[u32; crate::WORDS]) -> bool
 {
     let loading = decode::loading(ws);
     match loading {
-        MaybeLoading::Nothing => true,
-        MaybeLoading::Tile(l) => tile_loads(ws, l),
+        None => true,
+        Some(l) => tile_loads(ws, l),
     }
 }
 
@@ -125,31 +122,27 @@ pub(crate) fn in_ring(ws: &[u32; crate::WORDS], key: TileKey) -> bool
 {
     let word = encode::of_key(key);
     let mut found = false;
-    let mut i = 0;
-    while i < cache::MISSING {
+    for i in 0..cache::MISSING {
         found = either(found, holds(ws[401 + 2 * i], ws[402 + 2 * i], word));
-        i += 1;
     }
     found
 }
 
 // The lowest page below the count that starts a ready run of the key.
-pub(crate) fn ready_at(ws: &[u32; crate::WORDS], key: TileKey) -> Found
+pub(crate) fn ready_at(ws: &[u32; crate::WORDS], key: TileKey) -> Option<usize>
     ensures { result ≡ Keys.ready_at (Words.pages_of ws.now 15) key }
 {
     let word = encode::of_key(key);
     let count = decode::size(ws[399]);
-    let mut i = 0;
-    while i < count {
+    for i in 0..count {
         if cache::MAX_PAGES <= i {
-            return Found::Nothing;
+            return None;
         }
         if ws[15 + 3 * i] % 4 == 3 && ws[16 + 3 * i] == word {
-            return Found::At(i);
+            return Some(i);
         }
-        i += 1;
     }
-    Found::Nothing
+    None
 }
 
 // What the next step towards a tile is.
@@ -160,8 +153,8 @@ pub(crate) fn next_step(ws: &[u32; crate::WORDS], key: TileKey) -> Next
         return Next::Missing;
     }
     match ready_at(ws, key) {
-        Found::At(i) => Next::Ready(i),
-        Found::Nothing => {
+        Some(i) => Next::Ready(i),
+        None => {
             if ws[399] == 0 {
                 return Next::NoPages;
             }
@@ -190,8 +183,8 @@ fn wants_chunk(ws: &[u32; crate::WORDS]) -> bool
 {
     let loading = decode::loading(ws);
     match loading {
-        MaybeLoading::Nothing => false,
-        MaybeLoading::Tile(l) => match next_step(ws, l.key) {
+        None => false,
+        Some(l) => match next_step(ws, l.key) {
             Next::Chunk(_) => true,
             Next::Entry => false,
             Next::Ready(_) => false,

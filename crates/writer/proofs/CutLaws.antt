@@ -5,8 +5,8 @@ use mathlib.Core.Bool.{true, ◌&&◌}
 use mathlib.Core.List.{List, [], ◌∷◌}
 use native.Mathlib.Numerals.{add-one}
 use native.Mathlib.Omega.{arith}
-use lib.ListN.{length, take, drop, get_or, drop_of_length-le, length-drop}
-use lib.Seq.{drop-cons, drop-drop, take-length, length-take-le, paste}
+use lib.ListN.{length, take, drop, get_or, drop_of_length-le}
+use lib.Seq.{drop-cons, drop-drop, take-length}
 use Rattle.writer.specs.PackWritten.{cut, sum_of, GivenPack, tile_is_good, tiles_good}
 use Rattle.writer.specs.PackSteps.{start_of, numbered, tiles_from}
 
@@ -68,17 +68,3 @@ part_is ns bs i at e = rw (between at (get_or ns i 0), e)
 -- and from the last tile to the first: k is the number behind i, end where tile i ends
 pub start_back : (ns : List ℕ) (i k : ℕ) → i + 1 ≡ k → i < length ns → start_of ns k ≡ start_of ns i + get_or ns i 0
 start_back ns i k next h = rw (← next) (start_more ns i h)
-
-pub part_back : (ns bs : List ℕ) (i k end : ℕ) → i + 1 ≡ k → i < length ns → end ≡ start_of ns k
-    → take (end - (end - get_or ns i 0)) (drop (end - get_or ns i 0) bs) ≡ numbered ns bs i
-part_back ns bs i k end next h e =
-    let long : end - (end - get_or ns i 0) ≡ get_or ns i 0 = omega (arith, start_back ns i k next h) in
-    let starts : end - get_or ns i 0 ≡ start_of ns i = omega (arith, start_back ns i k next h) in
-    rw (long, starts)
-
--- a part copied, by its own length
-pub copy_is : (out : List ℕ) (at : ℕ) (bs : List ℕ) (from n : ℕ) → from + n ≤ length bs
-    → paste out at (take (from + n - from) (drop from bs)) (length (take (from + n - from) (drop from bs))) ≡ paste out at (take n (drop from bs)) n
-copy_is out at bs from n h =
-    let long : length (take n (drop from bs)) ≡ n = length-take-le n (drop from bs) (omega (arith, length-drop from bs)) in
-    rw (between from n, long)

@@ -76,10 +76,6 @@ left_more es node i last h =
 
 -- ---- entries of the nodes below a number
 
-pub first_none : (es : List ℕ) → entries_below es 0 ≡ []
-unfolding entries_below
-first_none es = refl
-
 pub first_zero : (es : List ℕ) → first_entry es 0 ≡ 0
 unfolding entries_below
 first_zero es = refl

@@ -144,14 +144,6 @@ unfolding puts
 puts-append [] gs bs = refl
 puts-append (f ∷ fs) gs bs = puts-append fs gs (put f bs)
 
-pub puts_none : (bs : List ℕ) → puts [] bs ≡ bs
-unfolding puts
-puts_none bs = refl
-
-pub puts_one : (f : Field) (bs : List ℕ) → puts (f ∷ []) bs ≡ put f bs
-unfolding puts
-puts_one f bs = refl
-
 pub below_more : (fs : ℕ → List Field) (n : ℕ) (bs : List ℕ) → puts (fields_below fs (n + 1)) bs ≡ puts (fs n) (puts (fields_below fs n) bs)
 unfolding fields_below
 below_more fs n bs = rw add-one (puts-append (fields_below fs n) (fs n) bs)
@@ -159,11 +151,6 @@ below_more fs n bs = rw add-one (puts-append (fields_below fs n) (fs n) bs)
 pub below_none : (fs : ℕ → List Field) (bs : List ℕ) → puts (fields_below fs 0) bs ≡ bs
 unfolding fields_below puts
 below_none fs bs = refl
-
-pub below_end : (fs : ℕ → List Field) (i n : ℕ) → i ≤ n → n ≤ i → (bs : List ℕ) {out : List ℕ} → out ≡ puts (fields_below fs i) bs → out ≡ puts (fields_below fs n) bs
-below_end fs i n h k bs e =
-    let same : i ≡ n = omega arith in
-    rw same at e
 
 pub length-puts : (low high : ℕ) (fs : List Field) (bs : List ℕ) → Rising low fs high → high ≤ length bs → length (puts fs bs) ≡ length bs
 unfolding puts

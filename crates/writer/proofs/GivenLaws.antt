@@ -1,25 +1,23 @@
 -- Laws of number 13's tests of a tile, as the code makes them, and what a tile that passes them tells.
-use Prim.Native.Nat.{ℕ, zero, suc, ◌+◌, ◌-◌, ◌*◌, ◌/◌, ◌%◌, ◌≤◌, ◌<◌, min}
+use Prim.Native.Nat.{ℕ, zero, suc, ◌+◌, ◌-◌, ◌*◌, ◌≤◌, ◌<◌, min}
 use mathlib.Core.Path.{◌≡◌, refl, sym, ap, ◌∙◌}
 use mathlib.Core.Bool.{Bool, true, false, ◌&&◌, not}
 use mathlib.Core.List.{List, [], ◌∷◌}
-use native.Mathlib.Nat.{min-le_left, le-min}
 use native.Mathlib.Omega.{arith}
-use lib.Dec.{leb, ltb, eqb}
+use lib.Dec.{leb, ltb}
 use lib.ListN as ListN
 use lib.ListN.{get_or}
-use borrow.Author.Tests.{le-leb, lt-leb, leb-true, ltb-true}
+use borrow.Author.Tests.{leb-true, ltb-true}
+use Rattle.std.specs.List.{list_all, range_with_len}
 use Rattle.pack.specs.Sector.{all_of}
 use Rattle.pack.specs.declared.TileKey.{TileKey}
-use Rattle.pack.proofs.Laws.{and_not}
-use Rattle.tile.specs.Layout.{length}
 use Rattle.tile.specs.Parse.{all_below}
 use Rattle.tile.specs.Readers.{before}
 use Rattle.tile.specs.Order.{follows, in_order}
 use Rattle.tile.specs.declared.Edge.{Edge}
 use Rattle.tile.proofs.Laws.{and_left, and_right, all_at, clause}
 use Rattle.writer.specs.TileWritten.{Given, given, tile_good, are_whole, counts_fit, is_short, has_lon_given, place_given, node_within, edge_given, edge_good, places_in, edges_in, node_count, edge_count, vertex_count, tile_length, first_entry}
-use Rattle.writer.specs.Steps.{short_of, sized_of, node_good, anywhere}
+use Rattle.writer.specs.Steps.{sized_of, node_good, anywhere}
 use Rattle.writer.proofs.EntryLaws.{entries_two}
 
 -- ---- conjunctions
@@ -40,24 +38,29 @@ all_both p q (suc n) =
     crossed true false false d = refl
     crossed false b c d = refl
 
--- ---- how long a tile is
+-- a test of each number of a range, one after the other
+all_first : (p : ℕ → Bool) (n : ℕ) → all_below p (suc n) ≡ (p 0 && all_below (λ (i : ℕ). p (suc i)) n)
+unfolding all_below
+all_first p zero = sym (and-true (p 0))
+all_first p (suc n) = ap (λ (b : Bool). b && p (suc n)) (all_first p n) ∙ grouped (p 0) (all_below (λ (i : ℕ). p (suc i)) n) (p (suc n))
+  where
+    grouped : (a b c : Bool) → ((a && b) && c) ≡ (a && (b && c))
+    grouped true b c = refl
+    grouped false b c = refl
 
-pub too_long : (n e v : ℕ) → 49152 < length (n / 3) (e / 7) (v / 3) → short_of n e v ≡ false
-too_long n e v h =
-    and_not (all_of (leb (n / 3) 0xffff ∷ leb (e / 7) 0xffff ∷ leb (v / 3) 0xffff_ffff ∷ [])) (leb (length (n / 3) (e / 7) (v / 3)) 49152)
-    (lt-leb (length (n / 3) (e / 7) (v / 3)) 49152 h)
+all_from : (p q : ℕ → Bool) (a n : ℕ) → ((i : ℕ) → p (a + i) ≡ q i) → list_all p (range_with_len a n) ≡ all_below q n
+unfolding all_below
+all_from p q a zero h = refl
+all_from p q a (suc n) h =
+    rw (zeroth, all_from p (λ (i : ℕ). q (suc i)) (a + 1) n (λ (i : ℕ). ap p (omega arith) ∙ h (suc i))) (sym (all_first q n))
+  where
+    zeroth : p a ≡ q 0
+    zeroth = ap p (omega arith) ∙ h 0
 
-pub fits : (n e v : ℕ) → n ≤ 49152 → e ≤ 49152 → v ≤ 49152 → short_of n e v ≡ leb (length (n / 3) (e / 7) (v / 3)) 49152
-fits n e v hn he hv =
-    rw (le-leb (n / 3) 0xffff (omega arith), le-leb (e / 7) 0xffff (omega arith), le-leb (v / 3) 0xffff_ffff (omega arith))
+pub all_range : (p : ℕ → Bool) (n : ℕ) → list_all p (range_with_len 0 (n - 0)) ≡ all_below p n
+all_range p n = ap (λ (k : ℕ). list_all p (range_with_len 0 k)) (omega arith) ∙ all_from p p 0 n (λ (i : ℕ). ap p (omega arith))
 
 -- ---- nodes
-
-pub past_size : (x size : ℕ) → size < x → leb x (min size 65535) ≡ false
-past_size x size h = lt-leb x (min size 65535) (omega (arith, min-le_left size 65535))
-
-pub in_size : (x size : ℕ) → x ≤ size → x < 65536 → leb x (min size 65535) ≡ true
-in_size x size h small = le-leb x (min size 65535) (le-min h (omega arith))
 
 pub follows_first : (ns : List ℕ) (i : ℕ) → i ≡ 0 → follows (place_given ns) i ≡ true
 unfolding follows
@@ -100,14 +103,6 @@ good_by size lon_um ns es vs =
 pub any_key : (key : TileKey) (size lon_um : ℕ) (ns es vs : List ℕ) → tile_good (given key size lon_um ns es vs) ≡ tile_good (anywhere size lon_um ns es vs)
 unfolding tile_good
 any_key key size lon_um ns es vs = refl
-
--- numbers enough for a tile of 49,152 bytes at most
-pub sized_small : (n e v : ℕ) → sized_of n e v ≡ true → length (n / 3) (e / 7) (v / 3) ≤ 49152
-sized_small n e v ok =
-    let whole : Bool = all_of (eqb (n % 3) 0 ∷ eqb (e % 7) 0 ∷ eqb (v % 3) 0 ∷ []) in
-    let counts : Bool = all_of (leb (n / 3) 0xffff ∷ leb (e / 7) 0xffff ∷ leb (v / 3) 0xffff_ffff ∷ []) in
-    let short : Bool = leb (length (n / 3) (e / 7) (v / 3)) 49152 in
-    leb-true (length (n / 3) (e / 7) (v / 3)) 49152 (and_right counts short (and_right whole (counts && short) ok))
 
 -- ---- what a tile that is not refused with 13 tells
 

@@ -1,6 +1,6 @@
 -- A turn over the nodes: a node put, then its entries behind those of the nodes before it. Nodes and entries lie apart, so it makes no difference
 -- that the definition has all nodes first.
-use Prim.Native.Nat.{ℕ, ◌+◌, ◌-◌, ◌*◌, ◌≤◌, ◌<◌}
+use Prim.Native.Nat.{ℕ, ◌+◌, ◌*◌, ◌≤◌, ◌<◌}
 use mathlib.Core.Path.{◌≡◌, refl, sym, ap, ◌∙◌}
 use mathlib.Core.List.{List}
 use native.Mathlib.Omega.{arith}

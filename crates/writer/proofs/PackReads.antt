@@ -1,6 +1,6 @@
 -- A written pack read: for every key of the grid the entry locates just the bytes of its tile, or none; and the tile of a number is the one that
 -- its key finds.
-use Prim.Native.Nat.{ℕ, zero, suc, ◌+◌, ◌-◌, ◌*◌, ◌≤◌, ◌<◌}
+use Prim.Native.Nat.{ℕ, zero, suc, ◌+◌, ◌*◌, ◌≤◌, ◌<◌}
 use mathlib.Core.Path.{◌≡◌, refl, sym, ap, ◌∙◌}
 use mathlib.Core.Bool.{Bool, true, false, cond, true≢false}
 use mathlib.Core.List.{List, ◌++◌, append_assoc}
@@ -12,7 +12,7 @@ use borrow.Author.Tests.{eqb-true, eqb-false, eq-eqb, ne_eqb, le-leb}
 use Rattle.pack.specs.Bytes.{u16_at, u32_at}
 use Rattle.pack.specs.Grid.{in_grid, entry_of, locate_of}
 use Rattle.pack.specs.declared.TileKey.{TileKey}
-use Rattle.pack.specs.declared.Located.TheVariants as Located
+use Rattle.std.specs.Prelude.{Some, None, Ok}
 use Rattle.pack.proofs.Laws.{u32_slice, row_below, col_below}
 use Rattle.tile.proofs.Laws.{and_left, and_right}
 use Rattle.writer.specs.PackWritten.{GivenPack, key_in, key_at, same_key, has_key, tile_of, tiles_of, tile_at, tiles_below, places, data_start, total, header_of, sector_bytes, directory_bytes, pack_good, pack_bytes}
@@ -146,12 +146,12 @@ module _ (g : GivenPack) (good : pack_good g ≡ true) (small : total g ≤ 0xff
       ∙ ap length mine_is
 
   -- a key without a tile has none
-  pub entry_none : length mine ≡ 0 → locate_of (header_of g) entry ≡ Located.NoTile
+  pub entry_none : length mine ≡ 0 → locate_of (header_of g) entry ≡ Ok None
   unfolding locate_of
   entry_none e = rw (length_is, e)
 
   -- any other has just its tile
-  pub entry_tile : 0 < length mine → locate_of (header_of g) entry ≡ Located.Tile start (length mine)
+  pub entry_tile : 0 < length mine → locate_of (header_of g) entry ≡ Ok (Some (start, length mine))
   unfolding locate_of offset
   entry_tile h =
       let some : eqb (length mine) 0 ≡ false = ne_eqb (length mine) 0 (λ e. omega arith) in

@@ -7,7 +7,7 @@ use native.Mathlib.Numerals.{add-one}
 use native.Mathlib.Nat.{mul-add-div_right, mul-add-mod_self_right, div-eq_of_lt, mod-eq_of_lt, div-add-mod', mul-le-mul_right}
 use native.Mathlib.Omega.{arith}
 use lib.Dec.{eqb, ltb}
-use lib.ListN.{length, take, drop, get_or, drop_of_length-le, length-drop}
+use lib.ListN.{length, drop, get_or, drop_of_length-le, length-drop}
 use lib.Seq.{drop-cons, drop-drop, length-take-le}
 use borrow.Author.Tests.{eqb-true, eq-eqb, ltb-true, ltb-false}
 use Rattle.pack.specs.declared.TileKey.{TileKey}
@@ -16,7 +16,7 @@ use Rattle.writer.specs.Fields.{put}
 use Rattle.writer.specs.TileWritten.{field}
 use Rattle.writer.specs.PackWritten.{GivenPack, cut, sum_of, key_in, key_at, same_key, tile_of, tile_rules, tile_is_good, tiles_good, pack_rules, pack_good, places}
 use Rattle.writer.specs.PackSteps.{start_of, numbered, tiles_from, source_of, source, long, entries}
-use Rattle.writer.proofs.CutLaws.{from_all, from_more, from_end, start_more, start_within, start_back, part_back, good_more, good_end}
+use Rattle.writer.proofs.CutLaws.{from_all, from_more, from_end, start_more, start_within, start_back, good_more, good_end}
 use Rattle.writer.proofs.EntryBytes.{put_offset, put_long}
 
 -- ---- the place of a key
@@ -163,7 +163,7 @@ module _
     (some : 0 < after)
     (within : after ≤ length g.lengths)
     (ends : end ≡ start_of g.lengths after)
-    (named : key ≡ key_in (take (end - (end - get_or g.lengths (after - 1) 0)) (drop (end - get_or g.lengths (after - 1) 0) g.tiles)))
+    (named : key ≡ key_in (numbered g.lengths g.tiles (after - 1)))
     (found : entry ≡ (key.row * g.cols + key.col) * 8)
   where
     next : after - 1 + 1 ≡ after
@@ -175,7 +175,7 @@ module _
     entry_is : entry ≡ place_of g good (after - 1) after next below * 8
     entry_is =
         found
-        ∙ ap (λ (k : TileKey). (k.row * g.cols + k.col) * 8) (named ∙ ap key_in (part_back g.lengths g.tiles (after - 1) after end next below ends))
+        ∙ ap (λ (k : TileKey). (k.row * g.cols + k.col) * 8) named
 
     pub turn_fits : entry + 8 ≤ places g * 8
     turn_fits = omega (arith, entry_is, placed g good (after - 1) after next below)

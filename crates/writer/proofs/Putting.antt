@@ -1,79 +1,38 @@
--- Laws of putting fields in, for the code: a store is a field of one byte; two fields side by side are one wider field; bytes cleared one by one;
--- fields that lie apart may be put in either order.
-use Prim.Native.Nat.{ℕ, suc, ◌+◌, ◌-◌, ◌/◌, ◌%◌, ◌≤◌, ◌<◌}
+-- Laws of putting fields in, for the code: the low bytes of a number are its field; fields that lie apart may be put in either order.
+use Rattle.std.specs.Int.{w32, to_le_bytes}
+use Prim.Native.Nat.{ℕ, zero, suc, ◌+◌, ◌-◌, ◌/◌, ◌≤◌}
 use mathlib.Core.Path.{◌≡◌, refl, sym, ap, ◌∙◌}
 use mathlib.Core.List.{List, [], ◌∷◌, ◌++◌, append_assoc}
-use native.Mathlib.Numerals.{add-one}
 use native.Mathlib.Omega.{arith}
-use lib.ListN.{length, get_or, take, drop, set, replicate, length-replicate, replicate-append-replicate, take-append-drop, drop_of_length-le}
-use lib.Seq.{set_split, set_at, append_snoc, drop-cons, take_all, take-paste, drop-paste, drop-drop, length-take-le, take-append-le, drop-append-le, take-append-add, drop-append-add}
+use lib.ListN.{length, take, drop, take-append-drop}
+use lib.Seq.{take_all, drop-drop, length-take-le, take-append-le, drop-append-le, take-append-add, drop-append-add}
+use borrow.Rule.Slice.PartMut.{put_mid}
 use Rattle.writer.specs.Fields.{Field, little_endian, put, puts}
 use Rattle.writer.specs.TileWritten.{field}
 use Rattle.writer.proofs.FieldLaws.{end, Rising, rising_le, length_little, length-put}
 
--- ---- a store
+-- ---- the low bytes of a number
 
-pub store_put : (bs : List ℕ) (at value : ℕ) → at < length bs → set bs at (value % 256) ≡ put (field at 1 value) bs
-unfolding put little_endian
-store_put bs at value h =
-    set_split bs at (value % 256) h
-    ∙ sym (append_snoc (take at bs) (value % 256) (drop (suc at) bs))
-    ∙ ap (λ (n : ℕ). (take at bs ++ (value % 256 ∷ [])) ++ drop n bs) (sym (add-one at))
+low_bytes : (w n : ℕ) → w ≤ 4 → take w (to_le_bytes w32 n) ≡ little_endian w n
+unfolding little_endian
+low_bytes zero n h = refl
+low_bytes (suc zero) n h = refl
+low_bytes (suc (suc zero)) n h = refl
+low_bytes (suc (suc (suc zero))) n h = let e : n / 256 / 256 ≡ n / 65536 = omega arith in rw e
+low_bytes (suc (suc (suc (suc zero)))) n h =
+    let e : n / 256 / 256 ≡ n / 65536 = omega arith in
+    let f : n / 65536 / 256 ≡ n / 16777216 = omega arith in
+    rw (e, f)
+low_bytes (suc (suc (suc (suc (suc w))))) n h = absurd (omega arith)
 
--- ---- two fields side by side
-
-join : (bs : List ℕ) (at a b value rest : ℕ) → little_endian (a + b) value ≡ little_endian a value ++ little_endian b rest → at + a + b ≤ length bs
-    → put (field (at + a) b rest) (put (field at a value) bs) ≡ put (field at (a + b) value) bs
+pub put_low : (bs new : List ℕ) (at w value : ℕ) → w ≤ 4 → new ≡ take w (to_le_bytes w32 value) → put_mid at (at + w - at) bs new ≡ put (field at w value) bs
 unfolding put
-join bs at a b value rest split h =
-    let low : List ℕ = little_endian a value in
-    let high : List ℕ = little_endian b rest in
-    let both : List ℕ = little_endian (a + b) value in
-    let fits : at ≤ length bs = omega arith in
-    let whole_low : a ≤ length low = omega (arith, length_little a value) in
-    let all_low : take a low ≡ low = take_all a low (omega (arith, length_little a value)) in
-    let all_high : take b high ≡ high = take_all b high (omega (arith, length_little b rest)) in
-    let all_both : take (a + b) both ≡ both = take_all (a + b) both (omega (arith, length_little (a + b) value)) in
-    let sums : at + a + b ≡ at + (a + b) = omega arith in
-    ap (λ (xs : List ℕ). xs ++ take b high ++ drop (at + a + b) (put (field at a value) bs)) (take-paste bs at low a fits whole_low)
-    ∙ ap (λ (xs : List ℕ). take at bs ++ take a low ++ take b high ++ xs)
-    (sym (drop-drop b (at + a) (put (field at a value) bs))
-    ∙ ap (λ (xs : List ℕ). drop b xs) (drop-paste bs at low a fits whole_low)
-    ∙ drop-drop b (at + a) bs)
-    ∙ rw (all_low, all_high, all_both, split, sums) (ap (λ (xs : List ℕ). xs ++ drop (at + (a + b)) bs) (append_assoc (take at bs) low high))
-
-pub join_16 : (bs : List ℕ) (at value : ℕ) → at + 2 ≤ length bs → put (field (at + 1) 1 (value / 256)) (put (field at 1 value) bs) ≡ put (field at 2 value) bs
-unfolding little_endian
-join_16 bs at value h = join bs at 1 1 value (value / 256) refl (omega arith)
-
-pub join_32 : (bs : List ℕ) (at value : ℕ) → at + 4 ≤ length bs → put (field (at + 2) 2 (value / 65536)) (put (field at 2 value) bs) ≡ put (field at 4 value) bs
-unfolding little_endian
-join_32 bs at value h =
-    let e : value / 256 / 256 ≡ value / 65536 = omega arith in
-    join bs at 2 2 value (value / 65536) (rw e) (omega arith)
-
--- ---- bytes cleared one by one
-
-pub cleared_none : (bs : List ℕ) → bs ≡ replicate 0 0 ++ drop 0 bs
-cleared_none bs = refl
-
-pub cleared_more : (bs : List ℕ) (i : ℕ) → i < length bs → set (replicate i 0 ++ drop i bs) i 0 ≡ replicate (i + 1) 0 ++ drop (i + 1) bs
-cleared_more bs i h =
-    ap (λ (xs : List ℕ). set (replicate i 0 ++ xs) i 0) (drop-cons bs i 0 h)
-    ∙ set_at (replicate i 0) (get_or bs i 0) (drop (suc i) bs) 0 i (length-replicate i 0)
-    ∙ sym (append_snoc (replicate i 0) 0 (drop (suc i) bs))
-    ∙ ap (λ (xs : List ℕ). xs ++ drop (suc i) bs) (replicate-append-replicate i 1 0)
-    ∙ ap (λ (n : ℕ). replicate (i + 1) 0 ++ drop n bs) (sym (add-one i))
-
-pub cleared_all : (bs : List ℕ) (i : ℕ) → length bs ≤ i → i ≤ length bs → replicate i 0 ++ drop i bs ≡ replicate (length bs) 0
-cleared_all bs i h k =
-    let e : i ≡ length bs = omega arith in
-    ap (λ (xs : List ℕ). replicate i 0 ++ xs) (drop_of_length-le bs h)
-    ∙ rw e (append_nothing (replicate (length bs) 0))
-  where
-    append_nothing : (xs : List ℕ) → xs ++ [] ≡ xs
-    append_nothing [] = refl
-    append_nothing (x ∷ xs) = ap (λ (ys : List ℕ). x ∷ ys) (append_nothing xs)
+put_low bs new at w value h e =
+    let low : List ℕ = little_endian w value in
+    let is : new ≡ low = e ∙ low_bytes w value h in
+    let all : take w low ≡ low = take_all w low (omega (arith, length_little w value)) in
+    let wide : at + w - at ≡ w = omega arith in
+    rw (is, wide, drop-drop w at bs, all) (sym (append_assoc (take at bs) low (drop (at + w) bs)))
 
 -- ---- fields that lie apart
 

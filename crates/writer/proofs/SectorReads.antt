@@ -19,7 +19,7 @@ use Rattle.pack.specs.Offsets as At
 use Rattle.pack.specs.Sector.{spans, header_at, is_sum, is_magic, is_version, rules}
 use Rattle.pack.specs.Sector as Sector
 use Rattle.pack.specs.declared.Header.{Header}
-use Rattle.pack.specs.declared.Answer.TheVariants as Taken
+use Rattle.std.specs.Prelude.{Ok}
 use Rattle.pack.proofs.Signed.{le-true, add}
 use Rattle.tile.proofs.Laws.{clause, and_left, and_right}
 use Rattle.writer.specs.Fields.{Field, little_endian, put, puts, holding}
@@ -249,10 +249,10 @@ module _ (g : GivenPack) (good : pack_good g ≡ true) (few_rows : g.rows < 6553
       )
 
   -- `Header::parse` takes the first sector and gives back the grid
-  pub sector_parses : Sector.parse s ≡ record { answer = Taken.Accepted; header = h }
+  pub sector_parses : Sector.parse s ≡ Ok h
   unfolding Sector.parse
   sector_parses = rw (sum_good h, magic_good h, version_good h, header_read, rules_good)
 
-  pub pack_parses : Sector.parse (take 512 (pack_bytes g)) ≡ record { answer = Taken.Accepted; header = h }
+  pub pack_parses : Sector.parse (take 512 (pack_bytes g)) ≡ Ok h
   unfolding pack_bytes
   pack_parses = rw (take_at s (directory_bytes g ++ tiles_below g (places g)) 512 (length_sector h)) sector_parses

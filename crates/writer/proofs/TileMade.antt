@@ -8,7 +8,8 @@ use borrow.Author.Tests.{le-leb, lt-leb}
 use Rattle.crc.specs.Fcs.{crc32}
 use Rattle.tile.specs.Offsets as At
 use Rattle.pack.specs.declared.TileKey.{TileKey}
-use Rattle.writer.specs.declared.Answer.TheVariants as Answer
+use Rattle.std.specs.Prelude.{Ok, Err}
+use Rattle.refusal.specs.declared.Refusal.{Refusal}
 use Rattle.writer.specs.Fields.{Field, put, puts, holding}
 use Rattle.writer.specs.TileWritten.{Given, given, Written, tile, tile_good, tile_bytes, tile_fields, tile_length, node_count, edge_count, vertex_count, edges_base, vertices_base, field, fields_below, head_fields, node_fields, entry_field, edge_fields, vertex_fields}
 use Rattle.writer.proofs.FieldLaws.{puts-append}
@@ -54,18 +55,18 @@ any_size key size lon_um ns es vs = refl
 -- ---- the answers
 
 module _ (g : Given) (out : List ℕ) where
-  abbrev refused : ℕ → Written
-  refused n = record { answer = Answer.Refused n; out = out }
+  abbrev refused : Refusal → Written
+  refused e = record { answer = Err e; out = out }
 
-  pub is_13 : tile_good g ≡ false → tile g out ≡ refused 13
+  pub is_13 : tile_good g ≡ false → tile g out ≡ refused Refusal.BadValue
   unfolding tile
   is_13 bad = rw bad
 
-  pub is_14 : tile_good g ≡ true → length out < tile_length g → tile g out ≡ refused 14
+  pub is_14 : tile_good g ≡ true → length out < tile_length g → tile g out ≡ refused Refusal.NoRoom
   unfolding tile
   is_14 ok short = rw (ok, lt-leb (tile_length g) (length out) short)
 
   pub is_written : tile_good g ≡ true → tile_length g ≤ length out
-      → tile g out ≡ record { answer = Answer.Length (tile_length g); out = tile_bytes g ++ drop (tile_length g) out }
+      → tile g out ≡ record { answer = Ok (tile_length g); out = tile_bytes g ++ drop (tile_length g) out }
   unfolding tile
   is_written ok fits = rw (ok, le-leb (tile_length g) (length out) fits)

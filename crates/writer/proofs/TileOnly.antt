@@ -10,7 +10,7 @@ use lib.ListN.{get_or}
 use borrow.Author.Tests.{le-leb, lt-ltb}
 use Rattle.pack.proofs.Laws.{u16_below}
 use Rattle.tile.specs.Offsets as At
-use Rattle.tile.specs.Layout.{nodes_of, edges_of, vertices_of, head_of, length, edge_start, node_of, edge_of}
+use Rattle.tile.specs.Layout.{nodes_of, edges_of, vertices_of, head_of, edge_start, node_of, edge_of}
 use Rattle.tile.specs.Parse.{accepts}
 use Rattle.tile.specs.Order.{follows, in_order}
 use Rattle.tile.specs.declared.Head.{Head}

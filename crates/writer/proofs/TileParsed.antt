@@ -18,11 +18,7 @@ use Rattle.tile.specs.Readers as Readers
 use Rattle.tile.specs.declared.Node.{Node}
 use Rattle.tile.specs.declared.Edge.{Edge}
 use Rattle.tile.specs.declared.Incident.{Incident}
-use Rattle.tile.specs.declared.Parsed.TheVariants as Parsed
-use Rattle.tile.specs.declared.NodeRead.TheVariants as NodeRead
-use Rattle.tile.specs.declared.EdgeRead.TheVariants as EdgeRead
-use Rattle.tile.specs.declared.Entries.TheVariants as Entries
-use Rattle.tile.specs.declared.EntryRead.TheVariants as EntryRead
+use Rattle.std.specs.Prelude.{Ok}
 use Rattle.tile.proofs.Laws.{all_at}
 use Rattle.tile.proofs.Within.{accepted_node, accepted_edge, accepted_entry, accepted_incident, point_reads}
 use Rattle.writer.specs.TileWritten.{Given, tile_good, tile_bytes, tile_length, node_count, edge_count, vertex_count, place_given, edge_given, entries_at, first_entry}
@@ -109,20 +105,20 @@ module _ (g : Given) (ok : tile_good g ≡ true) (w : Widths g) where
       (both written_ordered refl))))))))))
 
   pub written_parses : parse tile g.key g.size
-      ≡ Parsed.Tile (record { key = g.key; nodes = node_count g; edges = edge_count g; vertices = vertex_count g; lon_um = g.lon_um })
+      ≡ Ok (record { key = g.key; nodes = node_count g; edges = edge_count g; vertices = vertex_count g; lon_um = g.lon_um })
   unfolding parse
   written_parses = rw (written_accepts, written_head g ok w)
 
   -- ---- the public readers
 
-  pub node_answers : (i : ℕ) → i < node_count g → Readers.node tile i ≡ NodeRead.At (place_given g.nodes i)
-  node_answers i h = accepted_node tile g.key g.size written_accepts i (omega (arith, nodes_read g ok w)) ∙ ap NodeRead.At (written_node g ok w i h)
+  pub node_answers : (i : ℕ) → i < node_count g → Readers.node tile i ≡ Ok (place_given g.nodes i)
+  node_answers i h = accepted_node tile g.key g.size written_accepts i (omega (arith, nodes_read g ok w)) ∙ ap Ok (written_node g ok w i h)
 
-  pub edge_answers : (i : ℕ) → i < edge_count g → Readers.edge tile i ≡ EdgeRead.At (edge_given g.edges i)
-  edge_answers i h = accepted_edge tile g.key g.size written_accepts i (omega (arith, edges_read g ok w)) ∙ ap EdgeRead.At (written_edge g ok w i h)
+  pub edge_answers : (i : ℕ) → i < edge_count g → Readers.edge tile i ≡ Ok (edge_given g.edges i)
+  edge_answers i h = accepted_edge tile g.key g.size written_accepts i (omega (arith, edges_read g ok w)) ∙ ap Ok (written_edge g ok w i h)
 
   pub incident_answers : (i : ℕ) → i < node_count g
-      → Readers.incident tile i ≡ Entries.Range (first_entry g.edges i) (first_entry g.edges (i + 1))
+      → Readers.incident tile i ≡ Ok (record { start = first_entry g.edges i; end = first_entry g.edges (i + 1) })
   incident_answers i h =
       accepted_incident tile g.key g.size written_accepts i (omega (arith, nodes_read g ok w))
       ∙ rw (written_end g ok w i h, written_start g ok w i h, max-eq_left {n = first_entry g.edges (i + 1)} {m = first_entry g.edges i} (omega (arith, first_more g.edges i)))
@@ -132,11 +128,11 @@ module _ (g : Given) (ok : tile_good g ≡ true) (w : Widths g) where
   incident_of value = record { edge = value / 2; ends = eqb (value % 2) 1 }
 
   pub entry_answers : (i k : ℕ) → i < node_count g → k < ListN.length (entries_at g.edges i)
-      → Readers.incident_entry tile (first_entry g.edges i + k) ≡ EntryRead.At (incident_of (get_or (entries_at g.edges i) k 0))
+      → Readers.incident_entry tile (first_entry g.edges i + k) ≡ Ok (incident_of (get_or (entries_at g.edges i) k 0))
   entry_answers i k h l =
       accepted_entry tile g.key g.size written_accepts (first_entry g.edges i + k)
       (omega (arith, edges_read g ok w, first_fits g.edges i (node_count g) h, good_entries g ok))
-      ∙ ap (λ (value : ℕ). EntryRead.At (incident_of value)) (written_entries g ok w i k h l)
+      ∙ ap (λ (value : ℕ). Ok (incident_of value)) (written_entries g ok w i k h l)
 
   -- point `index` of an edge: its start node, its vertices, its end node
   abbrev pub point_given : Edge → ℕ → Node
@@ -145,14 +141,14 @@ module _ (g : Given) (ok : tile_good g ≡ true) (w : Widths g) where
       (cond (ltb e.vertices index) (place_given g.nodes e.to) (place_given g.vertices (e.first_vertex + index - 1)))
 
   pub point_answers : (i : ℕ) → i < edge_count g → (index : ℕ)
-      → Readers.point tile (edge_given g.edges i) index ≡ NodeRead.At (point_given (edge_given g.edges i) index)
+      → Readers.point tile (edge_given g.edges i) index ≡ Ok (point_given (edge_given g.edges i) index)
   unfolding point_of
   point_answers i h index =
       let e : Edge = edge_given g.edges i in
       ap (λ (x : Edge). Readers.point tile x index) (sym (written_edge g ok w i h))
       ∙ point_reads tile g.key g.size written_accepts i (omega (arith, edges_read g ok w)) index
-      ∙ ap (λ (x : Edge). NodeRead.At (point_of tile x index)) (written_edge g ok w i h)
-      ∙ ap NodeRead.At (go (eqb index 0) (ltb e.vertices index) refl refl)
+      ∙ ap (λ (x : Edge). Ok (point_of tile x index)) (written_edge g ok w i h)
+      ∙ ap Ok (go (eqb index 0) (ltb e.vertices index) refl refl)
     where
       go : (first past : Bool) → eqb index 0 ≡ first → ltb (edge_given g.edges i).vertices index ≡ past
           → point_of tile (edge_given g.edges i) index ≡ point_given (edge_given g.edges i) index

@@ -14,7 +14,7 @@ use Rattle.crc.specs.Fcs.{crc32, crc32_skipping, zeroed}
 use Rattle.crc.proofs.Below.{crc_below}
 use Rattle.pack.specs.Bytes.{byte_at, u16_at, u32_at}
 use Rattle.tile.specs.Offsets as At
-use Rattle.tile.specs.Layout.{nodes_of, edges_of, vertices_of, head_of, length, node_start, entry_start, edge_start, vertex_start, place_at, node_of, edge_of, vertex_of, adjacency_start, adjacency_end}
+use Rattle.tile.specs.Layout.{nodes_of, edges_of, vertices_of, head_of, node_start, entry_start, edge_start, vertex_start, place_at, node_of, edge_of, vertex_of, adjacency_start, adjacency_end}
 use Rattle.tile.specs.Parse.{is_sum}
 use Rattle.tile.specs.declared.Node.{Node}
 use Rattle.tile.specs.declared.Edge.{Edge}

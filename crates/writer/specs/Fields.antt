@@ -1,4 +1,4 @@
--- Fields in a list of bytes: document 01, "All numbers little-endian"; document 02, request 1, "bytes without a field are zero".
+-- Fields in a list of bytes: all numbers have their low byte first, and bytes without a field are zero.
 use Rattle.std.specs.Prelude.{ℕ, zero, suc, ◌/◌, ◌%◌, List, [], ◌∷◌, replicate}
 use Rattle.std.proofs.Math.Seq.{paste}
 

@@ -4,5 +4,3 @@ pub mod TileWritten
 pub mod Steps
 pub mod PackWritten
 pub mod PackSteps
--- The number of each answer.
-pub mod Numbers

@@ -1,6 +1,6 @@
--- A pack made of a grid and finished tiles: document 02, request 1. The sector and the directory field by field at the offsets that the readers
+-- A pack made of a grid and finished tiles. The sector and the directory field by field at the offsets that the readers
 -- use (crate pack, Offsets), the tiles behind them in row order without gaps, and which numbers refuse it.
-use Rattle.std.specs.Prelude.{ℕ, zero, suc, ◌+◌, ◌*◌, ◌/◌, ◌%◌, Bool, true, false, ◌&&◌, not, cond, List, [], ◌∷◌, ◌++◌, eqb, leb, length, take, drop, ℤ}
+use Rattle.std.specs.Prelude.{ℕ, zero, suc, ◌+◌, ◌*◌, ◌/◌, ◌%◌, Bool, true, false, ◌&&◌, not, cond, List, [], ◌∷◌, ◌++◌, eqb, leb, length, take, drop, ℤ, Ok, Err}
 use Rattle.crc.specs.Fcs.{crc32}
 use Rattle.pack.specs.declared.TileKey.{TileKey}
 use Rattle.pack.specs.declared.Header.{Header}
@@ -10,8 +10,7 @@ use Rattle.pack.specs.Grid.{in_grid}
 use Rattle.num.specs.Cast.{bits32}
 use Rattle.tile.specs.Layout.{head_of}
 use Rattle.tile.specs.Parse.{accepts}
-use Rattle.writer.specs.declared.Answer.{Answer}
-use Rattle.writer.specs.declared.Answer.TheVariants as Answer
+use Rattle.refusal.specs.declared.Refusal.{Refusal}
 use Rattle.writer.specs.Fields.{Field, put, holding}
 use Rattle.writer.specs.TileWritten.{Written, field, fields_below}
 
@@ -200,6 +199,6 @@ unfoldable pub pack : GivenPack → List ℕ → Written
 pack g out =
     cond (pack_good g)
     (cond (leb (total g) 0xffff_ffff && leb (total g) (length out))
-    (record { answer = Answer.Length (total g); out = pack_bytes g ++ drop (total g) out })
-    (record { answer = Answer.Refused 14; out = out }))
-    (record { answer = Answer.Refused 13; out = out })
+    (record { answer = Ok (total g); out = pack_bytes g ++ drop (total g) out })
+    (record { answer = Err Refusal.NoRoom; out = out }))
+    (record { answer = Err Refusal.BadValue; out = out })

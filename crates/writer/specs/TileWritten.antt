@@ -1,6 +1,6 @@
--- A tile made of what a route maker gives: document 02, request 1. Its bytes field by field at the offsets that the readers use
+-- A tile made of what a route maker gives. Its bytes field by field at the offsets that the readers use
 -- (crate tile, Offsets and Layout), and which numbers refuse it.
-use Rattle.std.specs.Prelude.{ℕ, zero, suc, ◌+◌, ◌*◌, ◌/◌, ◌%◌, min, Bool, ◌&&◌, cond, List, [], ◌∷◌, ◌++◌, eqb, ltb, leb}
+use Rattle.std.specs.Prelude.{ℕ, zero, suc, ◌+◌, ◌*◌, ◌/◌, ◌%◌, min, Bool, ◌&&◌, cond, List, [], ◌∷◌, ◌++◌, eqb, ltb, leb, Result, Ok, Err}
 use Rattle.std.proofs.Math.ListN as ListN
 use Rattle.crc.specs.Fcs.{crc32}
 use Rattle.pack.specs.declared.TileKey.{TileKey}
@@ -11,8 +11,7 @@ use Rattle.tile.specs.Offsets as At
 use Rattle.tile.specs.Layout.{length, node_start}
 use Rattle.tile.specs.Parse.{all_below}
 use Rattle.tile.specs.Order.{in_order}
-use Rattle.writer.specs.declared.Answer.{Answer}
-use Rattle.writer.specs.declared.Answer.TheVariants as Answer
+use Rattle.refusal.specs.declared.Refusal.{Refusal}
 use Rattle.writer.specs.Fields.{Field, put, holding}
 
 -- ---- what is given: key, tile size, lon_um, and the records as numbers, one after the other
@@ -207,13 +206,13 @@ tile_good g =
 -- ---- the writer: 13, then 14 where the output is too short; both leave it as it was, and what lies past the tile stays
 
 pub record Written : Type 0 where
-  pub answer : Answer
+  pub answer : Result ℕ Refusal
   pub out : List ℕ
 
 unfoldable pub tile : Given → List ℕ → Written
 tile g out =
     cond (tile_good g)
     (cond (leb (tile_length g) (ListN.length out))
-    (record { answer = Answer.Length (tile_length g); out = tile_bytes g ++ ListN.drop (tile_length g) out })
-    (record { answer = Answer.Refused 14; out = out }))
-    (record { answer = Answer.Refused 13; out = out })
+    (record { answer = Ok (tile_length g); out = tile_bytes g ++ ListN.drop (tile_length g) out })
+    (record { answer = Err Refusal.NoRoom; out = out }))
+    (record { answer = Err Refusal.BadValue; out = out })

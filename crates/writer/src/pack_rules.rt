@@ -6,6 +6,7 @@ ghost use Rattle.writer.specs.PackWritten as PackWritten;
 ghost use Rattle.writer.specs.PackSteps as Steps;
 
 use crate::Grid;
+use crate::tiles::Tiles;
 use pack::TileKey;
 
 // How many keys are told apart by a mark; beyond, tiles that are not given in row order may be searched.
@@ -18,117 +19,71 @@ fn spans(from: i32, tiles: u16, size: u32) -> bool
     if from < -360000000 {
         return false;
     }
-    let to = (from as i64) + (((tiles as u64) * (size as u64)) as i64);
-    to <= 360000000
+    i64::from(from) + i64::from(tiles) * i64::from(size) <= 360000000
 }
 
 // The rules of a header that a grid can break.
 fn grid_good(grid: Grid) -> bool
     ensures { result ≡ PackWritten.grid_good (Steps.given grid [] []) }
 {
-    if grid.size == 0 {
+    if grid.size == 0 || 65535 < grid.size || grid.rows == 0 || grid.cols == 0 {
         return false;
     }
-    if 65535 < grid.size {
-        return false;
-    }
-    if grid.rows == 0 {
-        return false;
-    }
-    if grid.cols == 0 {
-        return false;
-    }
-    if !spans(grid.south, grid.rows, grid.size) {
-        return false;
-    }
-    spans(grid.west, grid.cols, grid.size)
-}
-
-// The lengths cut the bytes with none left over. What is left is compared, so that no sum wraps.
-fn is_whole(tiles: &[u8], lengths: &[u32]) -> bool
-    ensures { result ≡ eqb (PackWritten.sum_of lengths.now) (length tiles.now) }
-{
-    let mut at: usize = 0;
-    let mut i: usize = 0;
-    while i < lengths.len() {
-        let next = lengths[i] as usize;
-        if tiles.len() - at < next {
-            return false;
-        }
-        at += next;
-        i += 1;
-    }
-    at == tiles.len()
+    spans(grid.south, grid.rows, grid.size) && spans(grid.west, grid.cols, grid.size)
 }
 
 // The key that a tile's bytes name.
 pub fn key_in(bytes: &[u8]) -> TileKey
     ensures { result ≡ PackWritten.key_in bytes.now }
 {
-    TileKey {
-        row: pack::bytes::u16_at(bytes, 4),
-        col: pack::bytes::u16_at(bytes, 6),
-    }
+    tile::read::head(bytes).key
 }
 
+#[tactic(auto, unfolding(tile::specs::Parse::parse))]
 fn accepts(bytes: &[u8], key: TileKey, size: u32) -> bool
     ensures { result ≡ Parse.accepts bytes.now key size }
 {
-    let parsed = tile::parse(bytes, key, size);
-    match parsed {
-        tile::Parsed::Tile(_) => true,
-        tile::Parsed::Refused(_) => false,
-    }
+    tile::parse(bytes, key, size).is_ok()
 }
 
 // One tile: its length, what `tile::parse` asks, the order of its nodes among it, and its place in the grid.
 fn tile_is_good(grid: Grid, bytes: &[u8]) -> bool
     ensures { result ≡ PackWritten.tile_is_good (Steps.given grid [] []) bytes.now }
 {
-    if 49152 < bytes.len() {
-        return false;
-    }
     let key = key_in(bytes);
-    if !accepts(bytes, key, grid.size) {
-        return false;
-    }
-    if grid.rows <= key.row {
-        return false;
-    }
-    key.col < grid.cols
+    bytes.len() <= 49152
+        && accepts(bytes, key, grid.size)
+        && key.row < grid.rows
+        && key.col < grid.cols
 }
 
-fn tiles_good(grid: Grid, tiles: &[u8], lengths: &[u32]) -> bool
-    requires { PackWritten.sum_of lengths.now ≡ length tiles.now }
-    ensures { result ≡ PackWritten.tiles_good (Steps.given grid tiles.now lengths.now) (PackWritten.cut lengths.now tiles.now) }
+fn tiles_good(grid: Grid, tiles: &Tiles) -> bool
+    ensures { result ≡ PackWritten.tiles_good (Steps.given grid tiles.now.bytes.now tiles.now.lengths.now) (PackWritten.cut tiles.now.lengths.now tiles.now.bytes.now) }
 {
     let mut at: usize = 0;
-    let mut i: usize = 0;
-    while i < lengths.len() {
-        let end = at + lengths[i] as usize;
-        if !tile_is_good(grid, &tiles[at..end]) {
+    for i in 0..tiles.lengths.len() {
+        let tile = tiles.tile(i, at);
+        if !tile_is_good(grid, tile) {
             return false;
         }
-        at = end;
-        i += 1;
+        at += tile.len();
     }
     true
 }
 
 // Whether one of the tiles from number `first` on, which starts at `start`, has this key.
-fn has_key(key: TileKey, tiles: &[u8], lengths: &[u32], first: usize, start: usize) -> bool
-    requires { (PackWritten.sum_of lengths.now ≡ length tiles.now) × (start ≡ Steps.start_of lengths.now first) }
-    ensures { result ≡ PackWritten.has_key key (Steps.tiles_from lengths.now tiles.now first) }
+#[tactic(auto, using(std::proofs::lemmas::Bool::Decides::nat_tests, crate::proofs::KeyLaws::key_here, crate::proofs::KeyLaws::key_on, crate::proofs::KeyLaws::key_end))]
+fn has_key(key: TileKey, tiles: &Tiles, first: usize, start: usize) -> bool
+    requires { start ≡ Steps.start_of tiles.now.lengths.now first }
+    ensures { result ≡ PackWritten.has_key key (Steps.tiles_from tiles.now.lengths.now tiles.now.bytes.now first) }
 {
     let mut at = start;
-    let mut i = first;
-    while i < lengths.len() {
-        let end = at + lengths[i] as usize;
-        if tile::check::is_key(&tiles[at..end], key) {
+    for i in first..tiles.lengths.len() {
+        let tile = tiles.tile(i, at);
+        if tile::check::is_key(tile, key) {
             return true;
         }
-        at = end;
-        i += 1;
+        at += tile.len();
     }
     false
 }
@@ -137,96 +92,61 @@ fn has_key(key: TileKey, tiles: &[u8], lengths: &[u32], first: usize, start: usi
 fn rank(key: TileKey) -> u32
     ensures { result ≡ Steps.rank key }
 {
-    (key.row as u32) * 0x1_0000 + (key.col as u32)
-}
-
-fn lesser(a: u32, b: u32) -> u32
-    ensures { (result ≤ a) × (result ≤ b) }
-{
-    if a < b {
-        return a;
-    }
-    b
+    u32::from(key.row) * 0x1_0000 + u32::from(key.col)
 }
 
 // The place of a key's mark. In a grid of as many places each has its own.
+#[tactic(auto, unfolding(crate::specs::PackSteps::slot))]
 fn slot(key: TileKey, cols: u16) -> usize
     ensures value { result ≡ Steps.slot cols key }
     ensures upper_bound { result < 0x4_0000 }
 {
-    ((key.row as usize) * (cols as usize) + (key.col as usize)) % MARKS
+    (usize::from(key.row) * usize::from(cols) + usize::from(key.col)) % MARKS
 }
 
 // As `has_key`. None of those tiles ranks below `least`, and each has set its mark, so a key that ranks below, or whose mark is not set, is new without a search.
-fn again(
-    key: TileKey,
-    least: u32,
-    mark: u8,
-    tiles: &[u8],
-    lengths: &[u32],
-    first: usize,
-    start: usize,
-) -> bool
-    requires lengths_value { (PackWritten.sum_of lengths.now ≡ length tiles.now) × (start ≡ Steps.start_of lengths.now first) }
-    requires first_value { Steps.rank key < least → PackWritten.has_key key (Steps.tiles_from lengths.now tiles.now first) ≡ false }
-    requires first_value_2 { mark ≡ 0 → PackWritten.has_key key (Steps.tiles_from lengths.now tiles.now first) ≡ false }
-    ensures { result ≡ PackWritten.has_key key (Steps.tiles_from lengths.now tiles.now first) }
+fn again(key: TileKey, least: u32, mark: u8, tiles: &Tiles, first: usize, start: usize) -> bool
+    requires start_place { start ≡ Steps.start_of tiles.now.lengths.now first }
+    requires low_rank_is_new { Steps.rank key < least → PackWritten.has_key key (Steps.tiles_from tiles.now.lengths.now tiles.now.bytes.now first) ≡ false }
+    requires unmarked_is_new { mark ≡ 0 → PackWritten.has_key key (Steps.tiles_from tiles.now.lengths.now tiles.now.bytes.now first) ≡ false }
+    ensures { result ≡ PackWritten.has_key key (Steps.tiles_from tiles.now.lengths.now tiles.now.bytes.now first) }
 {
-    if rank(key) < least {
-        return false;
-    }
-    if mark == 0 {
-        return false;
-    }
-    has_key(key, tiles, lengths, first, start)
+    least <= rank(key) && mark != 0 && has_key(key, tiles, first, start)
 }
 
 // As `no_key_twice`, with room for the marks. From the last tile to the first, so that tiles given in row order need no mark.
-fn each_once(cols: u16, tiles: &[u8], lengths: &[u32], marks: &mut [u8]) -> bool
-    requires marks_len { length marks.old ≡ 0x4_0000 }
-    requires lengths_value { PackWritten.sum_of lengths.now ≡ length tiles.now }
-    ensures { result ≡ PackWritten.no_key_twice (PackWritten.cut lengths.now tiles.now) }
+fn each_once(cols: u16, tiles: &Tiles, marks: &mut [u8]) -> bool
+    requires { length marks.old ≡ 0x4_0000 }
+    ensures { result ≡ PackWritten.no_key_twice (PackWritten.cut tiles.now.lengths.now tiles.now.bytes.now) }
 {
-    let mut end = tiles.len();
-    let mut after = lengths.len();
-    let mut least: u32 = 0xffff_ffff;
-    while 0 < after {
-        let i = after - 1;
-        let at = end - lengths[i] as usize;
-        let key = key_in(&tiles[at..end]);
+    let mut end = tiles.bytes.len();
+    let mut least = u32::MAX;
+    for i in (0..tiles.lengths.len()).rev() {
+        let at = end - tiles.lengths[i] as usize;
+        let key = key_in(tiles.tile(i, at));
         let place = slot(key, cols);
-        if again(key, least, marks[place], tiles, lengths, after, end) {
+        if again(key, least, marks[place], tiles, i + 1, end) {
             return false;
         }
-        least = lesser(least, rank(key));
+        least = least.min(rank(key));
         marks[place] = 1;
         end = at;
-        after = i;
     }
     true
 }
 
 // No key is given twice.
-fn no_key_twice(cols: u16, tiles: &[u8], lengths: &[u32]) -> bool
-    requires { PackWritten.sum_of lengths.now ≡ length tiles.now }
-    ensures { result ≡ PackWritten.no_key_twice (PackWritten.cut lengths.now tiles.now) }
+fn no_key_twice(cols: u16, tiles: &Tiles) -> bool
+    ensures { result ≡ PackWritten.no_key_twice (PackWritten.cut tiles.now.lengths.now tiles.now.bytes.now) }
 {
     let mut marks = [0u8; MARKS];
-    each_once(cols, tiles, lengths, &mut marks)
+    each_once(cols, tiles, &mut marks)
 }
 
-// Everything that number 13 asks of a pack.
-pub fn pack_good(grid: Grid, tiles: &[u8], lengths: &[u32]) -> bool
-    ensures { result ≡ PackWritten.pack_good (Steps.given grid tiles.now lengths.now) }
+// Everything that number 13 asks of a pack, but that the lengths cut the bytes.
+#[tactic(auto, unfolding(crate::specs::PackWritten::pack_good))]
+pub fn pack_good(grid: Grid, tiles: &Tiles) -> bool
+    ensures { result ≡ PackWritten.pack_good (Steps.given grid tiles.now.bytes.now tiles.now.lengths.now) }
 {
-    if !grid_good(grid) {
-        return false;
-    }
-    if !is_whole(tiles, lengths) {
-        return false;
-    }
-    if !tiles_good(grid, tiles, lengths) {
-        return false;
-    }
-    no_key_twice(grid.cols, tiles, lengths)
+    grid_good(grid) && tiles_good(grid, tiles) && no_key_twice(grid.cols, tiles)
 }

@@ -10,7 +10,7 @@ use lib.ListN.{length}
 use borrow.Author.Tests.{ne_eqb, le-leb, le-ltb, leb-true}
 use Rattle.pack.specs.Grid.{in_grid, entry_of}
 use Rattle.pack.specs.declared.TileKey.{TileKey}
-use Rattle.pack.specs.declared.Parsed.{Parsed}
+use Rattle.std.specs.Prelude.{Ok}
 use Rattle.pack.proofs.Laws.{entry_within}
 use Rattle.cache.specs.Runs.{span}
 use Rattle.cache.proofs.RunLaws.{span_pos}
@@ -27,8 +27,8 @@ use Rattle.writer.proofs.PackReads.{start, entry_none, entry_tile, tile_there, l
 use Rattle.written_lookups.specs.Written.{Made, header_in, FindsEach, FindsNoOther}
 
 module _ (g : GivenPack) (made : Made g) where
-  header_is : header_in (pack_bytes g) ≡ header_of g
-  header_is = ap (λ (p : Parsed). p.header) (pack_parses g made.good made.rows made.cols made.fits)
+  header_is : header_in (pack_bytes g) ≡ Ok (header_of g)
+  header_is = pack_parses g made.good made.rows made.cols made.fits
 
   within : (key : TileKey) → in_grid (header_of g) key ≡ true → entry_of (header_of g) key + 8 ≤ length (pack_bytes g)
   within key grid =

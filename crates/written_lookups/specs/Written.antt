@@ -1,10 +1,10 @@
--- What is promised of a written pack to whoever looks a tile up in it: document 02, request 1 ("parsing its output gives back the same keys .. and grid"),
--- with document 01's "Looking up directly in the pack". That the sector is
--- accepted and gives back the grid is `pack_parses` of the writer's SectorReads.
-use Rattle.std.specs.Prelude.{ℕ, ◌≤◌, ◌<◌, ◌≡◌, true, false, List, length, take}
+-- What is promised of a written pack to whoever looks a tile up in it: its first sector is accepted, and a direct lookup by that header finds every tile
+-- given by its key, and no other. That the header gives back the grid is `pack_parses` of the writer's SectorReads.
+use Rattle.std.specs.Prelude.{ℕ, ◌≤◌, ◌<◌, ◌≡◌, true, false, List, length, take, Result, IsOkAnd}
 use Rattle.pack.specs.Sector.{parse}
 use Rattle.pack.specs.declared.TileKey.{TileKey}
 use Rattle.pack.specs.declared.Header.{Header}
+use Rattle.refusal.specs.declared.Refusal.{Refusal}
 use Rattle.cache.specs.Runs.{span}
 use Rattle.cache.specs.Direct.{direct, ready, missing}
 use Rattle.writer.specs.PackWritten.{GivenPack, pack_good, pack_bytes, total, tiles_of, key_in, has_key}
@@ -17,17 +17,18 @@ pub record Made (g : GivenPack) : Type 0 where
   pub good : pack_good g ≡ true
   pub fits : total g ≤ 0xffff_ffff
 
--- the header that the pack's first sector has
-abbrev pub header_in : List ℕ → Header
-header_in P = (parse (take 512 P)).header
+-- the header that the pack's first sector has, where it is accepted
+abbrev pub header_in : List ℕ → Result Header Refusal
+header_in P = parse (take 512 P)
 
 -- every tile given is found by its key, by a cache of pages enough for it
 abbrev pub FindsEach : Type 0
 FindsEach =
     (g : GivenPack) → Made g → (i pages : ℕ) → i < length g.lengths → span (length (numbered g.lengths g.tiles i)) ≤ pages
-    → direct (pack_bytes g) (header_in (pack_bytes g)) pages (key_in (numbered g.lengths g.tiles i)) ≡ ready (numbered g.lengths g.tiles i)
+    → IsOkAnd (header_in (pack_bytes g)) (λ h. direct (pack_bytes g) h pages (key_in (numbered g.lengths g.tiles i)) ≡ ready (numbered g.lengths g.tiles i))
 
 -- and no other is
 abbrev pub FindsNoOther : Type 0
 FindsNoOther =
-    (g : GivenPack) → Made g → (key : TileKey) (pages : ℕ) → has_key key (tiles_of g) ≡ false → direct (pack_bytes g) (header_in (pack_bytes g)) pages key ≡ missing
+    (g : GivenPack) → Made g → (key : TileKey) (pages : ℕ) → has_key key (tiles_of g) ≡ false
+    → IsOkAnd (header_in (pack_bytes g)) (λ h. direct (pack_bytes g) h pages key ≡ missing)

@@ -1,6 +1,6 @@
 -- `crc::four_at` meets its contract: four octets one behind the other.
-use Prim.Native.Nat.{ℕ, zero, suc, ◌+◌, ◌*◌, ◌≤◌}
-use mathlib.Core.Path.{◌≡◌, refl, sym, ap, ap₂, ◌∙◌}
+use Prim.Native.Nat.{ℕ, zero, suc, ◌+◌, ◌*◌, ◌≤◌, ◌<◌}
+use mathlib.Core.Path.{◌≡◌, refl, sym, ap, ◌∙◌}
 use mathlib.Core.Bool.{Bool}
 use mathlib.Core.List.{List, [], ◌∷◌, ◌++◌, append-nil}
 use native.Mathlib.Omega.{arith}
@@ -20,23 +20,29 @@ taken_places zero i os h = refl
 taken_places (suc n) i os h =
     ap (take (suc n)) (drop-cons os i 0 (omega arith)) ∙ ap (λ (l : List ℕ). get_or os i 0 ∷ l) (taken_places n (suc i) os (omega arith))
 
-pub returns : goal.returns
+-- four octets as one number, the first one lowest
+four : (w x y z : ℕ) → w < 256 → x < 256 → y < 256 → z < 256 → bits 32 (w + (x + (y + z * 256) * 256) * 256) ≡ message (w ∷ x ∷ y ∷ z ∷ [])
 unfolding message
+four w x y z a b c d =
+    bits_join 24 8 w (x + (y + z * 256) * 256) a
+    ∙ ap (λ (l : List Bool). bits 8 w ++ l)
+    (bits_join 16 8 x (y + z * 256) b
+    ∙ ap (λ (l : List Bool). bits 8 x ++ l)
+    (bits_join 8 8 y z c ∙ ap (λ (l : List Bool). bits 8 y ++ l) (sym (append-nil _))))
+
+pub returns : goal.returns
 returns c =
     let os : List ℕ = c.args.bytes.now in
     let i : ℕ = c.args.i in
-    let w : ℕ = c.wide-a.result in
-    let x : ℕ = c.wide-b.result in
-    let y : ℕ = c.wide-c.result in
-    let z : ℕ = c.wide-d.result in
     let e1 : i + 1 ≡ suc i = omega arith in
     let e2 : i + 2 ≡ suc (suc i) = omega arith in
     let e3 : i + 3 ≡ suc (suc (suc i)) = omega arith in
-    rw (taken_places 4 i os (omega arith))
-    (bits_join 24 8 w (x + (y + z * 256) * 256) (omega (arith, c.wide-a.ensures.value, c.wide-a.ensures.upper_bound))
-    ∙ ap₂ (λ (k : ℕ) (l : List Bool). bits 8 k ++ l) c.wide-a.ensures.value
-    (bits_join 16 8 x (y + z * 256) (omega (arith, c.wide-b.ensures.value, c.wide-b.ensures.upper_bound))
-    ∙ ap₂ (λ (k : ℕ) (l : List Bool). bits 8 k ++ l) (c.wide-b.ensures.value ∙ ap (λ (k : ℕ). get_or os k 0) e1)
-    (bits_join 8 8 y z (omega (arith, c.wide-c.ensures.value, c.wide-c.ensures.upper_bound))
-    ∙ ap₂ (λ (k : ℕ) (l : List Bool). bits 8 k ++ l) (c.wide-c.ensures.value ∙ ap (λ (k : ℕ). get_or os k 0) e2)
-    (ap (bits 8) (c.wide-d.ensures.value ∙ ap (λ (k : ℕ). get_or os k 0) e3) ∙ sym (append-nil _)))))
+    let w : ℕ = get_or os i 0 in
+    let x : ℕ = get_or os (suc i) 0 in
+    let y : ℕ = get_or os (suc (suc i)) 0 in
+    let z : ℕ = get_or os (suc (suc (suc i))) 0 in
+    let read = rw (e1, e2, e3) at c.from_le_bytes.ensures in
+    let is : c.from_le_bytes.result ≡ w + (x + (y + z * 256) * 256) * 256 = omega (arith, read) in
+    let fits = c.type_inv.bytes in
+    rw (taken_places 4 i os (omega arith), is)
+    (four w x y z (omega (arith, (fits i).fits)) (omega (arith, (fits (suc i)).fits)) (omega (arith, (fits (suc (suc i))).fits)) (omega (arith, (fits (suc (suc (suc i)))).fits)))

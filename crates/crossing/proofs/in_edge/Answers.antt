@@ -1,5 +1,5 @@
 -- `crossing::in_edge` meets its contract. The loop's invariant: `from` is the edge's place at this segment's number, and no segment before it meets the transect.
-use Prim.Native.Nat.{ℕ, ◌+◌, ◌-◌}
+use Prim.Native.Nat.{ℕ, ◌+◌}
 use mathlib.Core.Bool.{Bool}
 use mathlib.Core.List.{List}
 use mathlib.Core.Path.{◌≡◌}
@@ -25,7 +25,7 @@ returns-then-meets c =
     let met =
     tried args.a args.b args.header args.key args.bytes.now args.edge c.loop-segment.segment
     c.loop-segment.invariant.is c.place_at-to.ensures.is c.meets.ensures c.if-meets.true in
-    record { hit = λ h. met; miss = λ h. absurd (omega arith) }
+    (omega arith, met)
 
 pub loop-segment-preserved : goal.loop-segment-preserved
 loop-segment-preserved c =
@@ -34,7 +34,6 @@ loop-segment-preserved c =
     tried args.a args.b args.header args.key args.bytes.now args.edge c.loop-segment.segment
     c.loop-segment.invariant.is c.place_at-to.ensures.is c.meets.ensures c.if-meets.false in
     record {
-      within = omega arith;
       is = c.place_at-to.ensures.is;
       small = c.place_at-to.ensures.small;
       missed = below_more _ _ c.loop-segment.invariant.missed missed;

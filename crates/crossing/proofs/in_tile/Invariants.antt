@@ -1,5 +1,5 @@
 -- `crossing::in_tile` meets its contract. The loop's invariant: no segment of an edge passed meets the transect.
-use Prim.Native.Nat.{ℕ, ◌-◌, ◌≤◌, ◌<◌}
+use Prim.Native.Nat.{ℕ, ◌≤◌, ◌<◌}
 use mathlib.Core.Bool.{false}
 use mathlib.Core.Path.{◌≡◌}
 use Rattle.tile.specs.Layout.{edge_of}
@@ -8,8 +8,4 @@ use Rattle.crossing.proofs.in_tile.Given as goal
 
 abbrev pub invariant-loop-number : goal.invariant-loop-number
 invariant-loop-number l =
-    (l.number ≤ l.edges)
-    × ((edge : ℕ) → edge < l.number → (s : ℕ) → s ≤ (edge_of l.bytes edge).vertices → meets_at l.a l.b l.header l.key l.bytes (edge_of l.bytes edge) s ≡ false)
-
-abbrev pub decreases-loop-number : goal.decreases-loop-number
-decreases-loop-number l = l.edges - l.number
+    ((edge : ℕ) → edge < l.number → (s : ℕ) → s ≤ (edge_of l.bytes edge).vertices → meets_at l.a l.b l.header l.key l.bytes (edge_of l.bytes edge) s ≡ false)

@@ -1,11 +1,10 @@
 -- `matcher::search` meets its contract. The loop's invariant: the candidates kept so far are the definition's after as many turns, in eight places. An
 -- edge out of reach adds nothing (`skips`), and neither does one that is too dear.
-use Prim.Native.Nat.{ℕ, ◌-◌}
+use Prim.Native.Nat.{ℕ}
 use mathlib.Core.Path.{◌≡◌, sym, ap, ◌∙◌}
 use mathlib.Core.List.{List}
 use native.Mathlib.Omega.{arith}
 use lib.ListN.{length-set}
-use borrow.Author.Rules.{rules}
 use Rattle.tile.specs.Layout as Layout
 use Rattle.tile.specs.declared.TileId.{TileId}
 use Rattle.matcher.specs.declared.Kept.{Kept}
@@ -32,7 +31,7 @@ module _ (k : Kept) (q : Query) (id : TileId) (lon_um : ℕ) (bs : List ℕ) (nu
 pub loop-number-init : goal.loop-number-init
 loop-number-init c =
     let v = c.args.k.v in
-    (search rules, (c.well_formed.0.1.1.0.1.0.1, sym (up_start _ _)))
+    (c.well_formed.0.1.1.0.1.0.1, sym (up_start _ _))
 
 pub loop-number-preserved-in_default : goal.loop-number-preserved-in_default
 loop-number-preserved-in_default c =
@@ -41,11 +40,8 @@ loop-number-preserved-in_default c =
     let head = c.head-head.result in
     let args = c.args in
     let told = sym c.reached.ensures ∙ c.in_default.is in (
-      omega (arith, c.loop-number-test.true),
-      (
-        at_loop.invariant.1.0,
-        rw (up_turn, ← at_loop.invariant.1.1, skips at_loop.d args.q id head.lon_um args.bytes.now at_loop.number told),
-      ),
+      at_loop.invariant.0,
+      rw (up_turn, ← at_loop.invariant.1, skips at_loop.d args.q id head.lon_um args.bytes.now at_loop.number told),
     )
 
 pub loop-number-preserved-then-place-ge8 : goal.loop-number-preserved-then-place-ge8
@@ -55,13 +51,10 @@ loop-number-preserved-then-place-ge8 c =
     let head = c.head-head.result in
     let args = c.args in
     let told = sym c.reached.ensures ∙ c.in-At.is in (
-      omega (arith, c.loop-number-test.true),
-      (
-        at_loop.invariant.1.0,
-        rw (up_turn, ← at_loop.invariant.1.1, keeps at_loop.d args.q id head.lon_um args.bytes.now at_loop.number _ told)
-            (insert_dropped at_loop.d c.candidate_at-c.result at_loop.invariant.1.0 (rw c.place_of-place.ensures at c.if-place-ge8.true)
-            ∙ ap (insert at_loop.d) c.candidate_at-c.ensures),
-      ),
+      at_loop.invariant.0,
+      rw (up_turn, ← at_loop.invariant.1, keeps at_loop.d args.q id head.lon_um args.bytes.now at_loop.number _ told)
+          (insert_dropped at_loop.d c.candidate_at-c.result at_loop.invariant.0 (rw c.place_of-place.ensures at c.if-place-ge8.true)
+          ∙ ap (insert at_loop.d) c.candidate_at-c.ensures),
     )
 
 pub loop-number-preserved : goal.loop-number-preserved
@@ -72,24 +65,21 @@ loop-number-preserved c =
     let head = c.head-head.result in
     let args = c.args in
     let told = sym c.reached.ensures ∙ c.in-At.is in (
-      omega (arith, c.loop-number-test.true),
-      (
-        length-set at_loop.d.v place.result c.candidate_at-c.result ∙ at_loop.invariant.1.0,
-        rw (
-          up_turn,
-          ← at_loop.invariant.1.1,
-          keeps at_loop.d args.q id head.lon_um args.bytes.now at_loop.number _ told,
-          c.len_after.ensures,
-          place.ensures,
-        )
-            (insert-written at_loop.d c.candidate_at-c.result at_loop.invariant.1.0 (rw place.ensures at c.if-place-ge8.false)
-            ∙ ap (insert at_loop.d) c.candidate_at-c.ensures),
-      ),
+      length-set at_loop.d.v place.result c.candidate_at-c.result ∙ at_loop.invariant.0,
+      rw (
+        up_turn,
+        ← at_loop.invariant.1,
+        keeps at_loop.d args.q id head.lon_um args.bytes.now at_loop.number _ told,
+        c.len_after.ensures,
+        place.ensures,
+      )
+          (insert-written at_loop.d c.candidate_at-c.result at_loop.invariant.0 (rw place.ensures at c.if-place-ge8.false)
+          ∙ ap (insert at_loop.d) c.candidate_at-c.ensures),
     )
 
 pub returns : goal.returns
 unfolding Tile.search
 returns c =
     let at_loop = c.loop-number in
-    let end : at_loop.number ≡ c.head-head.result.edges = omega (arith, c.loop-number-test.false, at_loop.invariant.0) in
-    rw (at_loop.invariant.1.1, end, c.id-id.ensures, c.head-head.ensures)
+    let end : at_loop.number ≡ c.head-head.result.edges = omega arith in
+    rw (at_loop.invariant.1, end, c.id-id.ensures, c.head-head.ensures)

@@ -1,6 +1,6 @@
 -- `put_number` meets its contract. The loop's invariant: n's digits are those of what is left, and then those that stand from `first` on.
 -- As n has at most five and what is left has one, there is room for another (`room`). The measure is `first`.
-use Prim.Native.Nat.{ℕ, ◌+◌, ◌-◌, ◌≤◌}
+use Prim.Native.Nat.{ℕ, ◌≤◌}
 use mathlib.Core.Path.{◌≡◌}
 use mathlib.Core.List.{List, ◌++◌}
 use lib.ListN.{length, drop}

@@ -1,6 +1,6 @@
 -- `text` meets its contract. The loop's invariant: behind the heading stand the lines of the first i samples, of 12 bytes each at most.
 -- The measure is what is left of the samples.
-use Prim.Native.Nat.{ℕ, ◌+◌, ◌-◌, ◌*◌, ◌/◌, ◌%◌, ◌<◌, ◌≤◌}
+use Prim.Native.Nat.{ℕ, ◌+◌, ◌*◌, ◌/◌, ◌%◌, ◌<◌, ◌≤◌}
 use mathlib.Core.Path.{◌≡◌}
 use mathlib.Core.List.{List, ◌++◌}
 use native.Mathlib.Nat.{zero-add}
@@ -18,6 +18,7 @@ use Rattle.num.specs.Cast.{signed16}
 use Rattle.profile_text.specs.Codes.{codes}
 use Rattle.profile_text.specs.Text.{profile, heading, bad_input, line, lines, lines_by, samples}
 use Rattle.profile_text.proofs.Laws.{append_none, append_more, whole, length-line, lines_more, length-samples, sample_at}
+use Rattle.profile_text.proofs.text.Goals.{then-input-gt1002-via-then-input-gt1002, then-input-gt1002-via-else-input-gt1002+then-input-ne0}
 use Rattle.profile_text.proofs.text.Goals as goal
 
 module _ (bs : List ℕ) where
@@ -49,15 +50,16 @@ module _ (bs : List ℕ) where
 
 pub returns-then-input-gt1002 : goal.returns-then-input-gt1002
 unfolding bad_input codes
-returns-then-input-gt1002 c = rw (too_long _ c.if-input-gt1002.true) (record { value = (whole c.put_bytes.ensures).0; out_after = (whole c.put_bytes.ensures).1 })
-
-pub returns-then-input-ne0 : goal.returns-then-input-ne0
-unfolding bad_input codes
-returns-then-input-ne0 c = rw (odd _ c.if-input-gt1002.false c.if-input-ne0.true) (record { value = (whole c.put_bytes-then-input-ne0.ensures).0; out_after = (whole c.put_bytes-then-input-ne0.ensures).1 })
+returns-then-input-gt1002 c =
+    let bad : profile c.args.input.now ≡ bad_input = elim c.then-input-gt1002.branch [
+      | then-input-gt1002-via-then-input-gt1002 w ↦ too_long _ w.if-input-gt1002.true
+      | then-input-gt1002-via-else-input-gt1002+then-input-ne0 w ↦ odd _ w.if-input-gt1002.false w.if-input-ne0.true
+    ] in
+    rw bad (let both = whole c.put_bytes.ensures in record { value = both.0; out_after = both.1 })
 
 pub loop-i-init : goal.loop-i-init
 unfolding lines_by
-loop-i-init c = (omega arith, (omega arith, append_none _ _))
+loop-i-init c = (omega arith, append_none _ _)
 
 pub loop-i-preserved : goal.loop-i-preserved
 loop-i-preserved c =
@@ -65,11 +67,8 @@ loop-i-preserved c =
     let z = c.sample in
     let input = c.args.input.now in
     let i< : l.i * 2 + 1 < length input = omega arith in (
-      omega arith,
-      (
-        omega (arith, c.put_line-at.ensures.ends, line_fits input l.i z.result i< z.ensures z.type_inv (omega arith)),
-        rw (one_more input l.i z.result i< z.ensures z.type_inv) (append_more l.invariant.1.1 c.put_line-at.ensures),
-      ),
+      omega (arith, c.put_line-at.ensures.ends, line_fits input l.i z.result i< z.ensures z.type_inv (omega arith)),
+      rw (one_more input l.i z.result i< z.ensures z.type_inv) (append_more l.invariant.1 c.put_line-at.ensures),
     )
 
 pub returns : goal.returns
@@ -77,4 +76,4 @@ unfolding heading codes
 returns c =
     let short = c.if-input-gt1002.false in
     let even = c.if-input-ne0.false in
-    rw (good _ short even) (record { value = (whole (append_more c.put_bytes-at.ensures (rw (all _ _ c.loop-i-test.false) at c.loop-i.invariant.1.1))).0; out_after = (whole (append_more c.put_bytes-at.ensures (rw (all _ _ c.loop-i-test.false) at c.loop-i.invariant.1.1))).1 })
+    rw (good _ short even) (let both = whole (append_more c.put_bytes-at.ensures (rw (all _ _ c.loop-i-test.false) at c.loop-i.invariant.1)) in record { value = both.0; out_after = both.1 })

@@ -13,10 +13,10 @@ returns-then-east-north c =
     (rw (order, c.arc.ensures, c.ratio.ensures.0), omega (arith, c.arc.ensures, arc_most c.ratio.result))
 
 pub overflow_sub-result : goal.overflow_sub-result
-overflow_sub-result c = omega (arith, c.arc-2.ensures, arc_most c.ratio-2.result)
+overflow_sub-result c = omega (arith, c.arc-else-east-north.ensures, arc_most c.ratio-else-east-north.result)
 
-pub returns : goal.returns
+pub returns-else-east-north : goal.returns-else-east-north
 unfolding quarter
-returns c =
+returns-else-east-north c =
     let order = pattern_order c.args.east c.args.north c.requires.1.0 c.requires.1.1 ∙ lt-leb _ _ c.if-east-north.false in
-    (rw (order, c.arc-2.ensures, c.ratio-2.ensures.0), omega arith)
+    (rw (order, c.arc-else-east-north.ensures, c.ratio-else-east-north.ensures.0), omega arith)

@@ -15,8 +15,8 @@ pub returns-then-shift-gt63 : goal.returns-then-shift-gt63
 returns-then-shift-gt63 c =
     (far_ratio c.significand-a.ensures c.significand-b.ensures c.requires c.if-shift-gt63.true, search rules)
 
-pub returns : goal.returns
-returns c =
+pub returns-else-shift-gt63 : goal.returns-else-shift-gt63
+returns-else-shift-gt63 c =
     let given = c.requires in
     let e = shifted_ratio c.significand-a.ensures c.significand-b.ensures given in
     (e, rw e (pattern_ratio_most _ _ given.1.0 given.1.1))

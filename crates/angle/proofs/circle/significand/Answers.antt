@@ -13,8 +13,8 @@ returns-then-field-eq0 c =
       scale = omega arith;
     }
 
-pub returns : goal.returns
-returns c =
+pub returns-else-field-eq0 : goal.returns-else-field-eq0
+returns-else-field-eq0 c =
     record {
       value = magnitude_normal c.args.b c.requires (omega arith);
       below = omega arith;

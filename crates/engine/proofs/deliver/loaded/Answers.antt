@@ -1,7 +1,9 @@
 -- `engine::deliver::loaded` meets its contract: a step of the load that is refused, and any other.
 use Rattle.engine.proofs.StepNeeds.{load_ended}
 use Rattle.engine.proofs.deliver.loaded.Goals as goal
-use borrow.Enum.Refused.{opened}
+
+pub returns-in-Err : goal.returns-in-Err
+returns-in-Err c = rw (c.refused.ensures, c.number.ensures, c.in-Err.is)
 
 pub returns : goal.returns
 returns c =
@@ -11,5 +13,6 @@ returns c =
       c.load_phase-phase.ensures,
       c.load_leaves-after.ensures,
       c.fails_pack-is_failed.ensures,
-      load_ended args.l.answer (opened c.in_default.in_default-own.keys2) args.e args.l.cache,
+      c.in-Ok.is,
+      load_ended c.in-Ok.progress args.e args.l.cache,
     )

@@ -1,11 +1,8 @@
 -- `engine::deliver::whole_sector` meets its contract. The loop's invariant: the sector so far is the definition's after as many bytes.
-use Rattle.std.proofs.Common.{◌≡◌, ℕ, ◌-◌, ◌≤◌, List, set}
+use Rattle.std.proofs.Common.{◌≡◌, ℕ, List, set}
 use Rattle.num.specs.Fold.{up_to}
 use Rattle.pack.specs.Bytes.{byte_at}
 use Rattle.engine.proofs.deliver.whole_sector.Given as goal
 
 abbrev pub invariant-loop-i : goal.invariant-loop-i
-invariant-loop-i l = (l.i ≤ 512) × (l.out ≡ up_to (λ (o : List ℕ) (j : ℕ). set o j (byte_at l.bytes j)) l.initial.out l.i)
-
-abbrev pub decreases-loop-i : goal.decreases-loop-i
-decreases-loop-i l = 512 - l.i
+invariant-loop-i l = l.out ≡ up_to (λ (o : List ℕ) (j : ℕ). set o j (byte_at l.bytes j)) l.initial.out l.i

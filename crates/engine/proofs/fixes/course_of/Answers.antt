@@ -5,24 +5,24 @@ use Rattle.pack.proofs.Signed.{got}
 use Rattle.engine.specs.Fixes.{course_of}
 use Rattle.engine.proofs.fixes.course_of.Goals as goal
 
-pub returns-in-Nothing : goal.returns-in-Nothing
+pub returns-in-None : goal.returns-in-None
 unfolding course_of
-returns-in-Nothing c =
+returns-in-None c =
     let fix = c.args.fix in
     let lat = got w32 {z = fix.lat} c.struct_told-1.given.0.1 in
     let lon = got w32 {z = fix.lon} c.struct_told-1.given.1.0.1 in
     let found = rw (c.lon_scale_um-lon_um.ensures, lat, lon) at c.moved_from.ensures in
-    rw (sym found ∙ c.in-Nothing.is)
+    rw (sym found ∙ c.in-None.is)
 
-pub returns-in-At : goal.returns-in-At
+pub returns-in-Some : goal.returns-in-Some
 unfolding course_of
-returns-in-At c =
+returns-in-Some c =
     let fix = c.args.fix in
     let lat = got w32 {z = fix.lat} c.struct_told-1.given.0.1 in
     let lon = got w32 {z = fix.lon} c.struct_told-1.given.1.0.1 in
     let found = rw (c.lon_scale_um-lon_um.ensures, lat, lon) at c.moved_from.ensures in
     rw (
-      sym found ∙ c.in-At.is,
+      sym found ∙ c.in-Some.is,
       c.bearing.ensures,
       c.metres-m.ensures,
       c.place_at-old.ensures,

@@ -1,6 +1,6 @@
 -- `engine::fixes::moved_from` meets its contract. The loop's invariant: what is left to look through has the same answer as the whole. Assumes
 -- nothing.
-use Rattle.std.proofs.Common.{◌≡◌, ℕ, ◌-◌}
+use Rattle.std.proofs.Common.{◌≡◌, ℕ}
 use Rattle.predict.specs.Incoming.{highest}
 use Rattle.engine.specs.Fixes.{is_move, moved_from}
 use Rattle.engine.proofs.fixes.moved_from.Given as goal

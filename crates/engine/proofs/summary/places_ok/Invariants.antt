@@ -1,7 +1,7 @@
 -- `engine::summary::places_ok` meets its contract. The loop's invariant: every place passed is a point.
-use Rattle.std.proofs.Common.{◌≡◌, ℕ, ◌-◌, ◌≤◌, Bool, not}
+use Rattle.std.specs.Prelude.{None}
+use Rattle.std.proofs.Common.{◌≡◌, ℕ, Bool, not}
 use Rattle.pack.specs.Grid.{is_point}
-use Rattle.cache.specs.declared.victim.Found.TheVariants as Found
 use Rattle.cache.specs.Search.{lowest}
 use Rattle.engine.specs.Fixes.{place_at}
 use Rattle.engine.specs.declared.Places.{Places}
@@ -11,7 +11,4 @@ abbrev pub is_none : Places → ℕ → Bool
 is_none h i = not (is_point (place_at h i).lat (place_at h i).lon)
 
 abbrev pub invariant-loop-i : goal.invariant-loop-i
-invariant-loop-i l = (l.i ≤ l.n) × (lowest (λ (j : ℕ). is_none l.h j) l.i ≡ Found.Nothing)
-
-abbrev pub decreases-loop-i : goal.decreases-loop-i
-decreases-loop-i l = l.n - l.i
+invariant-loop-i l = lowest (λ (j : ℕ). is_none l.h j) l.i ≡ None

@@ -1,7 +1,6 @@
 -- `engine::work::matched` meets its contract: each return by whether there is a match (`found_by`, `none_by`).
 use Rattle.std.proofs.Common.{◌≡◌, true, false, sym, refl, ◌∙◌, true≢false}
 use Rattle.matcher.specs.declared.Current.{Current}
-use Rattle.matcher.specs.declared.Current.TheVariants as Current
 use Rattle.matcher.specs.declared.Matcher.{Matcher}
 use Rattle.predict.specs.declared.End.TheVariants as End
 use Rattle.engine.specs.declared.Fix.{Fix}

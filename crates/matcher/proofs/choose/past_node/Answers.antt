@@ -10,21 +10,21 @@ pub returns-then-not-chosen : goal.returns-then-not-chosen
 unfolding past_node
 returns-then-not-chosen c = rw (not-true c.args.choice.chosen.at_node c.if-not-chosen.true)
 
-pub returns-in-Nothing : goal.returns-in-Nothing
+pub returns-in-None : goal.returns-in-None
 unfolding past_node
-returns-in-Nothing c =
+returns-in-None c =
     rw (
       ← literal_2,
-      sym c.least_of.ensures ∙ c.in-Nothing.is,
+      sym c.least_of.ensures ∙ c.in-None.is,
       not-false c.args.choice.chosen.at_node c.if-not-chosen.false,
     )
 
-pub returns-in-At : goal.returns-in-At
+pub returns-in-Some : goal.returns-in-Some
 unfolding past_node
-returns-in-At c =
+returns-in-Some c =
     rw (
       ← literal_2,
-      sym c.least_of.ensures ∙ c.in-At.is,
+      sym c.least_of.ensures ∙ c.in-Some.is,
       not-false c.args.choice.chosen.at_node c.if-not-chosen.false,
       c.candidate_in.ensures,
     )

@@ -9,25 +9,18 @@ unfolding add
 returns-then-has c =
     let f = c.ranges in
     let keyed = rw (to_z-of_z f.row, to_z-of_z f.col) at c.checked_of.ensures in
-    rw (sym keyed ∙ c.in-In.is, sym c.has.ensures ∙ c.if-has.true)
+    rw (sym keyed ∙ c.in-Some.is, sym c.has.ensures ∙ c.if-has.true)
 
 pub returns-else-has : goal.returns-else-has
 unfolding add
 returns-else-has c =
     let f = c.ranges in
     let keyed = rw (to_z-of_z f.row, to_z-of_z f.col) at c.checked_of.ensures in
-    rw (sym keyed ∙ c.in-In.is, sym c.has.ensures ∙ c.if-has.false, c.push.ensures)
+    rw (sym keyed ∙ c.in-Some.is, sym c.has.ensures ∙ c.if-has.false, c.push.ensures)
 
-pub returns-in-Outside : goal.returns-in-Outside
+pub returns-in-None : goal.returns-in-None
 unfolding add
-returns-in-Outside c =
+returns-in-None c =
     let f = c.ranges in
     let keyed = rw (to_z-of_z f.row, to_z-of_z f.col) at c.checked_of.ensures in
-    rw (sym keyed ∙ c.in-Outside.is)
-
-pub returns-in-Refused : goal.returns-in-Refused
-unfolding add
-returns-in-Refused c =
-    let f = c.ranges in
-    let keyed = rw (to_z-of_z f.row, to_z-of_z f.col) at c.checked_of.ensures in
-    rw (sym keyed ∙ c.in-Refused.is)
+    rw (sym keyed ∙ c.in-None.is)

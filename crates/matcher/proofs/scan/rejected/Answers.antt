@@ -1,6 +1,4 @@
 -- `matcher::scan::rejected` meets its contract: each return by the pairs of tests before it, one of which failed in each.
-use mathlib.Core.Path.{◌≡◌}
-use mathlib.Core.Bool.{Bool, true, false, ◌&&◌}
 use Rattle.matcher.proofs.ScoreLiterals.{literal_40}
 use Rattle.matcher.proofs.scan.rejected.Goals as goal
 use Rattle.matcher.proofs.scan.rejected.Goals.{else-a-3-via-then-a-3+else-b-3, else-a-3-via-else-a-3}

@@ -1,10 +1,9 @@
 -- `matcher::scan::scan` meets its contract. The loop's invariant: the scan so far is the definition's after as many turns; the turn that
 -- leaves is the one at the edge's last segment.
-use Prim.Native.Nat.{ℕ, ◌+◌, ◌-◌}
+use Prim.Native.Nat.{ℕ, ◌+◌}
 use mathlib.Core.Path.{◌≡◌, ap, ◌∙◌}
 use mathlib.Core.List.{List}
 use native.Mathlib.Omega.{arith}
-use borrow.Author.Rules.{rules}
 use Rattle.pack.specs.declared.Header.{Header}
 use Rattle.pack.specs.declared.TileKey.{TileKey}
 use Rattle.tile.specs.declared.Edge.{Edge}
@@ -32,30 +31,15 @@ module _ (h : Header) (bs : List ℕ) (key : TileKey) (e : Edge) (fix : Point) (
   scan_end i s end so_far = ap (λ (x : Scanned). x.nearest) (so_far ∙ ap (λ (n : ℕ). scanned h bs key e fix lon_um (n + 1)) end)
 
 pub loop-i-init : goal.loop-i-init
-loop-i-init c = (search rules, rw (scan_start, c.metres-first.ensures, c.point_of.ensures))
+loop-i-init c = rw (scan_start, c.metres-first.ensures, c.point_of.ensures)
 
 pub loop-i-preserved : goal.loop-i-preserved
-loop-i-preserved c = (
-  omega (arith, c.if-i-last.false),
-  rw (
-    scan_turn,
-    c.segment_step-s.ensures,
-    c.metres-b.ensures,
-    c.next_point.ensures,
-    c.loop-i.invariant.1,
-  ),
-)
+loop-i-preserved c = rw (scan_turn, c.segment_step-s.ensures, c.metres-b.ensures, c.next_point.ensures, c.loop-i.invariant)
 
-pub returns : goal.returns
-returns c =
+pub returns-2 : goal.returns-2
+returns-2 c =
     let at_loop = c.loop-i in
     let args = c.args in
-    scan_end args.header args.bytes.now args.key args.edge args.fix args.lon_um at_loop.i
-    c.segment_step-s.result c.if-i-last.true
-    (rw (
-      scan_turn,
-      c.segment_step-s.ensures,
-      c.metres-b.ensures,
-      c.next_point.ensures,
-      at_loop.invariant.1,
-    ))
+    let end : at_loop.i ≡ args.edge.vertices = omega arith in
+    scan_end args.header args.bytes.now args.key args.edge args.fix args.lon_um at_loop.i c.segment_step-s.result end
+    (rw (scan_turn, c.segment_step-s.ensures, c.metres-b.ensures, c.next_point.ensures, at_loop.invariant))

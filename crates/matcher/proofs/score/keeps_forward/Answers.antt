@@ -3,7 +3,7 @@ use Rattle.matcher.proofs.ScoreLiterals.{literal_135}
 use Rattle.matcher.proofs.score.keeps_forward.Goals as goal
 
 pub returns-then-forward : goal.returns-then-forward
-returns-then-forward c = rw (literal_135, c.in-Is.is, c.if-forward.true)
+returns-then-forward c = rw (literal_135, c.in-Some.is, c.if-forward.true)
 
 pub returns-else-forward : goal.returns-else-forward
-returns-else-forward c = rw (literal_135, c.in-Is.is, c.if-forward.false)
+returns-else-forward c = rw (literal_135, c.in-Some.is, c.if-forward.false)

@@ -2,5 +2,5 @@
 use Rattle.matcher.proofs.ScoreLiterals.{literal_60}
 use Rattle.matcher.proofs.score.limited.Goals as goal
 
-pub returns-in-Is : goal.returns-in-Is
-returns-in-Is c = rw (c.in-Is.is, ← literal_60) c.min.ensures
+pub returns-in-Some : goal.returns-in-Some
+returns-in-Some c = rw (c.in-Some.is, ← literal_60) c.min.ensures

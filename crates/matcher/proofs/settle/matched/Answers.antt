@@ -3,15 +3,15 @@ use mathlib.Core.Path.{sym, ◌∙◌}
 use Rattle.matcher.specs.Settle.{matched}
 use Rattle.matcher.proofs.settle.matched.Goals as goal
 
-pub returns-in-Nothing : goal.returns-in-Nothing
+pub returns-in-None : goal.returns-in-None
 unfolding matched
-returns-in-Nothing c = rw (sym c.least_of.ensures ∙ c.in-Nothing.is, c.missed.ensures)
+returns-in-None c = rw (sym c.least_of.ensures ∙ c.in-None.is, c.missed.ensures)
 
-pub returns-in-At : goal.returns-in-At
+pub returns-in-Some : goal.returns-in-Some
 unfolding matched
-returns-in-At c =
+returns-in-Some c =
     rw (
-      sym c.least_of.ensures ∙ c.in-At.is,
+      sym c.least_of.ensures ∙ c.in-Some.is,
       c.settled.ensures,
       c.past_node-on.ensures,
       c.chosen_by-choice.ensures,

@@ -8,7 +8,7 @@ use Rattle.num.proofs.WholeLaws.{left, left_lt, field_le, whole_part}
 use Rattle.num.proofs.cast.whole_part.Goals as goal
 
 pub overflow_sub-size : goal.overflow_sub-size
-overflow_sub-size c = field_le c.args.x (search rules) (c.requires.fact_1, c.requires.fact_2)
+overflow_sub-size c = field_le c.args.x (search rules) (c.requires.above_least, c.requires.below_most)
 
 -- what is left of the digits, as the code has it
 abbrev rest : goal.Start → ℕ
@@ -31,9 +31,9 @@ negated_fits (suc n) h = record { sfits = omega arith }
 pub returns-then-bits-lt2147483648 : goal.returns-then-bits-lt2147483648
 returns-then-bits-lt2147483648 c =
     rw (c.cut.ensures, plain (rest c.before.before) (rest_lt c.before.before))
-    (rw (lt-leb (2 ^ 31) (to_bits binary32 c.args.x) c.if-bits-lt2147483648.true) at (whole_part c.args.x (search rules) (c.requires.fact_1, c.requires.fact_2)))
+    (rw (lt-leb (2 ^ 31) (to_bits binary32 c.args.x) c.if-bits-lt2147483648.true) at (whole_part c.args.x (search rules) (c.requires.above_least, c.requires.below_most)))
 
 pub returns : goal.returns
 returns c =
     rw (c.cut.ensures, plain (rest c.before.before) (rest_lt c.before.before), +ℤ_idl (neg_ℤ (pos (rest c.before.before))), to_z-of_z (negated_fits (rest c.before.before) (rest_lt c.before.before)))
-    (rw (le-leb (2 ^ 31) (to_bits binary32 c.args.x) c.if-bits-lt2147483648.false) at (whole_part c.args.x (search rules) (c.requires.fact_1, c.requires.fact_2)))
+    (rw (le-leb (2 ^ 31) (to_bits binary32 c.args.x) c.if-bits-lt2147483648.false) at (whole_part c.args.x (search rules) (c.requires.above_least, c.requires.below_most)))

@@ -1,14 +1,10 @@
--- `order::is_sign_negative` meets its contract: the test of the pattern is `sign_bit`'s.
-use Rattle.std.proofs.Common.{sym, rules}
-use lib.Ieee.{binary32}
-use Rattle.num.proofs.OrderLaws.{differs, is_nan_lem, sign_bit}
+-- `order::is_sign_negative` meets its contract: not-a-number has no sign, and std's word for the sign is the same.
+use Rattle.std.proofs.Common.{◌∙◌, sym, not, ap}
+use Rattle.num.proofs.OrderLaws.{sign_is, nan_sign}
 use Rattle.num.proofs.order.is_sign_negative.Goals as goal
 
-pub returns-then-x : goal.returns-then-x
-returns-then-x c = rw (is_nan_lem _ c.if-x.true)
+pub returns-then-not-is_nan : goal.returns-then-not-is_nan
+returns-then-not-is_nan c = c.is_sign_negative.ensures ∙ sign_is _
 
-pub float_to_bits-result : goal.float_to_bits-result
-float_to_bits-result c = rw (← differs, c.if-x.false) tt
-
-pub returns : goal.returns
-returns c = sym (sign_bit binary32 c.args.x (search rules))
+pub returns-else-not-is_nan : goal.returns-else-not-is_nan
+returns-else-not-is_nan c = ap not c.if-not-is_nan.false ∙ nan_sign _ (sym c.is_nan.ensures.value ∙ c.if-not-is_nan.false)

@@ -5,7 +5,7 @@ use lib.IntN.{ℤ, ◌-ℤ◌}
 use mir.Facts.{to_z-of_z}
 use mir.Syntax.{w32, w64}
 use mir.Val.{SFits, to_z, of_z}
-use borrow.Author.Tests.{eq-eqb, ne_eqb}
+use borrow.Author.Tests.{ne_eqb}
 use Rattle.pack.specs.Grid.{key_of}
 use Rattle.pack.proofs.Signed.{range, fits, sub, sf, got, wide}
 use Rattle.pack.proofs.grid.key_of.Goals as goal
@@ -17,10 +17,6 @@ module _ {a b : ℤ} (f : SFits w32 a) (g : SFits w32 b) where
 
   gap_is : to_z w64 (of_z w64 (to_z w64 (of_z w64 (to_z w32 (of_z w32 a))) -ℤ to_z w64 (of_z w64 (to_z w32 (of_z w32 b))))) ≡ a -ℤ b
   gap_is = rw (wide f, wide g) (to_z-of_z gap_fits)
-
-pub returns-then-tile-eq0 : goal.returns-then-tile-eq0
-unfolding key_of
-returns-then-tile-eq0 c = rw (eq-eqb _ _ c.if-tile-eq0.true)
 
 pub returns : goal.returns
 unfolding key_of

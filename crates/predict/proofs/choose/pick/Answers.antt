@@ -1,10 +1,8 @@
 -- `predict::choose::pick` meets its contract. The loop's invariant: the best and the second so far are the definition's after as many turns.
 -- Each place read is one of the twelve.
-use Prim.Native.Nat.{◌-◌}
 use mathlib.Core.Path.{◌≡◌}
 use native.Mathlib.Omega.{arith}
 use lib.ListN.{length}
-use borrow.Author.Rules.{rules}
 use Rattle.num.proofs.FoldLaws.{up_start, up_turn}
 use Rattle.predict.specs.Choose.{no_choice, pick_to}
 use Rattle.predict.proofs.WayLaws.{at_any}
@@ -13,7 +11,7 @@ use Rattle.predict.proofs.choose.pick.Goals as goal
 
 pub loop-i-init : goal.loop-i-init
 unfolding pick_to
-loop-i-init c = (search rules, rw (infinite, c.no_choice-none.ensures, up_start))
+loop-i-init c = rw (infinite, c.no_choice-none.ensures, up_start)
 
 pub loop-i-preserved : goal.loop-i-preserved
 unfolding pick_to
@@ -21,4 +19,4 @@ loop-i-preserved c =
     let at_loop = c.loop-i in
     let v = c.args.c.v in
     let size : length v ≡ 12 = c.well_formed.0.1.1.0.1.0.1 in
-    (omega arith, rw (c.pick_step-p.ensures, at_any v at_loop.i _ no_choice (omega arith), at_loop.invariant.1, up_turn))
+    rw (c.pick_step-p.ensures, at_any v at_loop.i _ no_choice (omega arith), at_loop.invariant, up_turn)

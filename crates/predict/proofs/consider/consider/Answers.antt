@@ -10,7 +10,6 @@ use borrow.Author.Tests.{le-leb, lt-leb, not-true, not-false}
 use borrow.Author.Rules.{rules}
 use Rattle.num.proofs.FoldLaws.{up_start}
 use Rattle.pack.specs.declared.TileKey.{TileKey}
-use Rattle.tile.specs.Layout as Layout
 use Rattle.tile.specs.declared.Incident.{Incident}
 use Rattle.predict.specs.declared.Arrival.{Arrival}
 use Rattle.predict.specs.declared.Choice.{Choice}

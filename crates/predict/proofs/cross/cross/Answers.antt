@@ -1,12 +1,11 @@
 -- `predict::cross::cross` meets its contract. The loop's invariant: the ways on so far are the definition's after as many tiles; once no tile
 -- is left, the definition's further steps change nothing.
-use Prim.Native.Nat.{ℕ, zero, suc, ◌+◌, ◌-◌, ◌≤◌}
+use Prim.Native.Nat.{ℕ, zero, suc, ◌+◌, ◌≤◌}
 use mathlib.Core.Path.{◌≡◌, sym, ap, ◌∙◌}
 use mathlib.Core.List.{List}
 use mathlib.Core.Logic.{⊎_elim}
 use native.Mathlib.Omega.{arith}
 use lib.ListN.{get_or}
-use borrow.Author.Rules.{rules}
 use borrow.Author.Tests.{le-ltb}
 use Rattle.num.specs.Fold.{up_to}
 use Rattle.num.proofs.FoldLaws.{up_start, up_turn}
@@ -42,13 +41,13 @@ module _ (rd : Reader (List ℕ)) (a : Arrival) (v : List ℕ) (x : Ways (List �
 
 pub loop-i-init : goal.loop-i-init
 unfolding cross_to
-loop-i-init c = (search rules, rw up_start)
+loop-i-init c = rw up_start
 
 pub returns-then-twins-i : goal.returns-then-twins-i
 unfolding cross
 returns-then-twins-i c =
     let at_loop = c.loop-i in
-    let all = at_loop.invariant.1 ∙ sym (none_left _ _ _ _ _ 8 at_loop.i at_loop.invariant.0 c.if-twins-i.true) in
+    let all = at_loop.invariant ∙ sym (none_left _ _ _ _ _ 8 at_loop.i (omega arith) c.if-twins-i.true) in
     record {
       value = ap crossing all;
       looks_after = ap (λ (w : Ways (List ℕ)). w.carried) all;
@@ -59,14 +58,14 @@ unfolding cross_step
 loop-i-preserved c =
     let step = c.cross_step-x.ensures in
     let at_loop = c.loop-i in
-    (omega (arith, c.loop-i-test.true), joined _ step.value step.looks_after ∙ turn _ _ _ _ _ at_loop.i at_loop.invariant.1)
+    joined _ step.value step.looks_after ∙ turn _ _ _ _ _ at_loop.i at_loop.invariant
 
 pub returns : goal.returns
 unfolding cross
 returns c =
     let at_loop = c.loop-i in
-    let end : at_loop.i ≡ 8 = omega (arith, c.loop-i-test.false, at_loop.invariant.0) in
-    let all = rw end at at_loop.invariant.1 in
+    let end : at_loop.i ≡ 8 = omega (arith, c.loop-i-test.false) in
+    let all = rw end at at_loop.invariant in
     record {
       value = ap crossing all;
       looks_after = ap (λ (w : Ways (List ℕ)). w.carried) all;

@@ -7,9 +7,9 @@ use lib.IntN.{ℤ, pos, ◌+ℤ◌}
 use lib.Signed.{mag, lt_z, le_z}
 use mir.Syntax.{w64}
 use mir.Val.{hbits, to_z, of_z}
+use Rattle.std.specs.Prelude.{None}
 use Rattle.pack.specs.Grid.{within, checked_of}
 use Rattle.pack.specs.declared.Header.{Header}
-use Rattle.pack.specs.declared.Keyed.TheVariants as Keyed
 use Rattle.pack.proofs.Signed.{add, lt-true, lt_no, got}
 use Rattle.predict.proofs.cross.key_of.Goals as goal
 
@@ -33,11 +33,11 @@ module _ (at n : ℕ) (z : ℤ) (h : n < 65536) (e : lt_z (pos 65535) z ≡ true
       not_second (le_z (pos 0) (pos at +ℤ z)) (lt_no (pos at +ℤ z) (pos n) (omega (arith, lt-true (pos 65535) z e, add (pos at) z)))
 
 module _ (h : Header) where
-  row_out : (row col : ℤ) → within row h.rows ≡ false → checked_of h row col ≡ Keyed.Outside
+  row_out : (row col : ℤ) → within row h.rows ≡ false → checked_of h row col ≡ None
   unfolding checked_of
   row_out row col e = rw e
 
-  col_out : (row col : ℤ) → within col h.cols ≡ false → checked_of h row col ≡ Keyed.Outside
+  col_out : (row col : ℤ) → within col h.cols ≡ false → checked_of h row col ≡ None
   unfolding checked_of
   col_out row col e = rw (not_second (within row h.rows) e)
 

@@ -1,11 +1,13 @@
 -- `predict::cross::twin_step` meets its contract: each return by where the tile lies; what its lookup gives and leaves is what the reader
 -- gives and carries.
+use Rattle.refusal.specs.declared.Refusal.{Refusal}
+use Rattle.std.specs.Prelude.{Result}
 use Prim.Native.Nat.{ℕ}
 use mathlib.Core.Path.{◌≡◌, refl, sym, ◌∙◌}
 use mathlib.Core.List.{List}
 use lib.IntN.{pos, ◌+ℤ◌}
+use Rattle.std.specs.Prelude.{Some}
 use Rattle.pack.specs.Grid.{checked_of}
-use Rattle.pack.specs.declared.Keyed.TheVariants as Keyed
 use Rattle.pack.specs.declared.TileKey.{TileKey}
 use Rattle.cache.specs.Direct.{Look, ready, missing, absent, stale}
 use Rattle.cache.specs.declared.Lookup.{Lookup}
@@ -35,8 +37,8 @@ module _ (rd : Reader (List ℕ)) (x : Crossing) (a : Arrival) (v s : List ℕ) 
 
 -- the tile in the grid, and what its lookup gives and leaves
 module _ (x : Crossing) (arena : List ℕ) (a : Arrival) (v s : List ℕ) (twin : Twin) (key : TileKey)
-    (g : Keyed.In key ≡ checked_of a.header (pos a.way.tile.row +ℤ twin.row) (pos a.way.tile.col +ℤ twin.col)) where
-  found_is : {r : Crossing} {answer : Lookup} → r ≡ twin_found x answer arena a v key twin → answer ≡ (look_up s arena a.header.tile key).answer
+    (g : Some key ≡ checked_of a.header (pos a.way.tile.row +ℤ twin.row) (pos a.way.tile.col +ℤ twin.col)) where
+  found_is : {r : Crossing} {answer : Result Lookup Refusal} → r ≡ twin_found x answer arena a v key twin → answer ≡ (look_up s arena a.header.tile key).answer
       → r ≡ crossing (twin_step x arena a v s twin)
   unfolding twin_step
   found_is e f = rw (e, f, ← g) (look_same (in_looks arena a.header.tile) x a v s key twin ((in_looks arena a.header.tile).at s key))
@@ -47,29 +49,21 @@ module _ (x : Crossing) (arena : List ℕ) (a : Arrival) (v s : List ℕ) (twin 
       let rd = in_looks arena a.header.tile in
       rw (e, ← g) (sym (look_carried s arena a.header.tile key) ∙ look_leaves rd x a v s key twin (rd.at s key))
 
-pub returns-in-In : goal.returns-in-In
-returns-in-In c =
+pub returns-in-Some : goal.returns-in-Some
+returns-in-Some c =
     let args = c.args in
-    let key = c.in-In.key in
-    let inside = sym c.in-In.is ∙ c.key_of.ensures in
+    let key = c.in-Some.key in
+    let inside = sym c.in-Some.is ∙ c.key_of.ensures in
     record {
       value = found_is args.x args.arena.now args.a args.visited.now args.looks.now args.twin key inside c.twin_found.ensures
           c.look_up-answer.ensures.value;
       looks_after = left_is args.x args.arena.now args.a args.visited.now args.looks.now args.twin key inside c.look_up-answer.ensures.looks_after;
     }
 
-pub returns-in-Outside : goal.returns-in-Outside
+pub returns-in-None : goal.returns-in-None
 unfolding twin_step
-returns-in-Outside c = let outside = sym c.key_of.ensures ∙ c.in-Outside.is in
+returns-in-None c = let outside = sym c.key_of.ensures ∙ c.in-None.is in
     record {
       value = rw outside;
       looks_after = rw outside;
-    }
-
-pub returns-in-Refused : goal.returns-in-Refused
-unfolding twin_step
-returns-in-Refused c = let refused = sym c.key_of.ensures ∙ c.in-Refused.is in
-    record {
-      value = rw refused;
-      looks_after = rw refused;
     }

@@ -1,6 +1,6 @@
 -- `predict::incoming::back_at` meets its contract. The loop's invariant: what is left to look through has the same answer as the whole. A place
 -- that is there reads the same whatever stands past the last one.
-use Prim.Native.Nat.{ℕ, ◌-◌}
+use Prim.Native.Nat.{ℕ}
 use mathlib.Core.Path.{◌≡◌}
 use mathlib.Core.List.{List, []}
 use lib.Ieee.{Float}

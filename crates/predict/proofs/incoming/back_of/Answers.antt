@@ -10,27 +10,27 @@ use Rattle.predict.proofs.incoming.back_of.Goals as goal
 pub overflow_add-i : goal.overflow_add-i
 unfolding back_at
 overflow_add-i c =
-    omega (arith, highest_below _ (c.args.len - 1) _ (sym c.back_at.ensures ∙ c.in-At.is))
+    omega (arith, highest_below _ (c.args.len - 1) _ (sym c.back_at.ensures ∙ c.in-Some.is))
 
-pub overflow_add-i-in-At : goal.overflow_add-i-in-At
+pub overflow_add-i-in-Some : goal.overflow_add-i-in-Some
 unfolding back_at
-overflow_add-i-in-At c =
-    omega (arith, highest_below _ (c.args.len - 1) _ (sym c.back_at.ensures ∙ c.in-At.is))
+overflow_add-i-in-Some c =
+    omega (arith, highest_below _ (c.args.len - 1) _ (sym c.back_at.ensures ∙ c.in-Some.is))
 
-pub returns-in-Nothing : goal.returns-in-Nothing
+pub returns-in-None : goal.returns-in-None
 unfolding back_of back_at
-returns-in-Nothing c =
-    rw (sym c.back_at.ensures ∙ c.in-Nothing.is) c.point_at.ensures
+returns-in-None c =
+    rw (sym c.back_at.ensures ∙ c.in-None.is) c.point_at.ensures
 
-pub returns-in-At : goal.returns-in-At
+pub returns-in-Some : goal.returns-in-Some
 unfolding back_of back_at
-returns-in-At c =
+returns-in-Some c =
     rw (
-      sym c.back_at.ensures ∙ c.in-At.is,
+      sym c.back_at.ensures ∙ c.in-Some.is,
       c.between.ensures,
       c.back_part.ensures,
-      c.distance_at-in-At.ensures,
+      c.distance_at-in-Some.ensures,
       c.distance_at.ensures,
-      c.point_at-in-At-2.ensures,
-      c.point_at-in-At.ensures,
+      c.point_at-in-Some-2.ensures,
+      c.point_at-in-Some.ensures,
     )

@@ -1,6 +1,5 @@
 -- `predict::incoming::shift_distances` meets its contract. The loop's invariant: the first i places hold what stood one place on, and the others what they
 -- held.
-use Prim.Native.Nat.{◌-◌}
 use mathlib.Core.Path.{◌≡◌}
 use native.Mathlib.Omega.{arith}
 use Rattle.predict.specs.Incoming.{shifted}
@@ -12,11 +11,11 @@ loop-i-preserved c =
     let at_loop = c.loop-i in
     let long = c.sixteen_distances.ensures in
     let v = c.args.v.now in
-    (omega arith, rw at_loop.invariant.1 (shift_turn v at_loop.i _ (omega (arith, long, c.loop-i-test.true))))
+    rw at_loop.invariant (shift_turn v at_loop.i _ (omega (arith, long, c.loop-i-test.true)))
 
 pub returns : goal.returns
 unfolding shifted
 returns c =
     let at_loop = c.loop-i in
     let end : at_loop.i ≡ 15 = omega arith in
-    rw (at_loop.invariant.1, end) (shift_end c.args.v.now)
+    rw (at_loop.invariant, end) (shift_end c.args.v.now)

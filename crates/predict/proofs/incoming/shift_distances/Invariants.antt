@@ -1,12 +1,8 @@
 -- `predict::incoming::shift_distances` meets its contract. The loop's invariant: the first i places hold what stood one place on, and the others what they
 -- held.
-use Prim.Native.Nat.{◌-◌, ◌≤◌}
 use mathlib.Core.Path.{◌≡◌}
 use Rattle.predict.proofs.Shift.{moved}
 use Rattle.predict.proofs.incoming.shift_distances.Given as goal
 
 abbrev pub invariant-loop-i : goal.invariant-loop-i
-invariant-loop-i l = (l.i ≤ 15) × (l.v ≡ moved l.i l.initial.v)
-
-abbrev pub decreases-loop-i : goal.decreases-loop-i
-decreases-loop-i l = 15 - l.i
+invariant-loop-i l = l.v ≡ moved l.i l.initial.v

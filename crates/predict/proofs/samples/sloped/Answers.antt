@@ -1,5 +1,4 @@
 -- `predict::samples::sloped` meets its contract. The loop's invariant: what is written from here on ends as what is written from the start.
-use Prim.Native.Nat.{◌-◌}
 use mathlib.Core.Path.{sym, ap, ◌∙◌}
 use native.Mathlib.Omega.{arith}
 use lib.ListN.{length-set}

@@ -5,4 +5,4 @@ use Rattle.profile_text.proofs.drive.fix_line.Goals as goal
 
 pub returns : goal.returns
 unfolding fix_line
-returns c = record { value = (whole (append_more c.put_field-a.ensures.appended (append_more c.put_status-b.ensures.appended (append_more c.put_match-c.ensures.appended c.put_road.ensures)))).0; out_after = (whole (append_more c.put_field-a.ensures.appended (append_more c.put_status-b.ensures.appended (append_more c.put_match-c.ensures.appended c.put_road.ensures)))).1 }
+returns c = let both = whole (append_more c.put_field-a.ensures.appended (append_more c.put_status-b.ensures.appended (append_more c.put_match-c.ensures.appended c.put_road.ensures))) in record { value = both.0; out_after = both.1 }

@@ -24,4 +24,4 @@ pub overflow_sub-width : goal.overflow_sub-width
 overflow_sub-width c = omega (arith, c.width.ensures, length-decimal 4 (c.args.i * 20) (omega arith))
 
 pub returns : goal.returns
-returns c = record { appended = (right c.requires.0 c.width.ensures c.put_many-next.ensures c.put_number.ensures).0; value = (right c.requires.0 c.width.ensures c.put_many-next.ensures c.put_number.ensures).1 }
+returns c = let both = right c.requires.0 c.width.ensures c.put_many-next.ensures c.put_number.ensures in record { appended = both.0; value = both.1 }

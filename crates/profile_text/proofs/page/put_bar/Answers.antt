@@ -19,4 +19,4 @@ module _ {old mid far new : List ℕ} {at r t s n : ℕ} (l : n ≤ 25) (h : App
   filled = (text, omega (arith, text.ends, length-bar n l))
 
 pub returns : goal.returns
-returns c = record { appended = (filled c.requires.0 c.put_many-a.ensures c.put_many-b.ensures c.put.ensures).0; value = (filled c.requires.0 c.put_many-a.ensures c.put_many-b.ensures c.put.ensures).1 }
+returns c = let both = filled c.requires.0 c.put_many-a.ensures c.put_many-b.ensures c.put.ensures in record { appended = both.0; value = both.1 }

@@ -6,10 +6,10 @@ use native.Mathlib.Omega.{arith}
 use lib.ListN.{length, take, drop, get_or, length-drop}
 use lib.Seq.{get_or-drop}
 use lib.IntN.{ℤ, pos}
-use lib.Signed.{mag}
 use mir.Facts.{to_z-of_z}
 use mir.Syntax.{w16}
-use mir.Val.{to_z, of_z}
+use mir.Val.{SFits}
+use Rattle.std.proofs.Common.{rules}
 use Rattle.profile_text.specs.Codes.{codes}
 use Rattle.profile_text.specs.Appended.{Appended}
 use Rattle.profile_text.specs.Text.{lines_by}
@@ -18,9 +18,6 @@ use Rattle.profile_text.proofs.Laws.{append_none, append_more, lines_more}
 use Rattle.profile_text.proofs.Order.{lowest_each, highest_each}
 use Rattle.profile_text.proofs.page.put_page.Goals as goal
 use Rattle.profile_text.proofs.page.put_page.Invariants.{Lined, row}
-
-read : {z : ℤ} → mag z < 32768 → to_z w16 (of_z w16 z) ≡ z
-read h = to_z-of_z {w = w16} (record { sfits = h })
 
 start : (zs : List ℤ) (from to : ℕ) (old : List ℕ) (at : ℕ) → from ≤ to → Lined zs from to old at old at from
 unfolding lines_by
@@ -54,17 +51,20 @@ put_page_line-at-requires c =
     let l = c.loop-i in
     let zs = c.args.samples.now in
     let h = c.range-r in
+    let z : SFits w16 (get_or zs l.i (pos 0)) = search rules in
     let there : l.i < length zs = omega (arith, c.requires) in
     record {
-      i_bound = omega (arith, l.invariant.ends, l.invariant.within, c.put_bytes-at.ensures.ends, c.requires);
-      z_value = rw (read c.struct_told-1.given.0.1, read c.put_page_line-arg-in-loop-i-1.given, read c.struct_told-in-loop-i-1.given.1.0.1, h.ensures.low_value, h.ensures.high_value) (lowest_each zs l.i there, highest_each zs l.i there);
+      sample_number = omega arith;
+      line_fits = omega (arith, l.invariant.ends, l.invariant.within, c.put_bytes-at.ensures.ends, c.requires);
+      height_between = rw (to_z-of_z z, h.ensures.lowest, h.ensures.highest) (lowest_each zs l.i there, highest_each zs l.i there);
     }
 
 pub loop-i-preserved : goal.loop-i-preserved
 loop-i-preserved c =
     let l = c.loop-i in
     let h = c.range-r in
-    let line = rw (read c.struct_told-1.given.0.1, read c.struct_told-in-loop-i-1.given.1.0.1, read c.put_page_line-arg-in-loop-i-1.given, h.ensures.low_value, h.ensures.high_value) at c.put_page_line-at.ensures.appended in
+    let z : SFits w16 (get_or c.args.samples.now l.i (pos 0)) = search rules in
+    let line = rw (to_z-of_z z, h.ensures.lowest, h.ensures.highest) at c.put_page_line-at.ensures.appended in
     next _ _ _ _ _ _ _ _ _ _ c.loop-i-test.true c.requires.1.1.0 l.invariant line c.put_page_line-at.ensures.value
 
 pub returns : goal.returns

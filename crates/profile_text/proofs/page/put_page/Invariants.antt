@@ -20,6 +20,3 @@ pub record Lined (zs : List ℤ) (from to : ℕ) (old : List ℕ) (first : ℕ) 
 
 abbrev pub invariant-loop-i : goal.invariant-loop-i
 invariant-loop-i l = Lined l.samples l.from l.to l.initial.out l.initial.at l.out l.at l.i
-
-abbrev pub decreases-loop-i : goal.decreases-loop-i
-decreases-loop-i l = l.to - l.i

@@ -9,13 +9,13 @@ use Rattle.profile_text.proofs.page.put_page_line.Goals as goal
 pub put_bar-requires : goal.put_bar-requires
 put_bar-requires c =
     let a = c.args in
-    let n = rw (to_z-of_z c.ranges.low, to_z-of_z c.ranges.high, to_z-of_z c.ranges.z) at c.bar_length.ensures in
-    omega (arith, n, bar_most a.low a.high a.z c.requires.z_value.0 c.requires.z_value.1, c.put_rise-b.ensures.value, c.put_ahead-a.ensures.value)
+    let n = rw (to_z-of_z c.ranges.z) at c.bar_length.ensures in
+    omega (arith, n, bar_most a.r.low a.r.high a.z c.requires.height_between.0 c.requires.height_between.1, c.put_rise-b.ensures.value, c.put_ahead-a.ensures.value)
 
 pub returns : goal.returns
 unfolding page_line
 returns c =
-    let n = rw (to_z-of_z c.ranges.low, to_z-of_z c.ranges.high, to_z-of_z c.ranges.z) at c.bar_length.ensures in
+    let n = rw (to_z-of_z c.ranges.z) at c.bar_length.ensures in
     let metres = c.put_ahead-a.ensures in
     let rise = c.put_rise-b.ensures in
     record {

@@ -33,4 +33,4 @@ returns c =
     let f = c.ranges.z in
     let n = rw (to_z-of_z f) at c.size-n.ensures.0 in
     let s = rw (to_z-of_z f) at c.sign.ensures in
-    record { appended = (right c.args.z f.sfits n s c.width.ensures c.put_many-a.ensures c.put-b.ensures c.put_tenths.ensures).0; value = (right c.args.z f.sfits n s c.width.ensures c.put_many-a.ensures c.put-b.ensures c.put_tenths.ensures).1 }
+    let both = right c.args.z f.sfits n s c.width.ensures c.put_many-a.ensures c.put-b.ensures c.put_tenths.ensures in record { appended = both.0; value = both.1 }

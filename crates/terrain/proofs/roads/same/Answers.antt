@@ -1,5 +1,4 @@
 -- `roads::same` meets its contract. The loop's invariant: the words that are left decide.
-use Prim.Native.Nat.{◌-◌}
 use mathlib.Core.Path.{sym, ◌∙◌}
 use native.Mathlib.Omega.{arith}
 use Rattle.words.proofs.MatcherLaws.{same_length}
@@ -11,12 +10,11 @@ returns-then-a-b c = sym (same_length _ _ c.if-a-b.true)
 
 pub returns-then-a-i : goal.returns-then-a-i
 returns-then-a-i c =
-    sym (same_miss c.args.a.now c.args.b.now c.loop-i.i c.loop-i-test.true (omega (arith, c.loop-i-test.true, c.if-a-b.false)) c.if-a-i.true) ∙ c.loop-i.invariant.1
+    sym (same_miss c.args.a.now c.args.b.now c.loop-i.i c.loop-i-test.true (omega (arith, c.loop-i-test.true, c.if-a-b.false)) c.if-a-i.true) ∙ c.loop-i.invariant
 
 pub loop-i-preserved : goal.loop-i-preserved
-loop-i-preserved c =
-    (omega (arith, c.loop-i-test.true), (same_on c.args.a.now c.args.b.now c.loop-i.i c.loop-i-test.true (omega (arith, c.loop-i-test.true, c.if-a-b.false)) c.if-a-i.false) ∙ c.loop-i.invariant.1)
+loop-i-preserved c = (same_on c.args.a.now c.args.b.now c.loop-i.i c.loop-i-test.true (omega (arith, c.loop-i-test.true, c.if-a-b.false)) c.if-a-i.false) ∙ c.loop-i.invariant
 
 pub returns : goal.returns
 returns c =
-    sym (same_end c.args.a.now c.args.b.now c.loop-i.i (omega (arith, c.loop-i-test.false, c.loop-i.invariant.0)) (omega (arith, c.loop-i-test.false, c.loop-i.invariant.0, c.if-a-b.false))) ∙ c.loop-i.invariant.1
+    sym (same_end c.args.a.now c.args.b.now c.loop-i.i (omega (arith, c.loop-i-test.false)) (omega (arith, c.loop-i-test.false, c.if-a-b.false))) ∙ c.loop-i.invariant

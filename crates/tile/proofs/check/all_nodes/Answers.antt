@@ -16,7 +16,7 @@ use Rattle.tile.proofs.Slices.{node_x, node_y, node_slice}
 use Rattle.tile.proofs.check.all_nodes.Goals as goal
 
 pub loop-index-init : goal.loop-index-init
-loop-index-init c = (omega arith, (all_none _, (all_none _, follows_first (node_of c.args.bytes.now))))
+loop-index-init c = (all_none _, (all_none _, follows_first (node_of c.args.bytes.now)))
 
 pub returns-then-not-node_ok : goal.returns-then-not-node_ok
 returns-then-not-node_ok c =
@@ -37,7 +37,7 @@ returns-then-place-before c =
     let eight : ℕ = node_start index + 8 - node_start index in
     let place_is = ap₂ (λ (y x : ℕ). y * 65536 + x) (c.u16_at-y.ensures ∙ node_y bytes eight index (omega arith)) (c.u16_at-x.ensures ∙ node_x bytes eight index (omega arith)) in
     sym (and_not (all_below (node_ok bytes size) (nodes_of bytes)) (nodes_ordered bytes) (all_miss (follows (node_of bytes)) index (nodes_of bytes) (omega arith)
-    (sym inv.1.1.1 ∙ rw (← place_is, lt-ltb _ _ c.if-place-before.true))))
+    (sym inv.1.1 ∙ rw (← place_is, lt-ltb _ _ c.if-place-before.true))))
 
 pub loop-index-preserved : goal.loop-index-preserved
 unfolding place_at
@@ -51,12 +51,9 @@ loop-index-preserved c =
     let place_is = ap₂ (λ (y x : ℕ). y * 65536 + x) (c.u16_at-y.ensures ∙ node_y bytes eight index (omega arith)) (c.u16_at-x.ensures ∙ node_x bytes eight index (omega arith)) in
     let good : node_ok bytes size index ≡ true =
     sym (node_slice bytes eight size _ index (omega arith) (ap (λ (k : ℕ). k * 2) c.u16_at.ensures)) ∙ sym c.node_ok.ensures ∙ not-false _ c.if-not-node_ok.false-raw in (
-      omega arith,
+      all_more _ index inv.0 good,
       (
-        all_more _ index inv.1.0 good,
-        (
-          all_more (follows (node_of bytes)) index inv.1.1.0 (sym inv.1.1.1 ∙ rw (← place_is, le-ltb _ _ c.if-place-before.false)),
-          rw (place_is) (follows_next (node_of bytes) index (x_below (index + 1)) (x_below index)),
-        ),
+        all_more (follows (node_of bytes)) index inv.1.0 (sym inv.1.1 ∙ rw (← place_is, le-ltb _ _ c.if-place-before.false)),
+        rw (place_is) (follows_next (node_of bytes) index (x_below (index + 1)) (x_below index)),
       ),
     )

@@ -1,6 +1,5 @@
 -- `tile::check::all_nodes` meets its contract. The loop's invariant: every node passed is good and follows the one before it, and whether the next one
 -- does is what comparing its place, as one number, with that of the one before tells.
-use Prim.Native.Nat.{◌-◌, ◌≤◌}
 use mathlib.Core.Bool.{true, not}
 use mathlib.Core.Path.{◌≡◌}
 use lib.Dec.{ltb}
@@ -12,10 +11,6 @@ use Rattle.tile.proofs.check.all_nodes.Given as goal
 
 abbrev pub invariant-loop-index : goal.invariant-loop-index
 invariant-loop-index l =
-    (l.index ≤ l.nodes)
-    × ((all_below (node_ok l.bytes l.size) l.index ≡ true)
+    (all_below (node_ok l.bytes l.size) l.index ≡ true)
     × ((in_order (node_of l.bytes) l.index ≡ true)
-    × (not (ltb (place_number (node_of l.bytes l.index)) l.before) ≡ follows (node_of l.bytes) l.index)))
-
-abbrev pub decreases-loop-index : goal.decreases-loop-index
-decreases-loop-index l = l.nodes - l.index
+    × (not (ltb (place_number (node_of l.bytes l.index)) l.before) ≡ follows (node_of l.bytes) l.index))

@@ -3,7 +3,6 @@ use Prim.Native.Nat.{ℕ, ◌+◌, ◌-◌, ◌*◌}
 use mathlib.Core.List.{List}
 use mathlib.Core.Path.{sym}
 use native.Mathlib.Omega.{arith}
-use borrow.Author.Rules.{rules}
 use borrow.Author.Tests.{lt-ltb, le-ltb}
 use Rattle.pack.proofs.Laws.{u16_slice}
 use Rattle.tile.specs.Parse.{entry_ok}
@@ -12,7 +11,7 @@ use Rattle.tile.proofs.Laws.{all_none, all_more, all_miss}
 use Rattle.tile.proofs.check.entries_good.Goals as goal
 
 pub loop-entry-init : goal.loop-entry-init
-loop-entry-init c = (search rules, all_none _)
+loop-entry-init c = all_none _
 
 pub returns-then-edges-u16_at : goal.returns-then-edges-u16_at
 unfolding entry_ok
@@ -35,14 +34,12 @@ unfolding entry_ok
 loop-entry-preserved c =
     let bytes : List ℕ = c.args.bytes.now in
     let entry : ℕ = c.loop-entry.entry in
-    let at : ℕ = 32 + c.u16_at-nodes.result * 8 + entry * 2 in (
-      omega arith,
-      all_more _ entry c.loop-entry.invariant.1
-          (rw (
-            ← c.u16_at-nodes.ensures,
-            ← c.u16_at-edges.ensures,
-            ← u16_slice bytes at (at + 2 - at) 0 at (omega arith) (omega arith),
-            ← c.u16_at.ensures,
-          )
-          (lt-ltb _ _ c.if-edges-u16_at.false)),
+    let at : ℕ = 32 + c.u16_at-nodes.result * 8 + entry * 2 in
+    all_more _ entry c.loop-entry.invariant
+    (rw (
+      ← c.u16_at-nodes.ensures,
+      ← c.u16_at-edges.ensures,
+      ← u16_slice bytes at (at + 2 - at) 0 at (omega arith) (omega arith),
+      ← c.u16_at.ensures,
     )
+    (lt-ltb _ _ c.if-edges-u16_at.false))

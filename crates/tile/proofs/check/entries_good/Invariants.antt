@@ -1,12 +1,8 @@
 -- `tile::check::entries_good` meets its contract. The loop's invariant: every entry passed names an edge.
-use Prim.Native.Nat.{◌-◌, ◌≤◌}
 use mathlib.Core.Bool.{true}
 use mathlib.Core.Path.{◌≡◌}
 use Rattle.tile.specs.Parse.{entry_ok, all_below}
 use Rattle.tile.proofs.check.entries_good.Given as goal
 
 abbrev pub invariant-loop-entry : goal.invariant-loop-entry
-invariant-loop-entry l = (l.entry ≤ l.last) × (all_below (entry_ok l.bytes) l.entry ≡ true)
-
-abbrev pub decreases-loop-entry : goal.decreases-loop-entry
-decreases-loop-entry l = l.last - l.entry
+invariant-loop-entry l = all_below (entry_ok l.bytes) l.entry ≡ true

@@ -1,5 +1,4 @@
 -- `tile::read::node_at` meets its contract. The loop's invariant: the search from here finds what the whole search finds.
-use Prim.Native.Nat.{◌-◌}
 use mathlib.Core.Path.{sym, ◌∙◌}
 use native.Mathlib.Omega.{arith}
 use Rattle.tile.specs.Readers as Readers

@@ -7,15 +7,15 @@ use Rattle.words.proofs.CameLaws.{read_there, read_past}
 use Rattle.words.proofs.deliver.answered.Goals as goal
 
 pub overflow_add-at : goal.overflow_add-at
-overflow_add-at c = omega (arith, read_at _ _ _ (sym c.read.ensures ∙ c.in-At.is))
+overflow_add-at c = omega (arith, read_at _ _ _ (sym c.read.ensures ∙ c.in-Ok.is))
 
 pub slice_bounds-came-end : goal.slice_bounds-came-end
-slice_bounds-came-end c = omega (arith, read_at _ _ _ (sym c.read.ensures ∙ c.in-At.is))
+slice_bounds-came-end c = omega (arith, read_at _ _ _ (sym c.read.ensures ∙ c.in-Ok.is))
 
-pub returns-in-At : goal.returns-in-At
-returns-in-At c =
+pub returns-in-Ok : goal.returns-in-Ok
+returns-in-Ok c =
     let args = c.args in
-    let told = sym c.read.ensures ∙ c.in-At.is in
+    let told = sym c.read.ensures ∙ c.in-Ok.is in
     let there = read_there (opened_as (engine_of args.ws.now) args.pending) args.arena.now args.offset args.len args.pack.now c.requires.arena_value told in
     let came = c.came.ensures in
     record {
@@ -24,12 +24,12 @@ returns-in-At c =
       arena_after = rw there came.arena_after;
     }
 
-pub returns-in-Refused : goal.returns-in-Refused
-returns-in-Refused c =
+pub returns-in-Err : goal.returns-in-Err
+returns-in-Err c =
     let args = c.args in
-    let told = sym c.read.ensures ∙ c.in-Refused.is in
+    let told = sym c.read.ensures ∙ c.in-Err.is in
     let past = read_past (opened_as (engine_of args.ws.now) args.pending) args.arena.now args.offset args.len args.pack.now c.requires.arena_value told in
-    let came = c.came-in-Refused.ensures in
+    let came = c.came-in-Err.ensures in
     record {
       value = rw past came.value;
       ws_after = rw past came.ws_after;

@@ -1,5 +1,5 @@
 -- `deliver::entry_begins` meets its contract: each return by the tests before it.
-use Rattle.std.proofs.Common.{sym, ◌∙◌, eq-eqb, ne_eqb}
+use Rattle.std.proofs.Common.{sym, ap, Ok, ◌∙◌, eq-eqb, ne_eqb}
 use Rattle.cache.proofs.StepLaws.{locate_read}
 use Rattle.words.proofs.BeginLaws.{begins_unread, begins_short, begins_busy, begins_free, begins_there}
 use Rattle.words.proofs.deliver.entry_begins.Goals as goal
@@ -13,14 +13,14 @@ returns-then-bytes-ne8 c = begins_short c.args.ws.now c.args.failure c.args.byte
 pub returns-then-ws-ne0 : goal.returns-then-ws-ne0
 returns-then-ws-ne0 c = begins_busy c.args.ws.now c.args.failure c.args.bytes.now c.requires c.if-ws-ne0.true
 
-pub returns-in-Nothing : goal.returns-in-Nothing
-returns-in-Nothing c = begins_free c.args.ws.now c.args.failure c.args.bytes.now (eq-eqb _ _ c.if-failure-ne0.false) (eq-eqb _ _ c.if-bytes-ne8.false) c.if-ws-ne0.false (sym c.in-Nothing.is ∙ c.maybe_key-need.ensures)
+pub returns-in-None : goal.returns-in-None
+returns-in-None c = begins_free c.args.ws.now c.args.failure c.args.bytes.now (eq-eqb _ _ c.if-failure-ne0.false) (eq-eqb _ _ c.if-bytes-ne8.false) c.if-ws-ne0.false (sym c.in-None.is ∙ c.maybe_key-need.ensures)
 
-pub returns-in-NoTile : goal.returns-in-NoTile
-returns-in-NoTile c = begins_there c.args.ws.now c.args.failure c.args.bytes.now (eq-eqb _ _ c.if-failure-ne0.false) (eq-eqb _ _ c.if-bytes-ne8.false) c.if-ws-ne0.false c.maybe_key-need.ensures c.in-Key.is c.header.ensures (sym c.in-NoTile.is ∙ locate_read c.header.result c.args.bytes.now c.entry_bytes-entry.ensures c.locate_of.ensures)
+pub returns-in-Ok-None : goal.returns-in-Ok-None
+returns-in-Ok-None c = begins_there c.args.ws.now c.args.failure c.args.bytes.now (eq-eqb _ _ c.if-failure-ne0.false) (eq-eqb _ _ c.if-bytes-ne8.false) c.if-ws-ne0.false c.maybe_key-need.ensures c.in-Some.is c.header.ensures (sym (c.in-Ok-None.is ∙ ap Ok c.in-Ok-None.field-0-is) ∙ locate_read c.header.result c.args.bytes.now c.entry_bytes-entry.ensures c.locate_of.ensures)
 
-pub returns-in-Refused : goal.returns-in-Refused
-returns-in-Refused c = begins_there c.args.ws.now c.args.failure c.args.bytes.now (eq-eqb _ _ c.if-failure-ne0.false) (eq-eqb _ _ c.if-bytes-ne8.false) c.if-ws-ne0.false c.maybe_key-need.ensures c.in-Key.is c.header.ensures (sym c.in-Refused.is ∙ locate_read c.header.result c.args.bytes.now c.entry_bytes-entry.ensures c.locate_of.ensures)
+pub returns-in-Err : goal.returns-in-Err
+returns-in-Err c = begins_there c.args.ws.now c.args.failure c.args.bytes.now (eq-eqb _ _ c.if-failure-ne0.false) (eq-eqb _ _ c.if-bytes-ne8.false) c.if-ws-ne0.false c.maybe_key-need.ensures c.in-Some.is c.header.ensures (sym c.in-Err.is ∙ locate_read c.header.result c.args.bytes.now c.entry_bytes-entry.ensures c.locate_of.ensures)
 
-pub returns-in-Tile : goal.returns-in-Tile
-returns-in-Tile c = c.begins_at.ensures ∙ begins_there c.args.ws.now c.args.failure c.args.bytes.now (eq-eqb _ _ c.if-failure-ne0.false) (eq-eqb _ _ c.if-bytes-ne8.false) c.if-ws-ne0.false c.maybe_key-need.ensures c.in-Key.is c.header.ensures (sym c.in-Tile.is ∙ locate_read c.header.result c.args.bytes.now c.entry_bytes-entry.ensures c.locate_of.ensures)
+pub returns-in-Ok-Some : goal.returns-in-Ok-Some
+returns-in-Ok-Some c = c.begins_at.ensures ∙ begins_there c.args.ws.now c.args.failure c.args.bytes.now (eq-eqb _ _ c.if-failure-ne0.false) (eq-eqb _ _ c.if-bytes-ne8.false) c.if-ws-ne0.false c.maybe_key-need.ensures c.in-Some.is c.header.ensures (sym (c.in-Ok-Some.is ∙ ap Ok c.in-Ok-Some.field-0-is) ∙ locate_read c.header.result c.args.bytes.now c.entry_bytes-entry.ensures c.locate_of.ensures)

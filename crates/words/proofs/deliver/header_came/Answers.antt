@@ -1,5 +1,5 @@
 -- `deliver::header_came` meets its contract: each return by whether the read failed, and whether the header passes.
-use Rattle.std.proofs.Common.{eq-eqb, ne_eqb}
+use Rattle.std.proofs.Common.{sym, ◌∙◌, eq-eqb, ne_eqb}
 use Rattle.engine.specs.Deliver.{header_came}
 use Rattle.words.proofs.deliver.header_came.Goals as goal
 
@@ -12,24 +12,24 @@ returns-then-failure-ne0 c =
       ws_after = rw failed c.header_failed.ensures.ws_after;
     }
 
-pub returns-in-Accepted : goal.returns-in-Accepted
+pub returns-in-Ok : goal.returns-in-Ok
 unfolding header_came
-returns-in-Accepted c =
-    let parsed = rw c.sector_of-sector.ensures at c.parse-parsed.ensures in
-    let answer = rw parsed at c.in-Accepted.is in
+returns-in-Ok c =
+    let parsed = rw c.sector_of-sector.ensures at c.parse.ensures in
+    let answer = sym parsed ∙ c.in-Ok.is in
     let came = eq-eqb _ _ c.if-failure-ne0.false in
     record {
       value = rw (came, answer);
-      ws_after = rw (c.put_read.ensures, parsed, came, answer);
+      ws_after = rw (c.put_read.ensures, came, answer);
     }
 
-pub returns-in-Refused : goal.returns-in-Refused
+pub returns-in-Err : goal.returns-in-Err
 unfolding header_came
-returns-in-Refused c =
-    let parsed = rw c.sector_of-sector.ensures at c.parse-parsed.ensures in
-    let answer = rw parsed at c.in-Refused.is in
+returns-in-Err c =
+    let parsed = rw c.sector_of-sector.ensures at c.parse.ensures in
+    let answer = sym parsed ∙ c.in-Err.is in
     let came = eq-eqb _ _ c.if-failure-ne0.false in
     record {
-      value = rw (came, answer) c.header_failed-in-Refused.ensures.value;
-      ws_after = rw (came, answer) c.header_failed-in-Refused.ensures.ws_after;
+      value = rw (came, answer, ← c.number.ensures) c.header_failed-in-Err.ensures.value;
+      ws_after = rw (came, answer, ← c.number.ensures) c.header_failed-in-Err.ensures.ws_after;
     }

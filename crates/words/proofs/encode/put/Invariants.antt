@@ -1,10 +1,7 @@
 -- `encode::put` meets its contract. The loop's invariant: as many words as turns are copied.
 use lib.Seq.{paste}
-use Rattle.std.proofs.Common.{◌≡◌, ◌-◌, ◌≤◌, length}
+use Rattle.std.proofs.Common.{◌≡◌, length}
 use Rattle.words.proofs.encode.put.Given as goal
 
 abbrev pub invariant-loop-i : goal.invariant-loop-i
-invariant-loop-i l = (l.i ≤ length l.piece) × ((length l.out ≡ length l.initial.out) × (l.out ≡ paste l.initial.out l.at l.piece l.i))
-
-abbrev pub decreases-loop-i : goal.decreases-loop-i
-decreases-loop-i l = length l.piece - l.i
+invariant-loop-i l = (length l.out ≡ length l.initial.out) × (l.out ≡ paste l.initial.out l.at l.piece l.i)

@@ -3,11 +3,8 @@ use Rattle.cache.specs.Runs.{empty_slot}
 use Rattle.words.specs.Words.{slot_words}
 use Rattle.words.specs.Put.{put}
 use Rattle.num.specs.Fold.{up_to}
-use Rattle.std.proofs.Common.{◌≡◌, ℕ, ◌+◌, ◌-◌, ◌*◌, ◌≤◌, List, length, get_or}
+use Rattle.std.proofs.Common.{◌≡◌, ℕ, ◌+◌, ◌*◌, List, length, get_or}
 use Rattle.words.proofs.encode.put_slots.Given as goal
 
 abbrev pub invariant-loop-i : goal.invariant-loop-i
-invariant-loop-i l = (l.i ≤ 96) × ((length l.out ≡ 1150) × (l.out ≡ up_to (λ (o : List ℕ) (j : ℕ). put (15 + 3 * j) (slot_words (get_or l.g.slots j empty_slot)) o) l.initial.out l.i))
-
-abbrev pub decreases-loop-i : goal.decreases-loop-i
-decreases-loop-i l = 96 - l.i
+invariant-loop-i l = (length l.out ≡ 1150) × (l.out ≡ up_to (λ (o : List ℕ) (j : ℕ). put (15 + 3 * j) (slot_words (get_or l.g.slots j empty_slot)) o) l.initial.out l.i)

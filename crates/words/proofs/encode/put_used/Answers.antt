@@ -2,19 +2,19 @@
 use Rattle.words.specs.Words.{used_words}
 use Rattle.words.proofs.PutLaws.{put-spread}
 use Rattle.num.proofs.FoldLaws.{up_start, up_turn}
-use Rattle.std.proofs.Common.{◌≡◌, ℕ, ◌-◌, sym, refl, arith, rules}
+use Rattle.std.proofs.Common.{◌≡◌, ℕ, sym, refl, arith}
 use Rattle.words.proofs.encode.put_used.Goals as goal
 
 pub loop-i-init : goal.loop-i-init
-loop-i-init c = (search rules, (c.requires, sym (up_start _ _)))
+loop-i-init c = (c.requires, sym (up_start _ _))
 
 pub loop-i-preserved : goal.loop-i-preserved
-loop-i-preserved c = (search rules, (c.put.ensures.out_len, rw (c.put.ensures.out_after, c.loop-i.invariant.1.1, up_turn)))
+loop-i-preserved c = (c.put.ensures.out_len, rw (c.put.ensures.out_after, c.loop-i.invariant.1, up_turn))
 
 pub returns : goal.returns
 unfolding used_words
 returns c = let end : c.loop-i.i ≡ 96 = omega arith in
     record {
-      out_after = rw (c.loop-i.invariant.1.1, end) (put-spread _ 1 (λ (j : ℕ). refl) 303 _ (λ (j : ℕ). omega arith) 96 c.args.out.now (omega (arith, c.requires)));
-      out_len = c.loop-i.invariant.1.0;
+      out_after = rw (c.loop-i.invariant.1, end) (put-spread _ 1 (λ (j : ℕ). refl) 303 _ (λ (j : ℕ). omega arith) 96 c.args.out.now (omega (arith, c.requires)));
+      out_len = c.loop-i.invariant.0;
     }

@@ -1,10 +1,7 @@
 -- `kept::heights` meets its contract. The loop's invariant: so far each is held or one is not.
 use Rattle.words.specs.Held.{heights_held}
-use Rattle.std.proofs.Common.{◌≡◌, ◌-◌, ◌≤◌}
+use Rattle.std.proofs.Common.{◌≡◌}
 use Rattle.words.proofs.kept.heights.Given as goal
 
 abbrev pub invariant-loop-i : goal.invariant-loop-i
-invariant-loop-i l = (l.i ≤ l.n) × (l.ok ≡ heights_held l.ws l.at l.i)
-
-abbrev pub decreases-loop-i : goal.decreases-loop-i
-decreases-loop-i l = l.n - l.i
+invariant-loop-i l = l.ok ≡ heights_held l.ws l.at l.i

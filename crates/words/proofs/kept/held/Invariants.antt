@@ -1,10 +1,7 @@
 -- `kept::held` meets its contract. The loop's invariant: what was compared so far and what is left decide together.
 use Rattle.words.specs.Held.{held_at}
-use Rattle.std.proofs.Common.{◌≡◌, ◌+◌, ◌-◌, ◌≤◌, ◌&&◌, length, drop}
+use Rattle.std.proofs.Common.{◌≡◌, ◌+◌, ◌&&◌, drop}
 use Rattle.words.proofs.kept.held.Given as goal
 
 abbrev pub invariant-loop-i : goal.invariant-loop-i
-invariant-loop-i l = (l.i ≤ length l.piece) × ((l.ok && held_at (l.at + l.i) (drop l.i l.piece) l.ws) ≡ held_at l.at l.piece l.ws)
-
-abbrev pub decreases-loop-i : goal.decreases-loop-i
-decreases-loop-i l = length l.piece - l.i
+invariant-loop-i l = (l.ok && held_at (l.at + l.i) (drop l.i l.piece) l.ws) ≡ held_at l.at l.piece l.ws

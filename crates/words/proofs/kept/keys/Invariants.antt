@@ -1,10 +1,7 @@
 -- `kept::keys` meets its contract. The loop's invariant: so far each is held or one is not.
 use Rattle.words.specs.Held.{keys_held}
-use Rattle.std.proofs.Common.{◌≡◌, ◌-◌, ◌≤◌}
+use Rattle.std.proofs.Common.{◌≡◌}
 use Rattle.words.proofs.kept.keys.Given as goal
 
 abbrev pub invariant-loop-i : goal.invariant-loop-i
-invariant-loop-i l = (l.i ≤ 64) × (l.ok ≡ keys_held l.ws l.i)
-
-abbrev pub decreases-loop-i : goal.decreases-loop-i
-decreases-loop-i l = 64 - l.i
+invariant-loop-i l = l.ok ≡ keys_held l.ws l.i

@@ -1,10 +1,7 @@
 -- `kept::slots` meets its contract. The loop's invariant: so far each is held or one is not.
 use Rattle.words.specs.Held.{slots_held}
-use Rattle.std.proofs.Common.{◌≡◌, ◌-◌, ◌≤◌}
+use Rattle.std.proofs.Common.{◌≡◌}
 use Rattle.words.proofs.kept.slots.Given as goal
 
 abbrev pub invariant-loop-i : goal.invariant-loop-i
-invariant-loop-i l = (l.i ≤ 96) × (l.ok ≡ slots_held l.ws l.i)
-
-abbrev pub decreases-loop-i : goal.decreases-loop-i
-decreases-loop-i l = 96 - l.i
+invariant-loop-i l = l.ok ≡ slots_held l.ws l.i

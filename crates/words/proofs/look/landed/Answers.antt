@@ -12,13 +12,13 @@ returns-then-in_ring c = rw (sym c.in_ring.ensures ∙ c.if-in_ring.true)
 pub returns-then-i-ge-MAX_PAGES : goal.returns-then-i-ge-MAX_PAGES
 unfolding landed lands_on cache_of
 returns-then-i-ge-MAX_PAGES c =
-    rw (sym c.in_ring.ensures ∙ c.if-in_ring.false, sym c.ready_at.ensures ∙ c.in-At.is, len_past c.args.ws.now _ c.if-i-ge-MAX_PAGES.true)
+    rw (sym c.in_ring.ensures ∙ c.if-in_ring.false, sym c.ready_at.ensures ∙ c.in-Some.is, len_past c.args.ws.now _ c.if-i-ge-MAX_PAGES.true)
 
-pub returns-in-Nothing : goal.returns-in-Nothing
+pub returns-in-None : goal.returns-in-None
 unfolding landed lands_on cache_of
-returns-in-Nothing c = rw (sym c.in_ring.ensures ∙ c.if-in_ring.false, sym c.ready_at.ensures ∙ c.in-Nothing.is)
+returns-in-None c = rw (sym c.in_ring.ensures ∙ c.if-in_ring.false, sym c.ready_at.ensures ∙ c.in-None.is)
 
 pub returns-else-i-ge-MAX_PAGES : goal.returns-else-i-ge-MAX_PAGES
 unfolding landed lands_on cache_of
 returns-else-i-ge-MAX_PAGES c =
-    rw (sym c.in_ring.ensures ∙ c.if-in_ring.false, sym c.ready_at.ensures ∙ c.in-At.is, len_at c.args.ws.now _ c.if-i-ge-MAX_PAGES.false)
+    rw (sym c.in_ring.ensures ∙ c.if-in_ring.false, sym c.ready_at.ensures ∙ c.in-Some.is, len_at c.args.ws.now _ c.if-i-ge-MAX_PAGES.false)

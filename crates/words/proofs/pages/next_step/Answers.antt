@@ -11,12 +11,12 @@ returns-then-in_ring c = rw (sym c.in_ring.ensures ∙ c.if-in_ring.true)
 
 pub returns-then-ws-eq0 : goal.returns-then-ws-eq0
 unfolding next_step lands_on cache_of
-returns-then-ws-eq0 c = rw (sym c.in_ring.ensures ∙ c.if-in_ring.false, sym c.ready_at.ensures ∙ c.in-Nothing.is, count_is c.args.ws.now 15, eq-eqb _ _ c.if-ws-eq0.true)
+returns-then-ws-eq0 c = rw (sym c.in_ring.ensures ∙ c.if-in_ring.false, sym c.ready_at.ensures ∙ c.in-None.is, count_is c.args.ws.now 15, eq-eqb _ _ c.if-ws-eq0.true)
 
-pub returns-in-At : goal.returns-in-At
+pub returns-in-Some : goal.returns-in-Some
 unfolding next_step lands_on cache_of
-returns-in-At c = rw (sym c.in_ring.ensures ∙ c.if-in_ring.false, sym c.ready_at.ensures ∙ c.in-At.is)
+returns-in-Some c = rw (sym c.in_ring.ensures ∙ c.if-in_ring.false, sym c.ready_at.ensures ∙ c.in-Some.is)
 
 pub returns-else-ws-eq0 : goal.returns-else-ws-eq0
 unfolding next_step lands_on cache_of
-returns-else-ws-eq0 c = rw (sym c.in_ring.ensures ∙ c.if-in_ring.false, sym c.ready_at.ensures ∙ c.in-Nothing.is, count_is c.args.ws.now 15, ne_eqb _ _ c.if-ws-eq0.false, c.next_read.ensures, c.loading-loading.ensures)
+returns-else-ws-eq0 c = rw (sym c.in_ring.ensures ∙ c.if-in_ring.false, sym c.ready_at.ensures ∙ c.in-None.is, count_is c.args.ws.now 15, ne_eqb _ _ c.if-ws-eq0.false, c.next_read.ensures, c.loading-loading.ensures)

@@ -1,5 +1,5 @@
 -- `pages::pages_ok` meets its contract. The loop's invariant: the pages passed are slots, and what is known of them, with the last run (`Passed`).
-use Rattle.std.proofs.Common.{◌≡◌, ℕ, ◌+◌, ◌-◌, sym, ap, ◌∙◌, arith, rules}
+use Rattle.std.proofs.Common.{◌≡◌, ℕ, ◌+◌, sym, ap, ◌∙◌, arith, rules}
 use mathlib.Core.Bool.{and-false}
 use borrow.Author.Tests.{lt-leb}
 use Rattle.tile.proofs.Laws.{all_none}

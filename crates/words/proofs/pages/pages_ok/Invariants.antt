@@ -1,5 +1,5 @@
 -- `pages::pages_ok` meets its contract. The loop's invariant: the pages passed are slots, and what is known of them, with the last run (`Passed`).
-use Rattle.std.proofs.Common.{◌≡◌, ◌-◌, ◌<◌, ◌≤◌, true}
+use Rattle.std.proofs.Common.{◌≡◌, ◌<◌, ◌≤◌, true}
 use Rattle.cache.proofs.PassLaws.{Passed}
 use Rattle.words.specs.Held.{slots_held}
 use Rattle.words.specs.Words.{pages_of}
@@ -11,6 +11,3 @@ invariant-loop-p l =
     × ((l.count ≤ 96)
     × ((l.head < 96)
     × ((slots_held l.ws l.p ≡ true) × Passed (pages_of l.ws 15).slots (pages_of l.ws 15).count l.p (record { head = l.head; end = l.end }))))
-
-abbrev pub decreases-loop-p : goal.decreases-loop-p
-decreases-loop-p l = 96 - l.p

@@ -1,25 +1,14 @@
--- `writer::given::nodes_good` meets its contract. The loop's invariant: every node passed is good.
-use Prim.Native.Nat.{◌-◌}
-use mathlib.Core.Path.{sym, ◌∙◌}
-use native.Mathlib.Omega.{arith}
-use borrow.Author.Rules.{rules}
-use borrow.Author.Tests.{not-true, not-false}
-use Rattle.tile.proofs.Laws.{all_none, all_more, all_miss}
+-- `writer::given::nodes_good` meets its contract: `all` over the numbers is the definition's, every node is good.
+use Rattle.std.proofs.Common.{◌-◌, rules, tests, refl, ◌∙◌}
+use Rattle.std.proofs.lemmas.Iterator.{YieldsList-from_range}
+use Rattle.std.proofs.lemmas.Iterator.Search.{all_from_yields_List}
 use Rattle.writer.specs.Steps.{node_good}
 use Rattle.writer.specs.TileWritten.{places_in}
+use Rattle.writer.proofs.GivenLaws.{all_range}
 use Rattle.writer.proofs.given.nodes_good.Goals as goal
 
-pub loop-i-init : goal.loop-i-init
-loop-i-init c = (search rules, all_none _)
-
-pub returns-then-not-node_good : goal.returns-then-not-node_good
-returns-then-not-node_good c =
-    let loop = c.loop-i in
-    let args = c.args in
-    sym (all_miss (node_good args.size args.nodes.now) loop.i (places_in args.nodes.now) (omega arith) (sym c.node_good.ensures ∙ not-true _ c.if-not-node_good.true-raw))
-
-pub loop-i-preserved : goal.loop-i-preserved
-loop-i-preserved c =
-    let loop = c.loop-i in
-    let args = c.args in
-    (omega arith, all_more (node_good args.size args.nodes.now) loop.i loop.invariant.1 (sym c.node_good.ensures ∙ not-false _ c.if-not-node_good.false-raw))
+pub returns : goal.returns
+returns c =
+    let test = node_good c.args.size c.args.nodes.now in
+    let last = places_in c.args.nodes.now in
+    all_from_yields_List test _ _ c.all.result c.all.ensures.ran (YieldsList-from_range 0 last (last - 0) refl refl) (λ x b q k. search (rules, tests)) ∙ all_range test last

@@ -14,11 +14,11 @@ slice_bounds-crc32-end-2 c =
 pub returns : goal.returns
 unfolding sector_bytes sector_fields holding puts
 returns c =
-    let put32 = c.put32 in
+    let put = c.put in
     let crc32 = c.crc32-sum in
     let part_fields = c.part_fields in
     let grid_fields = c.grid_fields in
     let mark = c.mark in
-    let clear = c.clear in
+    let fill = c.fill in
     let pre = c.requires in
-    rw (put32.ensures, crc32.ensures, part_fields.ensures, grid_fields.ensures, mark.ensures, clear.ensures, pre)
+    rw (put.ensures, crc32.ensures, part_fields.ensures, grid_fields.ensures, mark.ensures, fill.ensures.after (λ y e. e), pre)

@@ -1,5 +1,4 @@
 -- `writer::records::entries_at` meets its contract. The loop's invariant: to put what is left of the node's entries gives what to put all of them gives.
-use Prim.Native.Nat.{◌-◌}
 use mathlib.Core.Path.{sym, ◌∙◌}
 use native.Mathlib.Omega.{arith}
 use Rattle.writer.specs.TileWritten.{edges_in}
@@ -11,9 +10,9 @@ entries_of-filled-requires c =
     let loop = c.loop-i in
     let args = c.args in
     record {
-      i_bound = omega arith;
-      i_in_bounds = omega arith;
-      i_in_bounds_2 = omega (arith, left_length args.edges.now args.node loop.i (edges_in args.edges.now) (omega arith));
+      few_edges = omega arith;
+      edge_there = omega arith;
+      entries_fit = omega (arith, left_length args.edges.now args.node loop.i (edges_in args.edges.now) (omega arith));
     }
 
 pub loop-i-preserved : goal.loop-i-preserved

@@ -12,6 +12,3 @@ invariant-loop-i l = (l.i ≤ l.last)
     × ((length l.out ≡ length l.initial.out)
     × ((l.filled + length (entries_from l.edges l.node l.i (l.last - l.i)) ≡ l.count + length (entries_at l.edges l.node))
     × (puts (entry_fields l.base l.filled (entries_from l.edges l.node l.i (l.last - l.i))) l.out ≡ puts (entry_fields l.base l.count (entries_at l.edges l.node)) l.initial.out)))
-
-abbrev pub decreases-loop-i : goal.decreases-loop-i
-decreases-loop-i l = l.last - l.i

@@ -1,8 +1,0 @@
--- `cosine::sin_near` meets its contract: it is the definition, its decimal constants the same doubles as the definition's patterns.
-use Rattle.std.proofs.Common.{refl}
-use Rattle.angle.specs.Cosine.{sin_near}
-use Rattle.angle.proofs.cosine.sin_near.Goals as goal
-
-pub returns : goal.returns
-unfolding sin_near
-returns c = refl
