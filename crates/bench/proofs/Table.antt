@@ -1,8 +1,9 @@
 -- The table of bench lines holds: every line is computed from the definitions.
+use Rattle.refusal.specs.declared.Refusal.{Refusal}
+use Rattle.std.specs.Prelude.{Ok, Err}
 use mathlib.Core.Path.{◌≡◌, refl}
 use mathlib.Core.List.{[]}
-use lib.Ieee.{Float}
-use lib.Ieee.{of_int, of_bits, to_bits, units}
+use lib.Ieee.{Float, of_int, of_bits, to_bits, units}
 use Rattle.crc.specs.Fcs.{add, lower, divide, remainder, zeros, bits, number, message, fcs, crc32}
 use Rattle.num.specs.Root.{root_in, whole_root, near_root, square_root}
 use Rattle.pack.specs.Sector.{rules}
@@ -12,16 +13,15 @@ use Rattle.cache.specs.Victim.{age, least_of, best_of}
 use Rattle.num.specs.Fold.{up_to}
 use Rattle.predict.specs.Twins.{push, twin_step, twins_to}
 use Rattle.engine.specs.Calls.{new, fix}
-use Rattle.engine.specs.declared.Taken.TheVariants as Taken
 use Rattle.engine.proofs.StateLaws.{new_ok}
 use Rattle.bench.specs.Lines.{Lines, fix_at}
 
 -- a new engine is no state that number 12 names, so that the point alone is tested
-at_limit : (horizon : Float) → (fix (new [] horizon) [] (fix_at 360000000)).answer ≡ Taken.Done
+at_limit : (horizon : Float) → (fix (new [] horizon) [] (fix_at 360000000)).answer ≡ Ok tt
 unfolding fix
 at_limit horizon = rw (new_ok [] horizon)
 
-past_limit : (horizon : Float) → (fix (new [] horizon) [] (fix_at 360000001)).answer ≡ Taken.Refused 8
+past_limit : (horizon : Float) → (fix (new [] horizon) [] (fix_at 360000001)).answer ≡ Err Refusal.OutOfRange
 unfolding fix
 past_limit horizon = rw (new_ok [] horizon)
 

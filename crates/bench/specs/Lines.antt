@@ -1,6 +1,6 @@
 -- Document 01, "Bench lines, all marked": each line as a fact about the definitions, together as one table. `proofs/Table` proves it.
-use Rattle.std.specs.Prelude.{Some, None, Ok}
-use Rattle.std.specs.Prelude.{ℕ, ◌+◌, ◌*◌, ◌≡◌, false, [], ◌∷◌, replicate, ℤ, pos, negsuc, Float}
+use Rattle.refusal.specs.declared.Refusal.{Refusal}
+use Rattle.std.specs.Prelude.{Err, Some, None, Ok, ℕ, ◌+◌, ◌*◌, ◌≡◌, false, [], ◌∷◌, replicate, ℤ, pos, negsuc, Float}
 use Rattle.std.specs.Float.{fin, binary32}
 use Rattle.std.specs.Float.Ieee.{of_int, of_bits, to_bits}
 use Rattle.crc.specs.Fcs.{crc32}
@@ -16,7 +16,6 @@ use Rattle.predict.specs.Twins.{no_twin, boundary_twins}
 use Rattle.engine.specs.Fixes.{from_e7}
 use Rattle.engine.specs.declared.Fix.{Fix}
 use Rattle.engine.specs.Calls.{new, fix}
-use Rattle.engine.specs.declared.Taken.TheVariants as Taken
 use Rattle.predict.specs.declared.twins.Twin.{Twin}
 
 -- a header with these grid fields, its data behind the directory and nothing behind them
@@ -86,5 +85,5 @@ pub record Lines : Type 0 where
   -- -15 in 1e-7 degrees is -1 in micro-degrees
   pub cut_toward_zero : from_e7 (negsuc 14) (pos 0) 0 ≡ record { lat = negsuc 0; lon = pos 0; at_ms = 0 }
   -- a fix at 360,000,000 is accepted, one at 360,000,001 refused with 8, by a new engine of any horizon
-  pub fix_at_limit : (horizon : Float) → (fix (new [] horizon) [] (fix_at 360000000)).answer ≡ Taken.Done
-  pub fix_past_limit : (horizon : Float) → (fix (new [] horizon) [] (fix_at 360000001)).answer ≡ Taken.Refused 8
+  pub fix_at_limit : (horizon : Float) → (fix (new [] horizon) [] (fix_at 360000000)).answer ≡ Ok tt
+  pub fix_past_limit : (horizon : Float) → (fix (new [] horizon) [] (fix_at 360000001)).answer ≡ Err Refusal.OutOfRange

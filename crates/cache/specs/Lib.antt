@@ -21,5 +21,5 @@ pub mod Reader
 pub mod Stands
 -- What the lookups of one match change, beside the cache.
 pub mod Uses
--- The number of each answer.
+-- The number of a step of a load.
 pub mod Numbers

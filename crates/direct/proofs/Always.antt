@@ -1,8 +1,8 @@
 -- Along every list of fair calls, with an arena as long as its pages: the engine is in no state that 12 names, its match was found in the pack, and so no
 -- call is refused with 12 but for a matcher that the caller gives. By the ways that a call goes.
-use Rattle.refusal.specs.Refusal.{number_of_result}
+use Rattle.refusal.specs.Refusal.{number_of, number_of_result}
 use Rattle.refusal.specs.declared.Refusal.{Refusal}
-use Rattle.std.specs.Prelude.{Result, Ok, Err}
+use Rattle.std.specs.Prelude.{Option, Some, None, Result, Ok, Err}
 use Prim.Native.Nat.{ℕ, ◌*◌, ◌≤◌}
 use mathlib.Core.Path.{◌≡◌, refl, sym, ap, subst, ◌∙◌}
 use mathlib.Core.Bool.{Bool, true, false, ◌&&◌, not, cond, true≢false}
@@ -24,8 +24,6 @@ use Rattle.cache_lists.specs.Claims.{Parsed}
 use Rattle.cache_lists.proofs.Inv.{Inv}
 use Rattle.cache_lists.proofs.Steps.{load_is}
 use Rattle.cache_lists.proofs.Same.{header_is, kept_ok, given, parsed_rules, open_step, open_call}
-use Rattle.matcher.specs.declared.Current.{Current}
-use Rattle.matcher.specs.declared.Current.TheVariants as CurrentIs
 use Rattle.matcher.specs.declared.Heading.{Heading}
 use Rattle.matcher.specs.declared.Heading.TheVariants as HeadingIs
 use Rattle.matcher.specs.declared.Matched.{Matched}
@@ -36,8 +34,6 @@ use Rattle.matcher.specs.Numbers as MatchNumbers
 use Rattle.predict.specs.Numbers as RoadNumbers
 use Rattle.matcher.specs.State.{counts_ok, key_ok, call_ok, heading_ok}
 use Rattle.matcher.specs.Near.{near_of, no_keys}
-use Rattle.matcher.specs.declared.Answer.TheVariants as NearAnswer
-use Rattle.matcher.specs.declared.CurrentRead.TheVariants as CurrentRead
 use Rattle.matcher.specs.declared.Matcher.{Matcher}
 use Rattle.matcher.specs.declared.NearRead.{NearRead}
 use Rattle.matcher.specs.declared.Outcome as MatchOutcome
@@ -58,15 +54,14 @@ use Rattle.engine.specs.Steps.{stepped}
 use Rattle.engine.specs.Calls as Engines
 use Rattle.engine.specs.declared.Changed.{Changed}
 use Rattle.engine.specs.declared.Engine.{Engine}
-use Rattle.engine.specs.declared.HeaderRead.{HeaderRead}
-use Rattle.engine.specs.declared.Known.TheVariants as Known
 use Rattle.engine.specs.declared.Phase.{Phase}
 use Rattle.engine.specs.declared.Stepped.{Stepped}
 use Rattle.engine_states.proofs.EngineKept.{fix_kept, lost_kept}
 use Rattle.engine_states.proofs.EngineClosed.{reset_ok, step_ok, deliver_ok, step_from_ok}
 use Rattle.engine_states.proofs.RoadBounds.{road_not_stale}
+use Rattle.direct.proofs.OneNumber.{bad_state}
 use Rattle.direct.specs.Lists as Calls
-use Rattle.direct.specs.Lists.{World, Call, with_cache, cache_of, number_of_taken, number_of_status, number_of_known, number_of_heading_read, number, exec, Along}
+use Rattle.direct.specs.Lists.{World, Call, with_cache, cache_of, number, exec, Along}
 use Rattle.direct.specs.Finished.{Shown, task_shown, task_of, step_shown, update_shown, predict_shown, shown}
 use Rattle.direct.specs.Direct.{header_of, pack_after}
 use Rattle.direct.specs.Claims.{told_of, Fair, AllFair, Blamed, Open}
@@ -93,8 +88,8 @@ module _ (P : List ℕ) (n : ℕ) (horizon : Float) (w : World) (s : Stays P n h
   step_found : CurrentFits P n (Engines.step e₁ w.arena).engine.follower.matcher
   step_found = subst (λ (x : Stepped). CurrentFits P n x.engine.follower.matcher) (sym step_runs) (steps_found P n horizon w s (step_is e₁ w.arena s.ok))
 
-  step_number : number_of_status (Engines.step e₁ w.arena).answer ≡ 12 → ⊥
-  step_number z = steps_number P n horizon w s (step_is e₁ w.arena s.ok) (ap (λ (x : Stepped). number_of_status x.answer) (sym step_runs) ∙ z)
+  step_number : number_of_result (Engines.step e₁ w.arena).answer ≡ 12 → ⊥
+  step_number z = steps_number P n horizon w s (step_is e₁ w.arena s.ok) (ap (λ (x : Stepped). number_of_result x.answer) (sym step_runs) ∙ z)
 
   pub step_again : is_again (step_shown e₁ w.arena) ≡ false
   unfolding step_shown
@@ -114,18 +109,18 @@ module _ (P : List ℕ) (n : ℕ) (horizon : Float) (w : World) (s : Stays P n h
   unfolding Engines.deliver
   deliver_runs failure bs = rw s.ok
 
-  either_number : (t : Bool) (x y : Stepped) → (number_of_status x.answer ≡ 12 → ⊥) → (number_of_status y.answer ≡ 12 → ⊥) → number_of_status (cond t x y).answer ≡ 12 → ⊥
+  either_number : (t : Bool) (x y : Stepped) → (number_of_result x.answer ≡ 12 → ⊥) → (number_of_result y.answer ≡ 12 → ⊥) → number_of_result (cond t x y).answer ≡ 12 → ⊥
   either_number true x y p q = p
   either_number false x y p q = q
 
-  loaded_number : (x : Result Progress Refusal) (c : Cache) → (number_of_result x ≡ 12 → ⊥) → number_of_status (loaded_by x e₁ c).answer ≡ 12 → ⊥
+  loaded_number : (x : Result Progress Refusal) (c : Cache) → (number_of_result x ≡ 12 → ⊥) → number_of_result (loaded_by x e₁ c).answer ≡ 12 → ⊥
   unfolding arrived load_failed
   loaded_number (Ok Progress.Done) c f z = omega arith
   loaded_number (Ok Progress.More) c f z = omega arith
   loaded_number (Ok (Progress.Failed k)) c f z = either_number (ltb e₁.follower.failures 7) _ _ (λ y. omega arith) (λ y. omega arith) z
   loaded_number (Err k) c f z = f z
 
-  delivers_number : {failure : ℕ} {bs : List ℕ} {r : After} → Delivers e₁ w.arena failure bs r → number_of_status r.answer ≡ 12 → ⊥
+  delivers_number : {failure : ℕ} {bs : List ℕ} {r : After} → Delivers e₁ w.arena failure bs r → number_of_result r.answer ≡ 12 → ⊥
   unfolding header_failed
   delivers_number Ways.refuses z = omega arith
   delivers_number (Ways.loses k o len) z = either_number (eqb k 1 && ltb e₁.follower.failures 7) _ _ (λ y. omega arith) (λ y. omega arith) z
@@ -137,14 +132,14 @@ module _ (P : List ℕ) (n : ℕ) (horizon : Float) (w : World) (s : Stays P n h
       (open_step P h n key e₁.shared.cache w.arena (given P n parsed s.fit.shared.cache) (parsed_rules P n parsed) s.long
       (entry_is e₁ w.arena s.ok h (λ y. refl)) (load_is e₁.shared.cache w.arena h key failure bs)) z
 
-  deliver_number : (failure : ℕ) (bs : List ℕ) → number_of_status (Engines.deliver e₁ w.arena failure bs).answer ≡ 12 → ⊥
+  deliver_number : (failure : ℕ) (bs : List ℕ) → number_of_result (Engines.deliver e₁ w.arena failure bs).answer ≡ 12 → ⊥
   deliver_number failure bs z =
-      delivers_number (deliver_is e₁ w.arena s.ok failure bs) (ap (λ (x : After). number_of_status x.answer) (sym (deliver_runs failure bs)) ∙ z)
+      delivers_number (deliver_is e₁ w.arena s.ok failure bs) (ap (λ (x : After). number_of_result x.answer) (sym (deliver_runs failure bs)) ∙ z)
 
 -- ---- the lent-pack form
 
 lent_number : (P : List ℕ) (n : ℕ) (horizon : Float) (w : World) (Q : List ℕ) {r : After} → Stays P n horizon w → Lends w.engine w.arena Q r
-    → number_of_status r.answer ≡ 12 → ⊥
+    → number_of_result r.answer ≡ 12 → ⊥
 lent_number P n horizon w Q s (Ways.plain t) z = step_number P n horizon w s z
 lent_number P n horizon w Q s (Ways.asks offset len failure bs a f) z = deliver_number P n horizon _ (stays_stepped P n horizon w s) failure bs z
 
@@ -188,9 +183,9 @@ module _ (P : List ℕ) (n : ℕ) (horizon : Float) (w : World) (s : Stays P n h
   found_after (Calls.reset Q) = by (engine_ok e₂ (length w.arena))
     where
       left : Bool → Changed
-      left t = cond t (States.forgotten e₂) (unchanged e₂ 12)
+      left t = cond t (States.forgotten e₂) (unchanged e₂ Refusal.BadState)
 
-      by : (t : Bool) → CurrentFits (cond (not (eqb (number_of_taken (left t).answer) 0)) P Q) n (left t).engine.follower.matcher
+      by : (t : Bool) → CurrentFits (cond (not (eqb (number_of_result (left t).answer) 0)) P Q) n (left t).engine.follower.matcher
       by true = reset_fits Q n
       by false = s.found
   found_after Calls.step = step_found P n horizon w s
@@ -236,19 +231,19 @@ module _ (P : List ℕ) (n : ℕ) (horizon : Float) (w : World) (s : Stays P n h
 
   -- ---- a call is accepted
 
-  fix_number : (f : Fix) → number_of_taken (Engines.fix e₂ w.arena f).answer ≡ 12 → ⊥
+  fix_number : (f : Fix) → number_of_result (Engines.fix e₂ w.arena f).answer ≡ 12 → ⊥
   unfolding Engines.fix
   fix_number f = rw s.ok (by (is_point f.lat f.lon))
     where
-      by : (t : Bool) → number_of_taken (cond t (followed e₂ (Followers.fixed e₂.follower f)) (unchanged e₂ 8)).answer ≡ 12 → ⊥
+      by : (t : Bool) → number_of_result (cond t (followed e₂ (Followers.fixed e₂.follower f)) (unchanged e₂ Refusal.OutOfRange)).answer ≡ 12 → ⊥
       by true z = omega arith
       by false z = omega arith
 
-  lost_number : number_of_taken (Engines.lost e₂ w.arena).answer ≡ 12 → ⊥
+  lost_number : number_of_result (Engines.lost e₂ w.arena).answer ≡ 12 → ⊥
   unfolding Engines.lost
   lost_number = rw s.ok (λ z. omega arith)
 
-  reset_number : number_of_taken (Engines.reset e₂ w.arena).answer ≡ 12 → ⊥
+  reset_number : number_of_result (Engines.reset e₂ w.arena).answer ≡ 12 → ⊥
   unfolding Engines.reset States.forgotten
   reset_number = rw s.ok (λ z. omega arith)
 
@@ -257,37 +252,32 @@ module _ (P : List ℕ) (n : ℕ) (horizon : Float) (w : World) (s : Stays P n h
   read_number Calls.its_ahead = rw s.ok (λ z. omega arith)
   read_number Calls.its_header = rw s.ok (by (is_ready e₂.shared.phase))
     where
-      by : (t : Bool) → number_of_known (cond {A = HeaderRead} t (record { answer = Known.Is; header = e₂.shared.header })
-          (record { answer = Known.Nothing; header = States.no_header })).answer ≡ 12 → ⊥
+      by : (t : Bool) → number_of_result (Calls.tells_some (Ok (cond {A = Option Header} t (Some e₂.shared.header) None))) ≡ 12 → ⊥
       by true z = omega arith
       by false z = omega arith
   read_number Calls.its_heading = rw s.ok (by e₂.follower.sight.heading)
     where
-      by : (x : Heading) → number_of_heading_read (Engines.heading_of x) ≡ 12 → ⊥
+      by : (x : Heading) → number_of_result (Engines.heading_of x) ≡ 12 → ⊥
       by HeadingIs.Nothing z = omega arith
       by (HeadingIs.Degrees d) z = omega arith
   read_number Calls.its_loads = rw s.ok (λ z. omega arith)
   read_number Calls.its_steps = rw s.ok (λ z. omega arith)
 
-  nearby_number : (h : Header) (p : Point) → Parsed P h → MatchNumbers.number_of_answer (Matching.nearby h p).answer ≡ 12 → ⊥
+  nearby_number : (h : Header) (p : Point) → Parsed P h → number_of_result (Matching.nearby h p).answer ≡ 12 → ⊥
   unfolding Matching.nearby
   nearby_number h p parsed = rw (parsed_rules P n parsed) (by (is_point p.lat p.lon))
     where
-      by : (t : Bool) → MatchNumbers.number_of_answer (cond {A = NearRead} t (record { answer = NearAnswer.Accepted; near = near_of h p })
-          (record { answer = NearAnswer.Refused 8; near = no_keys })).answer ≡ 12 → ⊥
+      by : (t : Bool) → number_of_result (cond {A = NearRead} t (record { answer = Ok tt; near = near_of h p })
+          (record { answer = Err Refusal.OutOfRange; near = no_keys })).answer ≡ 12 → ⊥
       by true z = omega arith
       by false z = omega arith
 
-  current_number : (m : Matcher) → MatchNumbers.number_of_current_read (Matching.current m) ≡ 12 → counts_ok m ≡ false
+  current_number : (m : Matcher) → number_of_result (Matching.current m) ≡ 12 → counts_ok m ≡ false
   unfolding Matching.current
   current_number m = by (counts_ok m)
     where
-      read : (x : Current) → MatchNumbers.number_of_current_read (Matching.current_of x) ≡ 12 → ⊥
-      read CurrentIs.Nothing z = omega arith
-      read (CurrentIs.Is f) z = omega arith
-
-      by : (t : Bool) → MatchNumbers.number_of_current_read (cond t (Matching.current_of m.current) (CurrentRead.Refused 12)) ≡ 12 → t ≡ false
-      by true z = absurd (read m.current z)
+      by : (t : Bool) → number_of_result (cond {A = Result (Option Matched) Refusal} t (Ok m.current) (Err Refusal.BadState)) ≡ 12 → t ≡ false
+      by true z = absurd (omega (arith, z))
       by false z = refl
 
   -- the header that was read is the pack's
@@ -312,15 +302,15 @@ module _ (P : List ℕ) (n : ℕ) (horizon : Float) (w : World) (s : Stays P n h
     update_number m p heading =
         rw (cache_is (record { row = 0; col = 0 })) (by (counts_ok m && key_ok m.current h) (is_point p.lat p.lon && heading_ok heading))
       where
-        late : (x : MatchOutcome.Outcome) → (Gather.update_over (look e₂.shared.cache w.arena h.tile) m h p heading).answer ≡ x → MatchNumbers.number_of_outcome x ≡ 12 → ⊥
-        late (Match.Found f) q z = omega arith
-        late Match.Nothing q z = omega arith
-        late (Match.Need key) q z = omega arith
-        late (Match.Refused k) q z = match_accepted (look e₂.shared.cache w.arena h.tile) fresh_at m h p heading k q
+        late : (x : Result MatchOutcome.Outcome Refusal) → (Gather.update_over (look e₂.shared.cache w.arena h.tile) m h p heading).answer ≡ x → MatchNumbers.number_of_outcome x ≡ 12 → ⊥
+        late (Ok (Match.Found f)) q z = omega arith
+        late (Ok Match.Nothing) q z = omega arith
+        late (Ok (Match.Need key)) q z = omega arith
+        late (Err k) q z = match_accepted (look e₂.shared.cache w.arena h.tile) fresh_at m h p heading k q
 
         left : Bool → Bool → Updated
-        left a b = cond a (cond b (Gather.updated m e₂.shared.cache w.arena h p heading) (Matchers.refused m e₂.shared.cache 8))
-            (Matchers.refused m e₂.shared.cache 12)
+        left a b = cond a (cond b (Gather.updated m e₂.shared.cache w.arena h p heading) (Matchers.refused m e₂.shared.cache Refusal.OutOfRange))
+            (Matchers.refused m e₂.shared.cache Refusal.BadState)
 
         by : (a b : Bool) → MatchNumbers.number_of_outcome (left a b).answer ≡ 12 → a ≡ false
         by true true z = absurd (late _ refl z)
@@ -332,19 +322,19 @@ module _ (P : List ℕ) (n : ℕ) (horizon : Float) (w : World) (s : Stays P n h
     unfolding Predict.predict Predict.predicted_in
     predict_number m reach samples behind = rw (cache_is m.tile.key) (by (in_grid h m.tile.key))
       where
-        late : (x : RoadOutcome.Outcome)
+        late : (x : Result RoadOutcome.Outcome Refusal)
             → (Predict.predict_over (look e₂.shared.cache w.arena h.tile) e₂.shared.cache.pages.count h m reach samples behind).answer ≡ x
             → RoadNumbers.number_of_outcome x ≡ 12 → ⊥
-        late (Roads.Road f) q z = omega arith
-        late (Roads.Need key) q z = omega arith
-        late Roads.Rematch q z = omega arith
-        late (Roads.Refused k) q z =
+        late (Ok (Roads.Road f)) q z = omega arith
+        late (Ok (Roads.Need key)) q z = omega arith
+        late (Ok Roads.Rematch) q z = omega arith
+        late (Err k) q z =
             road_not_stale (look e₂.shared.cache w.arena h.tile) fresh_at e₂.shared.cache.pages.count h m reach samples behind
-            (q ∙ ap Roads.Refused z)
+            (q ∙ ap Err (bad_state k z))
 
         left : Bool → Predict.After
         left t = cond t (Predict.predicted_in e₂.shared.cache w.arena h m reach samples behind)
-            (Predict.untouched (Predict.refused e₂.shared.cache 9) samples behind)
+            (Predict.untouched (Predict.refused e₂.shared.cache Refusal.OutsideGrid) samples behind)
 
         by : (t : Bool) → RoadNumbers.number_of_outcome (left t).predicted.answer ≡ 12 → ⊥
         by true z = late _ refl z
@@ -371,17 +361,17 @@ module _ (P : List ℕ) (n : ℕ) (horizon : Float) (w : World) (s : Stays P n h
   either_not true x y p q = p
   either_not false x y p q = q
 
-  update_not : (x : MatchOutcome.Outcome) (m : Matcher) → is_again (update_shown x m) ≡ false
-  update_not (Match.Found f) m = refl
-  update_not Match.Nothing m = refl
-  update_not (Match.Need key) m = refl
-  update_not (Match.Refused k) m = either_not (eqb k 12) _ _ refl refl
+  update_not : (x : Result MatchOutcome.Outcome Refusal) (m : Matcher) → is_again (update_shown x m) ≡ false
+  update_not (Ok (Match.Found f)) m = refl
+  update_not (Ok Match.Nothing) m = refl
+  update_not (Ok (Match.Need key)) m = refl
+  update_not (Err k) m = either_not (eqb (number_of k) 12) _ _ refl refl
 
-  predict_not : (x : RoadOutcome.Outcome) (samples behind : List ℤ) → is_again (predict_shown x samples behind) ≡ false
-  predict_not (Roads.Road p) samples behind = refl
-  predict_not (Roads.Need key) samples behind = refl
-  predict_not Roads.Rematch samples behind = refl
-  predict_not (Roads.Refused k) samples behind = either_not (eqb k 12) _ _ refl refl
+  predict_not : (x : Result RoadOutcome.Outcome Refusal) (samples behind : List ℤ) → is_again (predict_shown x samples behind) ≡ false
+  predict_not (Ok (Roads.Road p)) samples behind = refl
+  predict_not (Ok (Roads.Need key)) samples behind = refl
+  predict_not (Ok Roads.Rematch) samples behind = refl
+  predict_not (Err k) samples behind = either_not (eqb (number_of k) 12) _ _ refl refl
 
   call_not : (c : Call) → is_again (shown w c) ≡ false
   unfolding shown

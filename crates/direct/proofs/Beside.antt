@@ -1,8 +1,8 @@
 -- What a step and a delivery leave beside the cache: phase, header, and of the follower what it sees, what it matches and what it was made with; a
 -- delivery also what is published. By the ways that a call goes.
+use Rattle.refusal.specs.Refusal.{number_of}
 use Rattle.refusal.specs.declared.Refusal.{Refusal}
-use Rattle.std.specs.Prelude.{Result, Err}
-use Rattle.std.specs.Prelude.{Ok}
+use Rattle.std.specs.Prelude.{Option, Some, None, Result, Err, Ok}
 use Prim.Native.Nat.{ℕ}
 use mathlib.Core.Path.{◌≡◌, refl, ◌∙◌}
 use mathlib.Core.Bool.{Bool, true, false, ◌&&◌, cond}
@@ -21,7 +21,6 @@ use Rattle.matcher.specs.declared.Updated.{Updated}
 use Rattle.predict.specs.Predict as Predict
 use Rattle.predict.specs.declared.Outcome as RoadOutcome
 use Rattle.predict.specs.declared.Outcome.TheVariants as Roads
-use Rattle.matcher.specs.declared.Current.{Current}
 use Rattle.matcher.specs.declared.Matched.{Matched}
 use Rattle.matcher.specs.declared.Matcher.{Matcher}
 use Rattle.engine.specs.declared.Fix.{Fix}
@@ -83,9 +82,9 @@ pub match_holds : (f : Follower) (m : Matcher) (fix : Fix) → Holds f m (matche
 unfolding matched
 match_holds f m fix = by m.current
   where
-    by : (x : Current) → Holds f m (matched_by x f m fix)
-    by Current.Nothing = record { sight = refl; matcher = refl; horizon = refl }
-    by (Current.Is found) = record { sight = refl; matcher = refl; horizon = refl }
+    by : (x : Option Matched) → Holds f m (matched_by x f m fix)
+    by None = record { sight = refl; matcher = refl; horizon = refl }
+    by (Some found) = record { sight = refl; matcher = refl; horizon = refl }
 
 -- ---- what a step leaves beside the cache
 
@@ -102,7 +101,7 @@ module _ (e : Engine) where
   beside_same : Beside e e
   beside_same = record { phase = refl; header = refl; sight = refl; horizon = refl }
 
-  ended_beside : (c : Cache) (f : Follower) (a : Status) → f.sight ≡ e.follower.sight → f.horizon_m ≡ e.follower.horizon_m
+  ended_beside : (c : Cache) (f : Follower) (a : Result Status Refusal) → f.sight ≡ e.follower.sight → f.horizon_m ≡ e.follower.horizon_m
       → Beside e (ended e c f a).engine
   ended_beside c f a p q = record { phase = refl; header = refl; sight = p; horizon = q }
 
@@ -110,20 +109,20 @@ module _ (e : Engine) where
   either_beside true x y p q = p
   either_beside false x y p q = q
 
-  match_beside : (x : MatchOutcome.Outcome) (fix : Fix) (u : Updated) → Beside e (match_ended_by x e f₁ fix u).engine
-  match_beside (Match.Found m) fix u = let r = match_holds f₁ u.matcher fix in ended_beside u.cache _ Status.Working r.sight r.horizon
-  match_beside Match.Nothing fix u = let r = match_holds f₁ u.matcher fix in ended_beside u.cache _ Status.Working r.sight r.horizon
-  match_beside (Match.Need key) fix u = let r = match_asks_lem f₁ u.cache.pages.count key in ended_beside u.cache _ Status.Working r.sight r.horizon
-  match_beside (Match.Refused number) fix u = beside_same
+  match_beside : (x : Result MatchOutcome.Outcome Refusal) (fix : Fix) (u : Updated) → Beside e (match_ended_by x e f₁ fix u).engine
+  match_beside (Ok (Match.Found m)) fix u = let r = match_holds f₁ u.matcher fix in ended_beside u.cache _ (Ok Status.Working) r.sight r.horizon
+  match_beside (Ok Match.Nothing) fix u = let r = match_holds f₁ u.matcher fix in ended_beside u.cache _ (Ok Status.Working) r.sight r.horizon
+  match_beside (Ok (Match.Need key)) fix u = let r = match_asks_lem f₁ u.cache.pages.count key in ended_beside u.cache _ (Ok Status.Working) r.sight r.horizon
+  match_beside (Err number) fix u = beside_same
 
-  road_beside : (x : RoadOutcome.Outcome) (fix : Fix) (found : Matched) (r : Predict.After) → Beside e (road_ended_by x e f₁ fix found r).engine
+  road_beside : (x : Result RoadOutcome.Outcome Refusal) (fix : Fix) (found : Matched) (r : Predict.After) → Beside e (road_ended_by x e f₁ fix found r).engine
   unfolding published
-  road_beside (Roads.Road p) fix found r = ended_beside r.predicted.cache _ Status.Working refl refl
-  road_beside (Roads.Need key) fix found r =
-      let s = road_asks_lem f₁ r.predicted.cache.pages.count fix found key in ended_beside r.predicted.cache _ Status.Working s.sight s.horizon
-  road_beside Roads.Rematch fix found r = ended_beside r.predicted.cache _ Status.Working refl refl
-  road_beside (Roads.Refused number) fix found r =
-      either_beside (eqb number 10) _ _ (ended_beside r.predicted.cache (rematch f₁) Status.Working refl refl) beside_same
+  road_beside (Ok (Roads.Road p)) fix found r = ended_beside r.predicted.cache _ (Ok Status.Working) refl refl
+  road_beside (Ok (Roads.Need key)) fix found r =
+      let s = road_asks_lem f₁ r.predicted.cache.pages.count fix found key in ended_beside r.predicted.cache _ (Ok Status.Working) s.sight s.horizon
+  road_beside (Ok Roads.Rematch) fix found r = ended_beside r.predicted.cache _ (Ok Status.Working) refl refl
+  road_beside (Err number) fix found r =
+      either_beside (eqb (number_of number) 10) _ _ (ended_beside r.predicted.cache (rematch f₁) (Ok Status.Working) refl refl) beside_same
 
   pub steps_beside : {arena : List ℕ} {x : Task} {s : Stepped} → Steps e arena x s → Beside e s.engine
   unfolding arrived off_map
@@ -132,7 +131,7 @@ module _ (e : Engine) where
   steps_beside (Ways.opens p offset len o f r) = record { phase = refl; header = refl; sight = refl; horizon = refl }
   steps_beside (Ways.spoils key i r s p) = beside_same
   steps_beside (Ways.arrives key n r s f) = record { phase = refl; header = refl; sight = refl; horizon = refl }
-  steps_beside (Ways.rests f s d idle) = ended_beside e.shared.cache f Status.Idle s.sight s.horizon
+  steps_beside (Ways.rests f s d idle) = ended_beside e.shared.cache f (Ok Status.Idle) s.sight s.horizon
   steps_beside (Ways.leaves f w o) = record { phase = refl; header = refl; sight = refl; horizon = refl }
   steps_beside {arena} (Ways.matches f key w k due) = match_beside (match_of e arena f).answer f (match_of e arena f)
   steps_beside {arena} (Ways.follows f key found w k c) = road_beside (road_at e arena found).predicted.answer f found (road_at e arena found)
@@ -141,27 +140,27 @@ module _ (e : Engine) where
   unfolding Engines.step
   step_beside arena = by (engine_ok e (length arena)) refl
     where
-      by : (t : Bool) → engine_ok e (length arena) ≡ t → Beside e (cond t (stepped e arena) (refused e 12)).engine
+      by : (t : Bool) → engine_ok e (length arena) ≡ t → Beside e (cond t (stepped e arena) (refused e Refusal.BadState)).engine
       by true ok = steps_beside (step_is e arena ok)
       by false ok = beside_same
 
 -- ---- what a delivery leaves beside the cache
 
 -- the answer of a delivery, and the phase and header that it leaves: as they were; failed; or the header that came
-pub data Heads (e : Engine) (failure : ℕ) (bs : List ℕ) : Status → Phase → Header → Type 0 where
-  kept : {a : Status} → Heads e failure bs a e.shared.phase e.shared.header
-  unread : {a : Status} → Heads e failure bs a Phase.Unread e.shared.header
-  failed : {a : Status} → Heads e failure bs a Phase.Failed e.shared.header
-  came : {h : Header} → open_read e ≡ Status.Fetch 0 512 → failure ≡ 0 → length bs ≡ 512 → parse (sector_of bs) ≡ Ok h
-      → Heads e failure bs Status.Working Phase.Ready h
+pub data Heads (e : Engine) (failure : ℕ) (bs : List ℕ) : Result Status Refusal → Phase → Header → Type 0 where
+  kept : {a : Result Status Refusal} → Heads e failure bs a e.shared.phase e.shared.header
+  unread : {a : Result Status Refusal} → Heads e failure bs a Phase.Unread e.shared.header
+  failed : {a : Result Status Refusal} → Heads e failure bs a Phase.Failed e.shared.header
+  came : {h : Header} → open_read e ≡ Ok (Status.Fetch 0 512) → failure ≡ 0 → length bs ≡ 512 → parse (sector_of bs) ≡ Ok h
+      → Heads e failure bs (Ok Status.Working) Phase.Ready h
 
-pub record Left (e : Engine) (failure : ℕ) (bs : List ℕ) (a : Status) (n : Engine) : Type 0 where
+pub record Left (e : Engine) (failure : ℕ) (bs : List ℕ) (a : Result Status Refusal) (n : Engine) : Type 0 where
   pub heads : Heads e failure bs a n.shared.phase n.shared.header
   pub follower : Same e.follower n.follower
   pub due : Rests e.follower n.follower
 
 module _ (e : Engine) (failure : ℕ) (bs : List ℕ) where
-  left_same : {a : Status} → Left e failure bs a e
+  left_same : {a : Result Status Refusal} → Left e failure bs a e
   left_same = record { heads = kept; follower = same_self e.follower; due = record { matching = refl; road = inl refl } }
 
   either_left : (t : Bool) (x y : Stepped) → Left e failure bs x.answer x.engine → Left e failure bs y.answer y.engine
@@ -173,7 +172,7 @@ module _ (e : Engine) (failure : ℕ) (bs : List ℕ) where
       → f.ahead ≡ e.follower.ahead → Same e.follower f
   same_parts p q r s = record { sight = p; matcher = q; horizon = r; ahead = s }
 
-  left_parts : {a : Status} {n : Engine} → Heads e failure bs a n.shared.phase n.shared.header → Same e.follower n.follower
+  left_parts : {a : Result Status Refusal} {n : Engine} → Heads e failure bs a n.shared.phase n.shared.header → Same e.follower n.follower
       → n.follower.due.matching ≡ e.follower.due.matching → n.follower.due.road ≡ e.follower.due.road → Left e failure bs a n
   left_parts h s m r = record { heads = h; follower = s; due = record { matching = m; road = inl r } }
 
@@ -200,7 +199,7 @@ module _ (e : Engine) (failure : ℕ) (bs : List ℕ) where
   deliver_left arena = by (engine_ok e (length arena)) refl
     where
       left : Bool → After
-      left t = cond t (Delivered.delivered e arena failure bs) (over (refused e 12) arena)
+      left t = cond t (Delivered.delivered e arena failure bs) (over (refused e Refusal.BadState) arena)
 
       by : (t : Bool) → engine_ok e (length arena) ≡ t → Left e failure bs (left t).answer (left t).engine
       by true ok = delivers_left (deliver_is e arena ok failure bs)

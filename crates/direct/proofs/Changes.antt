@@ -1,5 +1,8 @@
 -- What the calls leave of cache and arena: whatever holds of them and is kept by the few changes of the cache's state is kept by every step,
 -- delivery and lookup. By the ways that a call goes.
+use Rattle.refusal.specs.declared.Refusal.{Refusal}
+use Rattle.std.specs.Prelude.{Result, Ok, Err}
+use Rattle.refusal.specs.Refusal.{number_of, number_of_result}
 use Prim.Native.Nat.{ℕ}
 use mathlib.Core.Path.{◌≡◌, refl}
 use mathlib.Core.Bool.{Bool, true, false, ◌&&◌, cond}
@@ -48,7 +51,6 @@ use Rattle.engine.specs.Steps.{stepped}
 use Rattle.engine.specs.Calls as Engines
 use Rattle.engine.specs.declared.Engine.{Engine}
 use Rattle.engine.specs.declared.Stepped.{Stepped}
-use Rattle.direct.specs.Lists.{number_of_status}
 use Rattle.direct.specs.Finished.{Task, match_of, road_at}
 use Rattle.engine_states.proofs.Ways as Ways
 use Rattle.engine_states.proofs.Ways.{Steps, Delivers, Brings, brought, step_is, deliver_is}
@@ -88,11 +90,11 @@ module _ (Q : Cache → List ℕ → Type 0) (touches : (c : Cache) (arena : Lis
   updated_keeps m c arena h fix heading q = let r = Gather.run_over (look c arena h.tile) m h fix heading in
       match_after r.end c _ arena q (looked_keeps arena h.tile r.found c q)
 
-  road_after : (x : RoadOutcome.Outcome) (c d : Cache) (arena : List ℕ) → Q c arena → Q d arena → Q (Predict.cache_after x c d) arena
-  road_after (Roads.Road p) c d arena s q = q
-  road_after (Roads.Need key) c d arena s q = q
-  road_after Roads.Rematch c d arena s q = q
-  road_after (Roads.Refused number) c d arena s q = either (eqb number 12) c d arena s q
+  road_after : (x : Result RoadOutcome.Outcome Refusal) (c d : Cache) (arena : List ℕ) → Q c arena → Q d arena → Q (Predict.cache_after x c d) arena
+  road_after (Ok (Roads.Road p)) c d arena s q = q
+  road_after (Ok (Roads.Need key)) c d arena s q = q
+  road_after (Ok Roads.Rematch) c d arena s q = q
+  road_after (Err number) c d arena s q = either (eqb (number_of number) 12) c d arena s q
 
   pub predicted_keeps : (c : Cache) (arena : List ℕ) (h : Header) (m : Matched) (horizon : Float) (samples behind : List ℤ) → Q c arena
       → Q (Predict.predicted_in c arena h m horizon samples behind).predicted.cache arena
@@ -106,7 +108,7 @@ module _ (Q : Cache → List ℕ → Type 0) (touches : (c : Cache) (arena : Lis
   update_keeps m c arena h fix heading q = by (call_ok m c h (length arena)) (is_point fix.lat fix.lon && heading_ok heading)
     where
       by : (s t : Bool)
-          → Q (cond s (cond t (Gather.updated m c arena h fix heading) (refused m c 8)) (refused m c 12)).cache arena
+          → Q (cond s (cond t (Gather.updated m c arena h fix heading) (refused m c Refusal.OutOfRange)) (refused m c Refusal.BadState)).cache arena
       by true true = updated_keeps m c arena h fix heading q
       by true false = q
       by false t = q
@@ -118,8 +120,8 @@ module _ (Q : Cache → List ℕ → Type 0) (touches : (c : Cache) (arena : Lis
     where
       by : (s t : Bool)
           → Q (cond s
-          (cond t (Predict.predicted_in c arena h m horizon samples behind) (Predict.untouched (Predict.refused c 9) samples behind))
-          (Predict.untouched (Predict.refused c 12) samples behind)).predicted.cache arena
+          (cond t (Predict.predicted_in c arena h m horizon samples behind) (Predict.untouched (Predict.refused c Refusal.OutsideGrid) samples behind))
+          (Predict.untouched (Predict.refused c Refusal.BadState) samples behind)).predicted.cache arena
       by true true = predicted_keeps c arena h m horizon samples behind q
       by true false = q
       by false t = q
@@ -137,19 +139,19 @@ module _ (Q : Cache → List ℕ → Type 0)
     -- ---- a step
 
     module _ (e : Engine) (arena : List ℕ) (q : Q e.shared.cache arena) where
-      match_ended : (f : Follower) (fix : Fix) (u : Updated) (x : MatchOutcome.Outcome) → Q u.cache arena
+      match_ended : (f : Follower) (fix : Fix) (u : Updated) (x : Result MatchOutcome.Outcome Refusal) → Q u.cache arena
           → Q (match_ended_by x e f fix u).engine.shared.cache arena
-      match_ended f fix u (Match.Found m) p = p
-      match_ended f fix u Match.Nothing p = p
-      match_ended f fix u (Match.Need key) p = p
-      match_ended f fix u (Match.Refused number) p = q
+      match_ended f fix u (Ok (Match.Found m)) p = p
+      match_ended f fix u (Ok Match.Nothing) p = p
+      match_ended f fix u (Ok (Match.Need key)) p = p
+      match_ended f fix u (Err number) p = q
 
-      road_ended : (f : Follower) (fix : Fix) (found : Matched) (r : Predict.After) (x : RoadOutcome.Outcome) → Q r.predicted.cache arena
+      road_ended : (f : Follower) (fix : Fix) (found : Matched) (r : Predict.After) (x : Result RoadOutcome.Outcome Refusal) → Q r.predicted.cache arena
           → Q (road_ended_by x e f fix found r).engine.shared.cache arena
-      road_ended f fix found r (Roads.Road y) p = p
-      road_ended f fix found r (Roads.Need key) p = p
-      road_ended f fix found r Roads.Rematch p = p
-      road_ended f fix found r (Roads.Refused number) p = either_stepped (eqb number 10) _ _ arena p q
+      road_ended f fix found r (Ok (Roads.Road y)) p = p
+      road_ended f fix found r (Ok (Roads.Need key)) p = p
+      road_ended f fix found r (Ok Roads.Rematch) p = p
+      road_ended f fix found r (Err number) p = either_stepped (eqb (number_of number) 10) _ _ arena p q
 
       settled_keeps : (n : Next) (key : TileKey) → next_step e.shared.cache key ≡ n → Q (settled e.shared.cache n key) arena
       settled_keeps (Next.Ready i) key r = touches e.shared.cache arena i q
@@ -177,7 +179,7 @@ module _ (Q : Cache → List ℕ → Type 0)
       unfolding Engines.step
       step_keeps = by (engine_ok e (length arena)) refl
         where
-          by : (t : Bool) → engine_ok e (length arena) ≡ t → Q (cond t (stepped e arena) (States.refused e 12)).engine.shared.cache arena
+          by : (t : Bool) → engine_ok e (length arena) ≡ t → Q (cond t (stepped e arena) (States.refused e Refusal.BadState)).engine.shared.cache arena
           by true ok = steps_keep (step_is e arena ok)
           by false ok = q
 
@@ -185,7 +187,7 @@ module _ (Q : Cache → List ℕ → Type 0)
 
     module _ (e : Engine) (arena : List ℕ) (failure : ℕ) (bs : List ℕ) (q : Q e.shared.cache arena)
         (part : (key : TileKey) → Brings e arena key failure bs
-        → number_of_status (loaded e (told (brought e arena key failure bs))).answer ≡ number_of_status (Engines.deliver e arena failure bs).answer
+        → number_of_result (loaded e (told (brought e arena key failure bs))).answer ≡ number_of_result (Engines.deliver e arena failure bs).answer
         → Q (brought e arena key failure bs).cache (brought e arena key failure bs).arena) where
       loaded_keeps : {h : Header} {key : TileKey} {r : Loads.After} → Step e.shared.cache arena h key failure bs r → Q r.cache r.arena
           → Q (loaded e (told r)).engine.shared.cache r.arena
@@ -207,7 +209,7 @@ module _ (Q : Cache → List ℕ → Type 0)
           let none : Q (with_pending e.shared.cache Pending.Nothing) arena = pends e.shared.cache arena Pending.Nothing refl q in
           either_stepped (eqb number 1 && ltb e.follower.failures 7) _ _ arena none none
 
-      delivers_keep : {r : After} → Delivers e arena failure bs r → number_of_status r.answer ≡ number_of_status (Engines.deliver e arena failure bs).answer
+      delivers_keep : {r : After} → Delivers e arena failure bs r → number_of_result r.answer ≡ number_of_result (Engines.deliver e arena failure bs).answer
           → Q r.engine.shared.cache r.arena
       delivers_keep Ways.refuses same = q
       delivers_keep (Ways.loses number o s) same = failed_keeps number
@@ -220,7 +222,7 @@ module _ (Q : Cache → List ℕ → Type 0)
       deliver_keeps = by (engine_ok e (length arena)) refl
         where
           left : Bool → After
-          left t = cond t (Delivered.delivered e arena failure bs) (Delivered.over (States.refused e 12) arena)
+          left t = cond t (Delivered.delivered e arena failure bs) (Delivered.over (States.refused e Refusal.BadState) arena)
 
           by : (t : Bool) → engine_ok e (length arena) ≡ t → Q (left t).engine.shared.cache (left t).arena
           by true ok = delivers_keep (deliver_is e arena ok failure bs) (rw ok)

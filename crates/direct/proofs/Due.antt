@@ -1,6 +1,8 @@
 -- What is due, and what a step off the map clears. The idea: unless a road is due for its match, a step off the map clears the matcher where it has a match
 -- (`Clears`, along every list: `all_cleared`); where a fix is given only once nothing is due, no road is due off the map (`Rested`), not both a match and
 -- a road are due (`Idles`), and so a step that answers that there is nothing to do leaves nothing due (`step_settles`).
+use Rattle.refusal.specs.Refusal.{number_of}
+use Rattle.refusal.specs.declared.Refusal.{Refusal}
 use Rattle.cache.specs.declared.Loading.{Loading}
 use Prim.Native.Nat.{ℕ, ◌+◌}
 use mathlib.Core.Path.{◌≡◌, refl, sym, ap, subst, ◌∙◌}
@@ -11,12 +13,11 @@ use native.Mathlib.Omega.{arith}
 use lib.Dec.{eqb}
 use lib.Ieee.{Float}
 use lib.ListN.{length}
-use Rattle.std.specs.Prelude.{Option, Some, None}
+use Rattle.std.specs.Prelude.{Result, Ok, Err, Option, Some, None}
 use Rattle.pack.specs.declared.TileKey.{TileKey}
 use Rattle.pack.specs.Grid.{is_point, key_of}
 use Rattle.pack.specs.declared.Header.{Header}
 use Rattle.cache.specs.declared.Pending.{Pending}
-use Rattle.matcher.specs.declared.Current.{Current}
 use Rattle.matcher.specs.declared.Matched.{Matched}
 use Rattle.matcher.specs.Calls as Matching
 use Rattle.matcher.specs.declared.Matcher.{Matcher}
@@ -35,7 +36,6 @@ use Rattle.engine.specs.Follow.{is_matched}
 use Rattle.engine.specs.declared.Ahead.{Ahead}
 use Rattle.engine.specs.declared.Fix.{Fix}
 use Rattle.engine.specs.declared.Follower.{Follower}
-use Rattle.engine.specs.declared.MaybeFix.{MaybeFix}
 use Rattle.engine.specs.State as States
 use Rattle.engine.specs.State.{refused, is_failed, pending_by, engine_ok}
 use Rattle.engine.specs.Work as Work
@@ -93,7 +93,7 @@ either_stepped false x y p q = q
 rests_clear : (f g : Follower) → Same f g → Rests f g → Clears f → Clears g
 rests_clear f g s d c = by d.road
   where
-    by : (g.due.road ≡ f.due.road) ⊎ ((g.due.road ≡ false) × (f.matcher.current ≡ Current.Nothing)) → Clears g
+    by : (g.due.road ≡ f.due.road) ⊎ ((g.due.road ≡ false) × (f.matcher.current ≡ None)) → Clears g
     by (inl r) = λ z. rw (s.matcher, s.ahead) (c (rw (r, s.matcher) at z))
     by (inr q) = λ z. rw (s.matcher, s.ahead) (c (rw q.1 (and_off f.due.road)))
 
@@ -119,16 +119,16 @@ match_clears f m fix = by m.current refl
     gone true q = refl
     gone false q = q
 
-    on : (found : Matched) (y : Current) → m.current ≡ Current.Is found → f.ahead.matched ≡ y → Clears (matched_by (Current.Is found) f m fix)
-    on found Current.Nothing q r = λ z. absurd (true≢false (rw (r, q) at z))
-    on found (Current.Is y) q r = λ z. rw (r, q)
+    on : (found : Matched) (y : Option Matched) → m.current ≡ Some found → f.ahead.matched ≡ y → Clears (matched_by (Some found) f m fix)
+    on found None q r = λ z. absurd (true≢false (rw (r, q) at z))
+    on found (Some y) q r = λ z. rw (r, q)
 
-    by : (x : Current) → m.current ≡ x → Clears (matched_by x f m fix)
-    by Current.Nothing q = λ z. rw (gone (is_matched f.ahead.matched) refl, q)
-    by (Current.Is found) q = on found f.ahead.matched q refl
+    by : (x : Option Matched) → m.current ≡ x → Clears (matched_by x f m fix)
+    by None q = λ z. rw (gone (is_matched f.ahead.matched) refl, q)
+    by (Some found) q = on found f.ahead.matched q refl
 
 -- a road that was published, of the current match
-road_clears : (f : Follower) (a : Ahead) (fix : Fix) (found : Matched) (p : Prediction) → f.matcher.current ≡ Current.Is found → Clears (published f a fix found p)
+road_clears : (f : Follower) (a : Ahead) (fix : Fix) (found : Matched) (p : Prediction) → f.matcher.current ≡ Some found → Clears (published f a fix found p)
 unfolding published with_match
 road_clears f a fix found p q = λ z. rw q
 
@@ -136,19 +136,19 @@ module _ (e : Engine) (arena : List ℕ) (c : Clears e.follower) where
   abbrev f₁ : Follower
   f₁ = counted e.follower
 
-  match_ended : (x : MatchOutcome.Outcome) (fix : Fix) (u : Updated) → Clears (match_ended_by x e f₁ fix u).engine.follower
-  match_ended (Match.Found m) fix u = match_clears f₁ u.matcher fix
-  match_ended Match.Nothing fix u = match_clears f₁ u.matcher fix
-  match_ended (Match.Need key) fix u = either_clears (may_ask f₁.due u.cache.pages.count) _ _ c c
-  match_ended (Match.Refused number) fix u = c
+  match_ended : (x : Result MatchOutcome.Outcome Refusal) (fix : Fix) (u : Updated) → Clears (match_ended_by x e f₁ fix u).engine.follower
+  match_ended (Ok (Match.Found m)) fix u = match_clears f₁ u.matcher fix
+  match_ended (Ok Match.Nothing) fix u = match_clears f₁ u.matcher fix
+  match_ended (Ok (Match.Need key)) fix u = either_clears (may_ask f₁.due u.cache.pages.count) _ _ c c
+  match_ended (Err number) fix u = c
 
-  road_ended : (x : RoadOutcome.Outcome) (fix : Fix) (found : Matched) (r : Predict.After) → e.follower.matcher.current ≡ Current.Is found
+  road_ended : (x : Result RoadOutcome.Outcome Refusal) (fix : Fix) (found : Matched) (r : Predict.After) → e.follower.matcher.current ≡ Some found
       → Clears (road_ended_by x e f₁ fix found r).engine.follower
-  road_ended (Roads.Road p) fix found r q = road_clears f₁ _ fix found p q
-  road_ended (Roads.Need key) fix found r q =
+  road_ended (Ok (Roads.Road p)) fix found r q = road_clears f₁ _ fix found p q
+  road_ended (Ok (Roads.Need key)) fix found r q =
       either_clears (may_ask f₁.due r.predicted.cache.pages.count) _ _ c (road_clears f₁ f₁.ahead fix found Work.no_road q)
-  road_ended Roads.Rematch fix found r q = reset_clears (rematch f₁) refl
-  road_ended (Roads.Refused number) fix found r q = either_stepped (eqb number 10) _ _ (reset_clears (rematch f₁) refl) c
+  road_ended (Ok Roads.Rematch) fix found r q = reset_clears (rematch f₁) refl
+  road_ended (Err number) fix found r q = either_stepped (eqb (number_of number) 10) _ _ (reset_clears (rematch f₁) refl) c
 
   steps_clear : {x : Task} {s : Stepped} → Steps e arena x s → Clears s.engine.follower
   unfolding arrived
@@ -166,7 +166,7 @@ module _ (e : Engine) (arena : List ℕ) (c : Clears e.follower) where
   unfolding Engines.step
   step_clears = by (engine_ok e (length arena)) refl
     where
-      by : (t : Bool) → engine_ok e (length arena) ≡ t → Clears (cond t (stepped e arena) (refused e 12)).engine.follower
+      by : (t : Bool) → engine_ok e (length arena) ≡ t → Clears (cond t (stepped e arena) (refused e Refusal.BadState)).engine.follower
       by true ok = steps_clear (step_is e arena ok)
       by false ok = c
 
@@ -226,9 +226,9 @@ abbrev pub is_outside : Option TileKey → Bool
 is_outside (Some key) = false
 is_outside None = true
 
-abbrev pub is_off : Header → MaybeFix → Bool
-is_off h MaybeFix.Nothing = false
-is_off h (MaybeFix.Is f) = is_outside (key_of h f.lat f.lon)
+abbrev pub is_off : Header → Option Fix → Bool
+is_off h None = false
+is_off h (Some f) = is_outside (key_of h f.lat f.lon)
 
 outside_is : (x : Option TileKey) → OffGrid x → is_outside x ≡ true
 outside_is (Some key) o = absurd o
@@ -274,7 +274,7 @@ rests_rest P e n s d ready r u o =
     = r ready (rw s.sight at o) in
     (by d.road was.0, λ m. rw s.matcher (was.1 (sym d.matching ∙ m)))
   where
-    by : (n.follower.due.road ≡ e.follower.due.road) ⊎ ((n.follower.due.road ≡ false) × (e.follower.matcher.current ≡ Current.Nothing))
+    by : (n.follower.due.road ≡ e.follower.due.road) ⊎ ((n.follower.due.road ≡ false) × (e.follower.matcher.current ≡ None))
         → e.follower.due.road ≡ false → n.follower.due.road ≡ false
     by (inl q) z = q ∙ z
     by (inr q) z = q.0
@@ -303,17 +303,17 @@ either_shown : (t : Bool) (x y : Shown) → is_emptied x ≡ false → is_emptie
 either_shown true x y p q = p
 either_shown false x y p q = q
 
-match_shows : (x : MatchOutcome.Outcome) (e n : Engine) → is_emptied (match_shown x e n) ≡ false
-match_shows (Match.Found m) e n = refl
-match_shows Match.Nothing e n = either_shown (is_matched e.follower.ahead.matched) _ _ refl refl
-match_shows (Match.Need key) e n = refl
-match_shows (Match.Refused number) e n = refl
+match_shows : (x : Result MatchOutcome.Outcome Refusal) (e n : Engine) → is_emptied (match_shown x e n) ≡ false
+match_shows (Ok (Match.Found m)) e n = refl
+match_shows (Ok Match.Nothing) e n = either_shown (is_matched e.follower.ahead.matched) _ _ refl refl
+match_shows (Ok (Match.Need key)) e n = refl
+match_shows (Err number) e n = refl
 
-road_shows : (x : RoadOutcome.Outcome) (n : Engine) → is_emptied (road_shown x n) ≡ false
-road_shows (Roads.Road p) n = refl
-road_shows (Roads.Need key) n = refl
-road_shows Roads.Rematch n = refl
-road_shows (Roads.Refused number) n = either_shown (eqb number 10) _ _ refl refl
+road_shows : (x : Result RoadOutcome.Outcome Refusal) (n : Engine) → is_emptied (road_shown x n) ≡ false
+road_shows (Ok (Roads.Road p)) n = refl
+road_shows (Ok (Roads.Need key)) n = refl
+road_shows (Ok Roads.Rematch) n = refl
+road_shows (Err number) n = either_shown (eqb (number_of number) 10) _ _ refl refl
 
 module _ (P : List ℕ) (e : Engine) (arena : List ℕ) (header : e.shared.phase ≡ Phase.Ready → e.shared.header ≡ header_of P) where
   abbrev off : Bool
@@ -344,7 +344,7 @@ module _ (P : List ℕ) (e : Engine) (arena : List ℕ) (header : e.shared.phase
   step_sorts = by (engine_ok e (length arena)) refl
     where
       left : Bool → Stepped
-      left t = cond t (stepped e arena) (refused e 12)
+      left t = cond t (stepped e arena) (refused e Refusal.BadState)
 
       by : (t : Bool) → engine_ok e (length arena) ≡ t → Sorts off e (left t).engine (cond t (task_shown (task_of e) e arena (left t).engine) Shows.nothing)
       by true ok = steps_sort (step_is e arena ok)
@@ -373,7 +373,7 @@ module _ (P : List ℕ) (e : Engine) (arena : List ℕ) (header : e.shared.phase
   unfolding Engines.step
   step_rests c r = by (engine_ok e (length arena)) refl
     where
-      by : (t : Bool) → engine_ok e (length arena) ≡ t → Rested P (cond t (stepped e arena) (refused e 12)).engine
+      by : (t : Bool) → engine_ok e (length arena) ≡ t → Rested P (cond t (stepped e arena) (refused e Refusal.BadState)).engine
       by true ok = steps_rest (step_is e arena ok) c r
       by false ok = r
 
@@ -400,7 +400,7 @@ failed_delivers e arena failure bs failed = by (engine_ok e (length arena)) refl
     unopened Phase.Unread Pending.Chunk f q r ok = absurd (true≢false (sym f))
 
     by : (t : Bool) → engine_ok e (length arena) ≡ t
-        → (cond t (delivered_by e.shared.cache.pending e arena failure bs) (over (refused e 12) arena)).engine ≡ e
+        → (cond t (delivered_by e.shared.cache.pending e arena failure bs) (over (refused e Refusal.BadState) arena)).engine ≡ e
     by true ok =
         unopened e.shared.phase e.shared.cache.pending failed refl refl (apart e (length arena) ok).pending
     by false ok = refl
@@ -410,10 +410,10 @@ failed_delivers e arena failure bs failed = by (engine_ok e (length arena)) refl
 -- not both a match and a road are due, unless the pack has failed; without a fix neither is
 pub record Idles (e : Engine) : Type 0 where
   pub both : is_failed e.shared.phase ≡ false → (e.follower.due.matching && e.follower.due.road) ≡ false
-  pub none : e.follower.sight.fix ≡ MaybeFix.Nothing → (e.follower.due.matching || e.follower.due.road) ≡ false
+  pub none : e.follower.sight.fix ≡ None → (e.follower.due.matching || e.follower.due.road) ≡ false
 
 -- with a fix
-idles_at : (e : Engine) (f : Fix) → e.follower.sight.fix ≡ MaybeFix.Is f → (e.follower.due.matching && e.follower.due.road) ≡ false → Idles e
+idles_at : (e : Engine) (f : Fix) → e.follower.sight.fix ≡ Some f → (e.follower.due.matching && e.follower.due.road) ≡ false → Idles e
 idles_at e f q b = record { both = λ u. b; none = λ z. let o : ◌≡◌ {A = ℕ} 0 1 = cc in absurd (omega arith) }
 
 pub settled_due : (a b c : Bool) → (a || not (b || c)) ≡ true → a ≡ false → (b ≡ false) × (c ≡ false)
@@ -434,7 +434,7 @@ rests_idle e n s d able i = record {
 }
   where
     Road₁ : Type 0
-    Road₁ = (n.follower.due.road ≡ e.follower.due.road) ⊎ ((n.follower.due.road ≡ false) × (e.follower.matcher.current ≡ Current.Nothing))
+    Road₁ = (n.follower.due.road ≡ e.follower.due.road) ⊎ ((n.follower.due.road ≡ false) × (e.follower.matcher.current ≡ None))
 
     on : Road₁ → (e.follower.due.matching && e.follower.due.road) ≡ false → (e.follower.due.matching && n.follower.due.road) ≡ false
     on (inl q) b = rw q b
@@ -453,33 +453,33 @@ module _ (e : Engine) (arena : List ℕ) (i : Idles e) where
   either_idle true x y p q = p
   either_idle false x y p q = q
 
-  match_idle : (x : MatchOutcome.Outcome) (fix : Fix) (u : Updated) → NotBoth e.follower → NotBoth (match_ended_by x e (counted e.follower) fix u).engine.follower
+  match_idle : (x : Result MatchOutcome.Outcome Refusal) (fix : Fix) (u : Updated) → NotBoth e.follower → NotBoth (match_ended_by x e (counted e.follower) fix u).engine.follower
   unfolding matched
-  match_idle (Match.Found m) fix u b = by u.matcher.current
+  match_idle (Ok (Match.Found m)) fix u b = by u.matcher.current
     where
-      by : (c : Current) → NotBoth (matched_by c (counted e.follower) u.matcher fix)
-      by Current.Nothing = refl
-      by (Current.Is g) = refl
-  match_idle Match.Nothing fix u b = by u.matcher.current
+      by : (c : Option Matched) → NotBoth (matched_by c (counted e.follower) u.matcher fix)
+      by None = refl
+      by (Some g) = refl
+  match_idle (Ok Match.Nothing) fix u b = by u.matcher.current
     where
-      by : (c : Current) → NotBoth (matched_by c (counted e.follower) u.matcher fix)
-      by Current.Nothing = refl
-      by (Current.Is g) = refl
-  match_idle (Match.Need key) fix u b = either_idle (may_ask e.follower.due u.cache.pages.count) _ _ b refl
-  match_idle (Match.Refused number) fix u b = b
+      by : (c : Option Matched) → NotBoth (matched_by c (counted e.follower) u.matcher fix)
+      by None = refl
+      by (Some g) = refl
+  match_idle (Ok (Match.Need key)) fix u b = either_idle (may_ask e.follower.due u.cache.pages.count) _ _ b refl
+  match_idle (Err number) fix u b = b
 
-  road_idle : (x : RoadOutcome.Outcome) (fix : Fix) (found : Matched) (r : Predict.After) → NotBoth e.follower
+  road_idle : (x : Result RoadOutcome.Outcome Refusal) (fix : Fix) (found : Matched) (r : Predict.After) → NotBoth e.follower
       → is_again (road_shown x (road_ended_by x e (counted e.follower) fix found r).engine) ≡ false
       → NotBoth (road_ended_by x e (counted e.follower) fix found r).engine.follower
   unfolding published
-  road_idle (Roads.Road p) fix found r b a = and_off e.follower.due.matching
-  road_idle (Roads.Need key) fix found r b a =
+  road_idle (Ok (Roads.Road p)) fix found r b a = and_off e.follower.due.matching
+  road_idle (Ok (Roads.Need key)) fix found r b a =
       either_idle (may_ask e.follower.due r.predicted.cache.pages.count) _ _ b (and_off e.follower.due.matching)
-  road_idle Roads.Rematch fix found r b a = absurd (true≢false a)
-  road_idle (Roads.Refused number) fix found r b a = by (eqb number 10) a
+  road_idle (Ok Roads.Rematch) fix found r b a = absurd (true≢false a)
+  road_idle (Err number) fix found r b a = by (eqb (number_of number) 10) a
     where
       left : Bool → Stepped
-      left t = cond t (Work.ended e r.predicted.cache (rematch (counted e.follower)) Status.Working) (refused e number)
+      left t = cond t (Work.ended e r.predicted.cache (rematch (counted e.follower)) (Ok Status.Working)) (refused e number)
 
       by : (t : Bool) → is_again (cond t (Shows.again 10 (left t).engine.follower.matcher) Shows.nothing) ≡ false → NotBoth (left t).engine.follower
       by true z = absurd (true≢false z)
@@ -509,7 +509,7 @@ module _ (e : Engine) (arena : List ℕ) (i : Idles e) where
   step_idles = by (engine_ok e (length arena)) refl
     where
       left : Bool → Stepped
-      left t = cond t (stepped e arena) (refused e 12)
+      left t = cond t (stepped e arena) (refused e Refusal.BadState)
 
       by : (t : Bool) → engine_ok e (length arena) ≡ t → is_again (cond t (task_shown (task_of e) e arena (left t).engine) Shows.nothing) ≡ false → Idles (left t).engine
       by true ok a = steps_idle (step_is e arena ok) a
@@ -534,30 +534,30 @@ module _ (e : Engine) (arena : List ℕ) (i : Idles e) where
       by None = refl
       by (Some l) = refl
 
-  match_rests : (x : MatchOutcome.Outcome) (fix : Fix) (u : Updated) → e.follower.due.matching ≡ true → NotBoth e.follower
+  match_rests : (x : Result MatchOutcome.Outcome Refusal) (fix : Fix) (u : Updated) → e.follower.due.matching ≡ true → NotBoth e.follower
       → let s = match_ended_by x e (counted e.follower) fix u in is_resting s.answer ≡ true → is_settled s.engine ≡ true
-  match_rests (Match.Found m) fix u k b z = absurd (true≢false (sym z))
-  match_rests Match.Nothing fix u k b z = absurd (true≢false (sym z))
-  match_rests (Match.Need key) fix u k b z = by (may_ask e.follower.due u.cache.pages.count) z
+  match_rests (Ok (Match.Found m)) fix u k b z = absurd (true≢false (sym z))
+  match_rests (Ok Match.Nothing) fix u k b z = absurd (true≢false (sym z))
+  match_rests (Ok (Match.Need key)) fix u k b z = by (may_ask e.follower.due u.cache.pages.count) z
     where
       f₂ : Bool → Follower
       f₂ t = cond t (Work.with_due (counted e.follower) (Work.asking e.follower.due key (e.follower.due.reloads + 1)))
           (Work.with_due (counted e.follower) (Work.match_done e.follower.due e.follower.due.road))
 
-      by : (t : Bool) → is_resting (cond t Status.Working Status.Idle) ≡ true
-          → is_settled (Work.ended e u.cache (f₂ t) (cond t Status.Working Status.Idle)).engine ≡ true
+      by : (t : Bool) → is_resting (cond t (Ok Status.Working) (Ok Status.Idle)) ≡ true
+          → is_settled (Work.ended e u.cache (f₂ t) (cond t (Ok Status.Working) (Ok Status.Idle))).engine ≡ true
       by true z = absurd (true≢false (sym z))
-      by false z = settled_by (Work.ended e u.cache (f₂ false) Status.Idle).engine refl (rw k at b)
-  match_rests (Match.Refused number) fix u k b z = absurd (true≢false (sym z))
+      by false z = settled_by (Work.ended e u.cache (f₂ false) (Ok Status.Idle)).engine refl (rw k at b)
+  match_rests (Err number) fix u k b z = absurd (true≢false (sym z))
 
-  road_works : (x : RoadOutcome.Outcome) (fix : Fix) (found : Matched) (r : Predict.After)
+  road_works : (x : Result RoadOutcome.Outcome Refusal) (fix : Fix) (found : Matched) (r : Predict.After)
       → is_resting (road_ended_by x e (counted e.follower) fix found r).answer ≡ false
-  road_works (Roads.Road p) fix found r = refl
-  road_works (Roads.Need key) fix found r = refl
-  road_works Roads.Rematch fix found r = refl
-  road_works (Roads.Refused number) fix found r = by (eqb number 10)
+  road_works (Ok (Roads.Road p)) fix found r = refl
+  road_works (Ok (Roads.Need key)) fix found r = refl
+  road_works (Ok Roads.Rematch) fix found r = refl
+  road_works (Err number) fix found r = by (eqb (number_of number) 10)
     where
-      by : (t : Bool) → is_resting (cond t (Work.ended e r.predicted.cache (rematch (counted e.follower)) Status.Working) (refused e number)).answer ≡ false
+      by : (t : Bool) → is_resting (cond t (Work.ended e r.predicted.cache (rematch (counted e.follower)) (Ok Status.Working)) (refused e number)).answer ≡ false
       by true = refl
       by false = refl
 
@@ -571,7 +571,7 @@ module _ (e : Engine) (arena : List ℕ) (i : Idles e) where
     steps_settle (Ways.arrives key n q s f) z = absurd (true≢false (sym z))
     steps_settle (Ways.rests f s d idle) z = by idle
       where
-        by : (e.follower.sight.fix ≡ MaybeFix.Nothing) ⊎ ((f.due.matching ≡ false) × (f.due.road ≡ false))
+        by : (e.follower.sight.fix ≡ None) ⊎ ((f.due.matching ≡ false) × (f.due.road ≡ false))
             → is_settled (record { shared = e.shared; follower = f }) ≡ true
         by (inl q) =
             let n : Engine = record { shared = e.shared; follower = f } in
@@ -591,7 +591,7 @@ module _ (e : Engine) (arena : List ℕ) (i : Idles e) where
     step_settles = by (engine_ok e (length arena)) refl
       where
         left : Bool → Stepped
-        left t = cond t (stepped e arena) (refused e 12)
+        left t = cond t (stepped e arena) (refused e Refusal.BadState)
 
         by : (t : Bool) → engine_ok e (length arena) ≡ t → is_resting (left t).answer ≡ true → is_settled (left t).engine ≡ true
         by true ok z = steps_settle (step_is e arena ok) z

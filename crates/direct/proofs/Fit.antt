@@ -1,5 +1,8 @@
 -- Under the premises: what the cache holds is the pack's and the header that was read is the pack's (`SharedFits`, of the shared part alone, whichever
 -- follower a call is made on: `shared_after`), and a follower keeps the horizon that it was made with (`reach_after`). By the ways that a call goes.
+use Rattle.refusal.specs.declared.Refusal.{Refusal}
+use Rattle.std.specs.Prelude.{Result, Ok}
+use Rattle.refusal.specs.Refusal.{number_of_result}
 use Prim.Native.Nat.{ℕ, zero, suc, ◌+◌, ◌<◌, ◌≤◌}
 use mathlib.Core.Path.{◌≡◌, refl, sym, ap, ◌∙◌}
 use mathlib.Core.Bool.{Bool, true, false, not, cond}
@@ -44,7 +47,7 @@ use Rattle.engine.specs.declared.Shared.{Shared}
 use Rattle.engine.specs.declared.Status.{Status}
 use Rattle.engine.specs.declared.Stepped.{Stepped}
 use Rattle.engine_states.proofs.RefusedSame.{step_open}
-use Rattle.direct.specs.Lists.{World, Call, fix, lost, reset, step, deliver, step_from, read, on_cache, nearby, current, update, predict, cache_of, number_of_taken, number_of_status, exec, start}
+use Rattle.direct.specs.Lists.{World, Call, fix, lost, reset, step, deliver, step_from, read, on_cache, nearby, current, update, predict, cache_of, exec, start}
 use Rattle.direct.specs.Direct.{header_of, pack_after}
 use Rattle.direct.specs.Claims.{told_of, open_read, FairBytes, FairLent, Fair}
 use Rattle.engine_states.proofs.Ways as Ways
@@ -130,13 +133,13 @@ module _ (P : List ℕ) (n : ℕ) where
 
   -- a part of a tile came
   module _ (e : Engine) (arena : List ℕ) (failure : ℕ) (bs : List ℕ) (k : KeptOver P n e.shared.cache arena) where
-    either_number : (t : Bool) (x y : Stepped) → number_of_status x.answer ≡ 0 → number_of_status y.answer ≡ 0 → number_of_status (cond t x y).answer ≡ 0
+    either_number : (t : Bool) (x y : Stepped) → number_of_result x.answer ≡ 0 → number_of_result y.answer ≡ 0 → number_of_result (cond t x y).answer ≡ 0
     either_number true x y p q = p
     either_number false x y p q = q
 
     -- one that is refused changes nothing
     part_by : {h : Header} {key : TileKey} {r : Loads.After} → Step e.shared.cache arena h key failure bs r
-        → (number_of_status (loaded e (told r)).answer ≡ 0 → KeptOver P n r.cache r.arena) → KeptOver P n r.cache r.arena
+        → (number_of_result (loaded e (told r)).answer ≡ 0 → KeptOver P n r.cache r.arena) → KeptOver P n r.cache r.arena
     unfolding arrived load_failed
     part_by (refuses number s) f = k
     part_by (knows q) f = f refl
@@ -150,9 +153,9 @@ module _ (P : List ℕ) (n : ℕ) where
     part_by (spoils l came b p) f = f refl
 
     module _ (fits : HeaderFits P e.shared.phase e.shared.header)
-        (fair : number_of_status (Engines.deliver e arena failure bs).answer ≡ 0 → failure ≡ 0 → FairBytes P (open_read e) bs) where
+        (fair : number_of_result (Engines.deliver e arena failure bs).answer ≡ 0 → failure ≡ 0 → FairBytes P (open_read e) bs) where
       part : (key : TileKey) (b : Brings e arena key failure bs)
-          → number_of_status (loaded e (told (brought e arena key failure bs))).answer ≡ number_of_status (Engines.deliver e arena failure bs).answer
+          → number_of_result (loaded e (told (brought e arena key failure bs))).answer ≡ number_of_result (Engines.deliver e arena failure bs).answer
           → KeptOver P n (brought e arena key failure bs).cache (brought e arena key failure bs).arena
       part key b same =
           let h : Header = e.shared.header in
@@ -167,12 +170,12 @@ module _ (P : List ℕ) (n : ℕ) where
       kept_delivered = deliver_keeps (KeptOver P n) touches forgets pends e arena failure bs k part
 
       -- the header that came is the pack's
-      heads_fit : {a : Status} {p : Phase} {h : Header} → Heads e failure bs a p h → a ≡ (Engines.deliver e arena failure bs).answer → HeaderFits P p h
+      heads_fit : {a : Result Status Refusal} {p : Phase} {h : Header} → Heads e failure bs a p h → a ≡ (Engines.deliver e arena failure bs).answer → HeaderFits P p h
       heads_fit Sides.kept same = fits
       heads_fit Sides.unread same = tt
       heads_fit Sides.failed same = tt
       heads_fit (Sides.came o z size a) same =
-          let pack : (0 + 512 ≤ length P) × (bs ≡ take 512 (drop 0 P)) = (rw o at (fair (ap number_of_status (sym same)) z)) size in
+          let pack : (0 + 512 ≤ length P) × (bs ≡ take 512 (drop 0 P)) = (rw o at (fair (ap number_of_result (sym same)) z)) size in
           let is : sector_of bs ≡ take 512 P = sector_whole bs size ∙ pack.1 in
           record { whole = pack.0; parses = rw is at a }
 
@@ -184,7 +187,7 @@ module _ (P : List ℕ) (n : ℕ) where
         let b : Beside e (Engines.step e arena).engine = step_beside e arena in
         record { cache = kept_stepped e arena f.cache; header = rw (b.phase, b.header) f.header }
 
-    shared_delivered : (failure : ℕ) (bs : List ℕ) → (number_of_status (Engines.deliver e arena failure bs).answer ≡ 0 → failure ≡ 0 → FairBytes P (open_read e) bs)
+    shared_delivered : (failure : ℕ) (bs : List ℕ) → (number_of_result (Engines.deliver e arena failure bs).answer ≡ 0 → failure ≡ 0 → FairBytes P (open_read e) bs)
         → SharedFits P n (Engines.deliver e arena failure bs).engine.shared (Engines.deliver e arena failure bs).arena
     shared_delivered failure bs fair = record {
       cache = kept_delivered e arena failure bs f.cache f.header fair;
@@ -192,8 +195,8 @@ module _ (P : List ℕ) (n : ℕ) where
     }
 
   -- what a lent pack yields is the pack's where the lent one is
-  yields_fair : (offset len : ℕ) (Q : List ℕ) {failure : ℕ} {bs : List ℕ} → Yields Q offset len failure bs → FairLent P (Status.Fetch offset len) Q → failure ≡ 0
-      → FairBytes P (Status.Fetch offset len) bs
+  yields_fair : (offset len : ℕ) (Q : List ℕ) {failure : ℕ} {bs : List ℕ} → Yields Q offset len failure bs → FairLent P (Ok (Status.Fetch offset len)) Q → failure ≡ 0
+      → FairBytes P (Ok (Status.Fetch offset len)) bs
   yields_fair offset len Q (Ways.bytes there) fair z = λ size. fair there
   yields_fair offset len Q Ways.past fair z = absurd (omega arith)
 
@@ -235,9 +238,9 @@ unfolding exec Engines.reset forgotten
 shared_reset P Q n w f = by (engine_ok w.engine (length w.arena))
   where
     left : Bool → Changed
-    left t = cond t (forgotten w.engine) (unchanged w.engine 12)
+    left t = cond t (forgotten w.engine) (unchanged w.engine Refusal.BadState)
 
-    by : (t : Bool) → SharedFits (cond (not (eqb (number_of_taken (left t).answer) 0)) P Q) n (left t).engine.shared w.arena
+    by : (t : Bool) → SharedFits (cond (not (eqb (number_of_result (left t).answer) 0)) P Q) n (left t).engine.shared w.arena
     by true = record { cache = cleared_fits P Q n w.engine.shared.cache w.arena f.cache; header = tt }
     by false = f
 

@@ -1,5 +1,7 @@
 -- The direct engine's last match is the published one, as long as no empty Memory answer was published. The idea: what a step publishes, and what the
 -- direct engine keeps of it, are the same function of what the step shows (`kept_of`).
+use Rattle.refusal.specs.declared.Refusal.{Refusal}
+use Rattle.refusal.specs.Refusal.{number_of, number_of_result}
 use Prim.Native.Nat.{ℕ, ◌+◌}
 use mathlib.Core.Path.{◌≡◌, refl, sym, ap, ◌∙◌}
 use mathlib.Core.Bool.{Bool, true, false, not, cond, true≢false}
@@ -9,10 +11,9 @@ use lib.Dec.{eqb}
 use lib.Ieee.{Float}
 use lib.IntN.{ℤ}
 use lib.ListN.{length}
-use Rattle.std.specs.Prelude.{Option, Some, None}
+use Rattle.std.specs.Prelude.{Result, Ok, Err, Option, Some, None}
 use Rattle.pack.specs.declared.TileKey.{TileKey}
 use Rattle.pack.specs.Grid.{is_point, key_of}
-use Rattle.matcher.specs.declared.Current.{Current}
 use Rattle.matcher.specs.declared.Matched.{Matched}
 use Rattle.matcher.specs.declared.Matcher.{Matcher}
 use Rattle.matcher.specs.declared.Outcome as MatchOutcome
@@ -30,7 +31,6 @@ use Rattle.engine.specs.Follow.{is_matched}
 use Rattle.engine.specs.declared.Ahead.{Ahead}
 use Rattle.engine.specs.declared.Fix.{Fix}
 use Rattle.engine.specs.declared.Follower.{Follower}
-use Rattle.engine.specs.declared.MaybeFix.{MaybeFix}
 use Rattle.engine.specs.State as States
 use Rattle.engine.specs.State.{refused, unchanged, followed, engine_ok}
 use Rattle.engine.specs.Work as Work
@@ -42,7 +42,7 @@ use Rattle.engine.specs.declared.Changed.{Changed}
 use Rattle.engine.specs.declared.Engine.{Engine}
 use Rattle.engine.specs.declared.Stepped.{Stepped}
 use Rattle.direct.specs.Lists as Calls
-use Rattle.direct.specs.Lists.{World, Call, number_of_taken, exec, start, Along}
+use Rattle.direct.specs.Lists.{World, Call, exec, start, Along}
 use Rattle.direct.specs.Finished as Shows
 use Rattle.direct.specs.Finished.{Shown, is_road, Task, task_of, match_of, road_at, match_shown, road_shown, task_shown, step_shown, shown}
 use Rattle.direct.specs.Direct.{Made, Told, Lookup, header_of, directly, Held, with_matcher, fixed, Worked, idle, stuck, match_worked, road_worked, current_worked, key_worked, step_worked_by, step_worked, match_held, road_held, worked, Waiting, a_fix, a_loss, Direct, new_direct, acted, applied, queued, settled, cleared, turned, pack_after, direct_exec}
@@ -57,10 +57,10 @@ use Rattle.direct.proofs.Seen.{told_by, made_current}
 use Rattle.direct.proofs.Linked.{Linked, is_none, none_shows, busy, Silent, fetch_silent, Alike, StepTurn, step_turn, lent_turn, turn_alike}
 
 -- the match kept of what a step shows
-abbrev kept_of : Shown → Current → Current
+abbrev kept_of : Shown → Option Matched → Option Matched
 kept_of (Shows.published r) c = r.matched
-kept_of (Shows.unmatched m r) c = Current.Nothing
-kept_of (Shows.emptied m r) c = Current.Nothing
+kept_of (Shows.unmatched m r) c = None
+kept_of (Shows.emptied m r) c = None
 kept_of Shows.nothing c = c
 kept_of (Shows.matched m) c = c
 kept_of (Shows.again k m) c = c
@@ -74,27 +74,27 @@ module _ (at : Lookup) (made : Made) (P : List ℕ) (d : Held) where
   abbrev Keeps : Worked → Type 0
   Keeps x = x.held.last ≡ kept_of x.shown d.last
 
-  match_keeps : (x : MatchOutcome.Outcome) (road : Bool) (f : Fix) (next : Matcher) → Keeps (match_worked x road d f next)
-  match_keeps (Match.Found m) road f next = refl
-  match_keeps Match.Nothing true f next = refl
-  match_keeps Match.Nothing false f next = refl
-  match_keeps (Match.Need key) road f next = refl
-  match_keeps (Match.Refused k) road f next = refl
+  match_keeps : (x : Result MatchOutcome.Outcome Refusal) (road : Bool) (f : Fix) (next : Matcher) → Keeps (match_worked x road d f next)
+  match_keeps (Ok (Match.Found m)) road f next = refl
+  match_keeps (Ok Match.Nothing) true f next = refl
+  match_keeps (Ok Match.Nothing) false f next = refl
+  match_keeps (Ok (Match.Need key)) road f next = refl
+  match_keeps (Err k) road f next = refl
 
-  road_keeps : (x : RoadOutcome.Outcome) (f : Fix) (found : Matched) (samples behind : List ℤ) → Keeps (road_worked x d f found samples behind)
+  road_keeps : (x : Result RoadOutcome.Outcome Refusal) (f : Fix) (found : Matched) (samples behind : List ℤ) → Keeps (road_worked x d f found samples behind)
   unfolding with_match
-  road_keeps (Roads.Road p) f found samples behind = refl
-  road_keeps (Roads.Need key) f found samples behind = refl
-  road_keeps Roads.Rematch f found samples behind = refl
-  road_keeps (Roads.Refused k) f found samples behind = by (eqb k 10)
+  road_keeps (Ok (Roads.Road p)) f found samples behind = refl
+  road_keeps (Ok (Roads.Need key)) f found samples behind = refl
+  road_keeps (Ok Roads.Rematch) f found samples behind = refl
+  road_keeps (Err k) f found samples behind = by (eqb (number_of k) 10)
     where
       by : (t : Bool) → Keeps (cond t (record { held = with_matcher d Matching.reset; shown = Shows.again 10 Matching.reset }) (stuck d))
       by true = refl
       by false = refl
 
-  current_keeps : (x : Current) (f : Fix) → Keeps (current_worked at made P x d f)
-  current_keeps Current.Nothing f = refl
-  current_keeps (Current.Is found) f = let r = road_held at made P found in road_keeps r.answer f found r.samples r.behind
+  current_keeps : (x : Option Matched) (f : Fix) → Keeps (current_worked at made P x d f)
+  current_keeps None f = refl
+  current_keeps (Some found) f = let r = road_held at made P found in road_keeps r.answer f found r.samples r.behind
 
   key_keeps : (x : Option TileKey) (f : Fix) → Keeps (key_worked at made P x d f)
   key_keeps (Some key) f = current_keeps d.matcher.current f
@@ -110,9 +110,9 @@ module _ (at : Lookup) (made : Made) (P : List ℕ) (d : Held) where
       at_fix f false true = key_keeps (key_of (header_of P) f.lat f.lon) f
       at_fix f false false = refl
 
-      by : (x : MaybeFix) → Keeps (step_worked_by at made P x t d)
-      by MaybeFix.Nothing = refl
-      by (MaybeFix.Is f) = at_fix f t.match t.road
+      by : (x : Option Fix) → Keeps (step_worked_by at made P x t d)
+      by None = refl
+      by (Some f) = at_fix f t.match t.road
 
 fixed_last : (d : Held) (f : Fix) → (fixed d f).last ≡ d.last
 fixed_last d f = by (Fixes.is_same_place d.sight.fix f)
@@ -161,39 +161,39 @@ module _ (e : Engine) (arena : List ℕ) where
       by true m = refl
       by false m = refl
 
-  match_leaves : (f : Fix) (x : MatchOutcome.Outcome) → (match_of e arena f).answer ≡ x
+  match_leaves : (f : Fix) (x : Result MatchOutcome.Outcome Refusal) → (match_of e arena f).answer ≡ x
       → let n = (match_ended_by x e f₁ f (match_of e arena f)).engine in Leaves (match_shown x e n) n
   unfolding Work.matched without_match
-  match_leaves f (Match.Found m) q = by (match_of e arena f).matcher.current (made_current e arena f (Match.Found m) q refl)
+  match_leaves f (Ok (Match.Found m)) q = by (match_of e arena f).matcher.current (made_current e arena f (Ok (Match.Found m)) q refl)
     where
-      by : (c : Current) → Gather.outcome c ≡ Match.Found m → (Work.matched_by c f₁ (match_of e arena f).matcher f).ahead.matched ≡ a₁.matched
-      by Current.Nothing z = let o : ◌≡◌ {A = ℕ} 0 1 = cc in absurd (omega arith)
-      by (Current.Is g) z = refl
-  match_leaves f Match.Nothing q = by (match_of e arena f).matcher.current (made_current e arena f Match.Nothing q refl) (is_matched a₁.matched) refl
+      by : (c : Option Matched) → Gather.outcome c ≡ Ok (Match.Found m) → (Work.matched_by c f₁ (match_of e arena f).matcher f).ahead.matched ≡ a₁.matched
+      by None z = let o : ◌≡◌ {A = ℕ} 0 1 = cc in absurd (omega arith)
+      by (Some g) z = refl
+  match_leaves f (Ok Match.Nothing) q = by (match_of e arena f).matcher.current (made_current e arena f (Ok Match.Nothing) q refl) (is_matched a₁.matched) refl
     where
-      by : (c : Current) → Gather.outcome c ≡ Match.Nothing → (t : Bool) → is_matched a₁.matched ≡ t
+      by : (c : Option Matched) → Gather.outcome c ≡ Ok Match.Nothing → (t : Bool) → is_matched a₁.matched ≡ t
           → let g = Work.matched_by c f₁ (match_of e arena f).matcher f in
           g.ahead.matched ≡ kept_of (cond t (Shows.unmatched g.matcher (Shows.road_of g.ahead)) (Shows.matched g.matcher)) a₁.matched
-      by Current.Nothing z true r = ap (λ (t : Bool). (cond t (without_match a₁ f.at_ms End.Uncertain) a₁).matched) r
-      by Current.Nothing z false r = ap (λ (t : Bool). (cond t (without_match a₁ f.at_ms End.Uncertain) a₁).matched) r
-      by (Current.Is g) z t r = let o : ◌≡◌ {A = ℕ} 0 1 = cc in absurd (omega arith)
-  match_leaves f (Match.Need key) q = ap (λ (a : Ahead). a.matched) (match_asks_lem f₁ (match_of e arena f).cache.pages.count key).ahead
-  match_leaves f (Match.Refused number) q = refl
+      by None z true r = ap (λ (t : Bool). (cond t (without_match a₁ f.at_ms End.Uncertain) a₁).matched) r
+      by None z false r = ap (λ (t : Bool). (cond t (without_match a₁ f.at_ms End.Uncertain) a₁).matched) r
+      by (Some g) z t r = let o : ◌≡◌ {A = ℕ} 0 1 = cc in absurd (omega arith)
+  match_leaves f (Ok (Match.Need key)) q = ap (λ (a : Ahead). a.matched) (match_asks_lem f₁ (match_of e arena f).cache.pages.count key).ahead
+  match_leaves f (Err number) q = refl
 
-  road_leaves : (f : Fix) (found : Matched) (x : RoadOutcome.Outcome) → (road_at e arena found).predicted.answer ≡ x
+  road_leaves : (f : Fix) (found : Matched) (x : Result RoadOutcome.Outcome Refusal) → (road_at e arena found).predicted.answer ≡ x
       → task_remembers (Shows.road f found) e arena ≡ false
       → let n = (road_ended_by x e f₁ f found (road_at e arena found)).engine in Leaves (road_shown x n) n
   unfolding Work.published with_match
-  road_leaves f found (Roads.Road p) q z = refl
-  road_leaves f found (Roads.Need key) q z =
+  road_leaves f found (Ok (Roads.Road p)) q z = refl
+  road_leaves f found (Ok (Roads.Need key)) q z =
       by (may_ask e.follower.due (road_at e arena found).predicted.cache.pages.count) (rw q at z)
     where
       by : (t : Bool) → not t ≡ false
           → (cond t (Work.with_due f₁ (Work.asking f₁.due key (f₁.due.reloads + 1))) (Work.published f₁ a₁ f found Work.no_road)).ahead.matched ≡ a₁.matched
       by true y = refl
       by false y = absurd (true≢false y)
-  road_leaves f found Roads.Rematch q z = refl
-  road_leaves f found (Roads.Refused number) q z = by (eqb number 10) _ _ refl refl _
+  road_leaves f found (Ok Roads.Rematch) q z = refl
+  road_leaves f found (Err number) q z = by (eqb (number_of number) 10) _ _ refl refl _
     where
       by : (t : Bool) (x y : Stepped) → x.engine.follower.ahead.matched ≡ a₁.matched → y.engine.follower.ahead.matched ≡ a₁.matched
           → (m : Matcher) → (cond t x y).engine.follower.ahead.matched ≡ kept_of (cond t (Shows.again 10 m) Shows.nothing) a₁.matched
@@ -217,7 +217,7 @@ module _ (e : Engine) (arena : List ℕ) where
   step_leaves z = by (engine_ok e (length arena)) refl
     where
       left : Bool → Stepped
-      left t = cond t (stepped e arena) (refused e 12)
+      left t = cond t (stepped e arena) (refused e Refusal.BadState)
 
       by : (t : Bool) → engine_ok e (length arena) ≡ t → Leaves (cond t (task_shown (task_of e) e arena (left t).engine) Shows.nothing) (left t).engine
       by true ok = steps_leave (step_is e arena ok) z
@@ -310,7 +310,7 @@ module _ (at : Lookup) (n : ℕ) (horizon : Float) (answers : Answers n at) (P :
   fix_last f = by (engine_ok e₁ (length w.arena)) (is_point f.lat f.lon)
     where
       left : Bool → Bool → Changed
-      left s t = cond s (cond t (followed e₁ (Followers.fixed e₁.follower f)) (unchanged e₁ 8)) (unchanged e₁ 12)
+      left s t = cond s (cond t (followed e₁ (Followers.fixed e₁.follower f)) (unchanged e₁ Refusal.OutOfRange)) (unchanged e₁ Refusal.BadState)
 
       kept : (Followers.fixed e₁.follower f).ahead ≡ e₁.follower.ahead
       kept = same (Fixes.is_same_place e₁.follower.sight.fix f) _ refl
@@ -319,7 +319,7 @@ module _ (at : Lookup) (n : ℕ) (horizon : Float) (answers : Answers n at) (P :
           same true g q = refl
           same false g q = q
 
-      by : (s t : Bool) → last_of (settled (is_fetching (left s t).engine) (cond (not (eqb (number_of_taken (left s t).answer) 0)) d (queued d (a_fix f))))
+      by : (s t : Bool) → last_of (settled (is_fetching (left s t).engine) (cond (not (eqb (number_of_result (left s t).answer) 0)) d (queued d (a_fix f))))
           ≡ (left s t).engine.follower.ahead.matched
       by true true =
           received_last (is_fetching e₁) (a_fix f) ∙ fixed_last (applied d.waiting d.held) f ∙ is ∙ sym (ap (λ (a : Ahead). a.matched) kept)
@@ -331,13 +331,13 @@ module _ (at : Lookup) (n : ℕ) (horizon : Float) (answers : Answers n at) (P :
   lost_last = by (engine_ok e₁ (length w.arena))
     where
       left : Bool → Changed
-      left t = cond t (followed e₁ (Followers.lost e₁.follower)) (unchanged e₁ 12)
+      left t = cond t (followed e₁ (Followers.lost e₁.follower)) (unchanged e₁ Refusal.BadState)
 
-      gone : (a : Ahead) (x : Current) → a.matched ≡ x → Current.Nothing ≡ (cond (is_matched x) (Publish.forgotten a) a).matched
-      gone a Current.Nothing q = sym q
-      gone a (Current.Is m) q = refl
+      gone : (a : Ahead) (x : Option Matched) → a.matched ≡ x → None ≡ (cond (is_matched x) (Publish.forgotten a) a).matched
+      gone a None q = sym q
+      gone a (Some m) q = refl
 
-      by : (t : Bool) → last_of (settled (is_fetching (left t).engine) (cond (not (eqb (number_of_taken (left t).answer) 0)) d (queued d a_loss)))
+      by : (t : Bool) → last_of (settled (is_fetching (left t).engine) (cond (not (eqb (number_of_result (left t).answer) 0)) d (queued d a_loss)))
           ≡ (left t).engine.follower.ahead.matched
       by true = received_last (is_fetching e₁) a_loss ∙ gone e₁.follower.ahead e₁.follower.ahead.matched refl
       by false = quiet_last (is_fetching e₁) e₁ refl
@@ -347,10 +347,10 @@ module _ (at : Lookup) (n : ℕ) (horizon : Float) (answers : Answers n at) (P :
   reset_last Q = by (engine_ok e₁ (length w.arena))
     where
       left : Bool → Changed
-      left t = cond t (States.forgotten e₁) (unchanged e₁ 12)
+      left t = cond t (States.forgotten e₁) (unchanged e₁ Refusal.BadState)
 
       told : Bool → Told
-      told t = record { refused = not (eqb (number_of_taken (left t).answer) 0); fetching = is_fetching (left t).engine; match = false; road = false }
+      told t = record { refused = not (eqb (number_of_result (left t).answer) 0); fetching = is_fetching (left t).engine; match = false; road = false }
 
       by : (t : Bool) → last_of (cleared (told t) d).direct ≡ (left t).engine.follower.ahead.matched
       by true = refl
@@ -400,7 +400,7 @@ off_road w f ok task = rw (ok, task) (by (is_matched w.engine.follower.ahead.mat
     by false m r = refl
 
 none_road : (w : World) (f : Fix) → engine_ok w.engine (length w.arena) ≡ true → task_of w.engine ≡ Shows.match f
-    → (match_of w.engine w.arena f).answer ≡ Match.Nothing
+    → (match_of w.engine w.arena f).answer ≡ Ok Match.Nothing
     → is_road (step_shown w.engine w.arena) ≡ is_matched w.engine.follower.ahead.matched
 unfolding step_shown
 none_road w f ok task none = rw (ok, task, none) (by (is_matched w.engine.follower.ahead.matched) _ _ _)

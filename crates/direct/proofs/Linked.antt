@@ -1,6 +1,9 @@
 -- The direct engine beside a follower, call by call: what it holds, with what waits done, is what the follower sees and matches, and nothing waits where no
 -- fetch is open (`Linked`). Each call shows what the direct engine works out of it (`turn_alike`). What is shared is asked for by itself (`SharedFits`), and of
 -- another follower over it whose turn the call was not the link stands (`others_linked`).
+use Rattle.refusal.specs.declared.Refusal.{Refusal}
+use Rattle.std.specs.Prelude.{Option, Some, None, Result, Ok, Err}
+use Rattle.refusal.specs.Refusal.{number_of, number_of_result}
 use Prim.Native.Nat.{ℕ}
 use mathlib.Core.Path.{◌≡◌, refl, sym, ap, subst, ◌∙◌}
 use mathlib.Core.Bool.{Bool, true, false, ◌&&◌, not, cond, true≢false}
@@ -18,7 +21,6 @@ use Rattle.cache.specs.Direct.{Look, look}
 use Rattle.cache.specs.State.{cache_ok}
 use Rattle.cache.specs.declared.Pending.{Pending}
 use Rattle.cache_lists.specs.Claims.{Parsed}
-use Rattle.matcher.specs.declared.Current.{Current}
 use Rattle.matcher.specs.declared.Heading.{Heading}
 use Rattle.matcher.specs.declared.Kept.{Kept}
 use Rattle.matcher.specs.declared.Matched.{Matched}
@@ -54,7 +56,7 @@ use Rattle.engine.specs.declared.Status.{Status}
 use Rattle.engine.specs.declared.Stepped.{Stepped}
 use Rattle.cache_lists.proofs.Same.{header_is}
 use Rattle.direct.specs.Lists as Calls
-use Rattle.direct.specs.Lists.{World, Call, number_of_taken, number, exec}
+use Rattle.direct.specs.Lists.{World, Call, number, exec}
 use Rattle.direct.specs.Finished.{Shown, nothing, updated, predicted, is_match, is_road, Task, none, off_map, match, road, open_task, task_of, match_of, road_at, task_shown, step_shown, update_shown, predict_shown, shown}
 use Rattle.direct.specs.Direct.{Told, Lookup, Held, fixed, lost_held, Worked, idle, or_unanswered, step_worked, update_worked, predict_worked, worked, Waiting, a_fix, a_loss, Direct, acted, applied, queued, settled, cleared, turned, pack_after, direct_exec}
 use Rattle.direct.specs.Claims.{is_fetching, told_of, made_of, Answers, Fair}
@@ -92,7 +94,7 @@ applied_more (y ∷ xs) x d = applied_more xs x (acted y d)
 -- ---- fixes and losses
 
 -- the held state of a follower
-abbrev held_of : Follower → Current → Held
+abbrev held_of : Follower → Option Matched → Held
 held_of g last = record { sight = g.sight; matcher = g.matcher; last = last }
 
 pub held_is : (d : Held) (g : Follower) → d.sight ≡ g.sight → d.matcher ≡ g.matcher → d ≡ held_of g d.last
@@ -103,7 +105,7 @@ pub record Follows (d : Held) (g : Follower) : Type 0 where
   pub sight : d.sight ≡ g.sight
   pub matcher : d.matcher ≡ g.matcher
 
-fixed_of : (g : Follower) (last : Current) (f : Fix) → Follows (fixed (held_of g last) f) (Followers.fixed g f)
+fixed_of : (g : Follower) (last : Option Matched) (f : Fix) → Follows (fixed (held_of g last) f) (Followers.fixed g f)
 unfolding Followers.fixed
 fixed_of g last f = by (Fixes.is_same_place g.sight.fix f) _ _ _ _ (record { sight = refl; matcher = refl }) (record { sight = refl; matcher = refl })
   where
@@ -174,22 +176,22 @@ either_answer : (t : Bool) (x y : Stepped) → is_fetch x.answer ≡ false → i
 either_answer true x y p q = p
 either_answer false x y p q = q
 
-match_answers : (x : MatchOutcome.Outcome) (e : Engine) (f : Follower) (p : Fix) (u : Updated) → is_fetch (match_ended_by x e f p u).answer ≡ false
-match_answers (Match.Found m) e f p u = refl
-match_answers Match.Nothing e f p u = refl
-match_answers (Match.Need key) e f p u = by (may_ask f.due u.cache.pages.count)
+match_answers : (x : Result MatchOutcome.Outcome Refusal) (e : Engine) (f : Follower) (p : Fix) (u : Updated) → is_fetch (match_ended_by x e f p u).answer ≡ false
+match_answers (Ok (Match.Found m)) e f p u = refl
+match_answers (Ok Match.Nothing) e f p u = refl
+match_answers (Ok (Match.Need key)) e f p u = by (may_ask f.due u.cache.pages.count)
   where
-    by : (t : Bool) → is_fetch (cond t Status.Working Status.Idle) ≡ false
+    by : (t : Bool) → is_fetch (cond t (Ok Status.Working) (Ok Status.Idle)) ≡ false
     by true = refl
     by false = refl
-match_answers (Match.Refused number) e f p u = refl
+match_answers (Err number) e f p u = refl
 
-road_answers : (x : RoadOutcome.Outcome) (e : Engine) (f : Follower) (p : Fix) (found : Matched) (r : Predict.After)
+road_answers : (x : Result RoadOutcome.Outcome Refusal) (e : Engine) (f : Follower) (p : Fix) (found : Matched) (r : Predict.After)
     → is_fetch (road_ended_by x e f p found r).answer ≡ false
-road_answers (Roads.Road y) e f p found r = refl
-road_answers (Roads.Need key) e f p found r = refl
-road_answers Roads.Rematch e f p found r = refl
-road_answers (Roads.Refused number) e f p found r = either_answer (eqb number 10) _ _ refl refl
+road_answers (Ok (Roads.Road y)) e f p found r = refl
+road_answers (Ok (Roads.Need key)) e f p found r = refl
+road_answers (Ok Roads.Rematch) e f p found r = refl
+road_answers (Err number) e f p found r = either_answer (eqb (number_of number) 10) _ _ refl refl
 
 work_answers : {e : Engine} {arena : List ℕ} {x : Task} {s : Stepped} → Steps e arena x s → is_none x ≡ false → is_fetch s.answer ≡ false
 work_answers (Ways.repeats o) q = absurd (true≢false q)
@@ -208,39 +210,39 @@ pub record Silent (e : Engine) (arena : List ℕ) : Type 0 where
   pub shows : step_shown e arena ≡ nothing
   pub keeps : Same e.follower (Engines.step e arena).engine.follower
 
-pub fetch_silent : (e : Engine) (arena : List ℕ) {offset len : ℕ} → (Engines.step e arena).answer ≡ Status.Fetch offset len → Silent e arena
+pub fetch_silent : (e : Engine) (arena : List ℕ) {offset len : ℕ} → (Engines.step e arena).answer ≡ Ok (Status.Fetch offset len) → Silent e arena
 unfolding step_shown Engines.step
 fetch_silent e arena {offset} {len} q = record { shows = shows (engine_ok e (length arena)) refl q; keeps = keeps (engine_ok e (length arena)) refl q }
   where
     left : Bool → Stepped
-    left t = cond t (stepped e arena) (refused e 12)
+    left t = cond t (stepped e arena) (refused e Refusal.BadState)
 
-    asks_none : engine_ok e (length arena) ≡ true → (stepped e arena).answer ≡ Status.Fetch offset len → is_none (task_of e) ≡ true
+    asks_none : engine_ok e (length arena) ≡ true → (stepped e arena).answer ≡ Ok (Status.Fetch offset len) → is_none (task_of e) ≡ true
     asks_none ok a = by (is_none (task_of e)) refl
       where
         by : (t : Bool) → is_none (task_of e) ≡ t → is_none (task_of e) ≡ true
         by true r = r
         by false r = absurd (true≢false (sym (ap is_fetch a) ∙ work_answers (step_is e arena ok) r))
 
-    shows : (t : Bool) → engine_ok e (length arena) ≡ t → (left t).answer ≡ Status.Fetch offset len → cond t (task_shown (task_of e) e arena (left t).engine) nothing ≡ nothing
+    shows : (t : Bool) → engine_ok e (length arena) ≡ t → (left t).answer ≡ Ok (Status.Fetch offset len) → cond t (task_shown (task_of e) e arena (left t).engine) nothing ≡ nothing
     shows true ok a = none_shows (task_of e) e arena (stepped e arena).engine (asks_none ok a)
     shows false ok a = refl
 
-    keeps : (t : Bool) → engine_ok e (length arena) ≡ t → (left t).answer ≡ Status.Fetch offset len → Same e.follower (left t).engine.follower
+    keeps : (t : Bool) → engine_ok e (length arena) ≡ t → (left t).answer ≡ Ok (Status.Fetch offset len) → Same e.follower (left t).engine.follower
     keeps true ok a = none_keeps (step_is e arena ok) (asks_none ok a)
     keeps false ok a = same_self e.follower
 
 -- a match over a lookup is refused with 12 alone
-only_twelve : (at : TileKey → Look) (m : Matcher) (h : Header) (p : Point) (heading : Heading) (k : ℕ)
-    → (Gather.update_over at m h p heading).answer ≡ Match.Refused k → k ≡ 12
+only_twelve : (at : TileKey → Look) (m : Matcher) (h : Header) (p : Point) (heading : Heading) (k : Refusal)
+    → (Gather.update_over at m h p heading).answer ≡ Err k → k ≡ Refusal.BadState
 unfolding Gather.update_over
 only_twelve at m h p heading k = let r = Gather.run_over at m h p heading in by r.end r.kept
   where
-    found : (c : Current) → Gather.outcome c ≡ Match.Refused k → k ≡ 12
-    found Current.Nothing q = let z : ◌≡◌ {A = ℕ} 0 1 = cc in absurd (omega arith)
-    found (Current.Is f) q = let z : ◌≡◌ {A = ℕ} 0 1 = cc in absurd (omega arith)
+    found : (c : Option Matched) → Gather.outcome c ≡ Err k → k ≡ Refusal.BadState
+    found None q = let z : ◌≡◌ {A = ℕ} 0 1 = cc in absurd (omega arith)
+    found (Some f) q = let z : ◌≡◌ {A = ℕ} 0 1 = cc in absurd (omega arith)
 
-    by : (end : Ending) (kept : Kept) → (Gather.matching_by end kept m heading).answer ≡ Match.Refused k → k ≡ 12
+    by : (end : Ending) (kept : Kept) → (Gather.matching_by end kept m heading).answer ≡ Err k → k ≡ Refusal.BadState
     by Ending.All kept q = found (Gather.matching_by Ending.All kept m heading).matcher.current q
     by (Ending.Need key) kept q = let z : ◌≡◌ {A = ℕ} 0 1 = cc in absurd (omega arith)
     by Ending.Stale kept q = cc
@@ -260,13 +262,13 @@ module _ (at : Lookup) (n : ℕ) (horizon : Float) (P : List ℕ) (w : World) (d
   fix_alike f = record { shown = refl; linked = linked (engine_ok e₁ (length w.arena)) (is_point f.lat f.lon) }
     where
       left : Bool → Bool → Changed
-      left s t = cond s (cond t (followed e₁ (Followers.fixed e₁.follower f)) (unchanged e₁ 8)) (unchanged e₁ 12)
+      left s t = cond s (cond t (followed e₁ (Followers.fixed e₁.follower f)) (unchanged e₁ Refusal.OutOfRange)) (unchanged e₁ Refusal.BadState)
 
       follows : Follows (acted (a_fix f) (applied d.waiting d.held)) (Followers.fixed e₁.follower f)
       follows = fixed_follows (applied d.waiting d.held) e₁.follower f l.sight l.matcher
 
       linked : (s t : Bool)
-          → Linked (settled (is_fetching (left s t).engine) (cond (not (eqb (number_of_taken (left s t).answer) 0)) d (queued d (a_fix f))))
+          → Linked (settled (is_fetching (left s t).engine) (cond (not (eqb (number_of_result (left s t).answer) 0)) d (queued d (a_fix f))))
           (is_fetching (left s t).engine) (left s t).engine.follower
       linked true true = received_linked d (is_fetching e₁) e₁.follower (a_fix f) (Followers.fixed e₁.follower f) l follows
       linked true false = others_linked d _ (is_fetching e₁) e₁.follower l
@@ -277,9 +279,9 @@ module _ (at : Lookup) (n : ℕ) (horizon : Float) (P : List ℕ) (w : World) (d
   lost_alike = record { shown = refl; linked = linked (engine_ok e₁ (length w.arena)) }
     where
       left : Bool → Changed
-      left t = cond t (followed e₁ (Followers.lost e₁.follower)) (unchanged e₁ 12)
+      left t = cond t (followed e₁ (Followers.lost e₁.follower)) (unchanged e₁ Refusal.BadState)
 
-      linked : (t : Bool) → Linked (settled (is_fetching (left t).engine) (cond (not (eqb (number_of_taken (left t).answer) 0)) d (queued d a_loss)))
+      linked : (t : Bool) → Linked (settled (is_fetching (left t).engine) (cond (not (eqb (number_of_result (left t).answer) 0)) d (queued d a_loss)))
           (is_fetching (left t).engine) (left t).engine.follower
       linked true =
           received_linked d (is_fetching e₁) e₁.follower a_loss (Followers.lost e₁.follower) l
@@ -291,10 +293,10 @@ module _ (at : Lookup) (n : ℕ) (horizon : Float) (P : List ℕ) (w : World) (d
   reset_alike Q = record { shown = refl; linked = linked (engine_ok e₁ (length w.arena)) }
     where
       left : Bool → Changed
-      left t = cond t (forgotten e₁) (unchanged e₁ 12)
+      left t = cond t (forgotten e₁) (unchanged e₁ Refusal.BadState)
 
       told : Bool → Told
-      told t = record { refused = not (eqb (number_of_taken (left t).answer) 0); fetching = is_fetching (left t).engine; match = false; road = false }
+      told t = record { refused = not (eqb (number_of_result (left t).answer) 0); fetching = is_fetching (left t).engine; match = false; road = false }
 
       linked : (t : Bool) → Linked (cleared (told t) d).direct (is_fetching (left t).engine) (left t).engine.follower
       linked true = record { sight = l.sight; matcher = refl; none = λ r. refl }
@@ -381,7 +383,7 @@ module _ (at : Lookup) (n : ℕ) (horizon : Float) (P : List ℕ) (w : World) (d
     step_turn = by (engine_ok e₁ (length w.arena)) refl
       where
         left : Bool → Stepped
-        left t = cond t (stepped e₁ w.arena) (refused e₁ 12)
+        left t = cond t (stepped e₁ w.arena) (refused e₁ Refusal.BadState)
 
         works : engine_ok e₁ (length w.arena) ≡ true → (t : Bool) → is_none (task_of e₁) ≡ t
             → StepTurn (task_shown (task_of e₁) e₁ w.arena (stepped e₁ w.arena).engine) (stepped e₁ w.arena).engine
@@ -429,18 +431,18 @@ module _ (at : Lookup) (n : ℕ) (horizon : Float) (P : List ℕ) (w : World) (d
         works : Shown
         works = let u = Gather.update_over (at P) m h p heading in or_unanswered (update_shown u.answer u.matcher)
 
-        shows : (x : MatchOutcome.Outcome) → v.answer ≡ x → cond (is_match (update_shown x v.matcher)) works nothing ≡ update_shown x v.matcher
-        shows (Match.Found y) q = rw (same (rw q), q)
-        shows Match.Nothing q = rw (same (rw q), q)
-        shows (Match.Need key) q = refl
-        shows (Match.Refused k) q = rw (only_twelve (look e₁.shared.cache w.arena h.tile) m h p heading k q)
+        shows : (x : Result MatchOutcome.Outcome Refusal) → v.answer ≡ x → cond (is_match (update_shown x v.matcher)) works nothing ≡ update_shown x v.matcher
+        shows (Ok (Match.Found y)) q = rw (same (rw q), q)
+        shows (Ok Match.Nothing) q = rw (same (rw q), q)
+        shows (Ok (Match.Need key)) q = refl
+        shows (Err k) q = rw (only_twelve (look e₁.shared.cache w.arena h.tile) m h p heading k q)
 
         left : Bool → Bool → Updated
-        left s t = cond s (cond t (Gather.updated m e₁.shared.cache w.arena h p heading) (Matchers.refused m e₁.shared.cache 8))
-            (Matchers.refused m e₁.shared.cache 12)
+        left s t = cond s (cond t (Gather.updated m e₁.shared.cache w.arena h p heading) (Matchers.refused m e₁.shared.cache Refusal.OutOfRange))
+            (Matchers.refused m e₁.shared.cache Refusal.BadState)
 
         by : (s t : Bool) → (is_point p.lat p.lon && heading_ok heading) ≡ t → cond (is_match (update_shown (left s t).answer (left s t).matcher))
-            (cond (is_point p.lat p.lon && heading_ok heading) works (updated (Match.Refused 8) m)) nothing ≡ update_shown (left s t).answer (left s t).matcher
+            (cond (is_point p.lat p.lon && heading_ok heading) works (updated (Err Refusal.OutOfRange) m)) nothing ≡ update_shown (left s t).answer (left s t).matcher
         by true true q = rw q (shows v.answer refl)
         by true false q = rw q
         by false t q = refl
@@ -465,29 +467,29 @@ module _ (at : Lookup) (n : ℕ) (horizon : Float) (P : List ℕ) (w : World) (d
         works : Shown
         works = let r = Predict.predict_over (at P) n h m reach samples behind in or_unanswered (predict_shown r.answer r.samples r.behind)
 
-        Shows₁ : RoadOutcome.Outcome → Type 0
+        Shows₁ : Result RoadOutcome.Outcome Refusal → Type 0
         Shows₁ x = cond (is_road (predict_shown x v.samples v.behind)) works nothing ≡ predict_shown x v.samples v.behind
 
-        refused_shows : (k : ℕ) (t : Bool) → eqb k 12 ≡ t → v.answer ≡ Roads.Refused k → Shows₁ (Roads.Refused k)
+        refused_shows : (k : Refusal) (t : Bool) → eqb (number_of k) 12 ≡ t → v.answer ≡ Err k → Shows₁ (Err k)
         refused_shows k true q a = rw q
         refused_shows k false q a = rw (q, same (rw (a, q)), a, q)
 
-        shows : (x : RoadOutcome.Outcome) → v.answer ≡ x → Shows₁ x
-        shows (Roads.Road y) q = rw (same (rw q), q)
-        shows (Roads.Need key) q = refl
-        shows Roads.Rematch q = rw (same (rw q), q)
-        shows (Roads.Refused k) q = refused_shows k (eqb k 12) refl q
+        shows : (x : Result RoadOutcome.Outcome Refusal) → v.answer ≡ x → Shows₁ x
+        shows (Ok (Roads.Road y)) q = rw (same (rw q), q)
+        shows (Ok (Roads.Need key)) q = refl
+        shows (Ok Roads.Rematch) q = rw (same (rw q), q)
+        shows (Err k) q = refused_shows k (eqb (number_of k) 12) refl q
 
         left : Bool → Bool → Predict.After
         left s t =
             cond s
             (cond t (Predict.predicted_in e₁.shared.cache w.arena h m reach samples behind)
-            (Predict.untouched (Predict.refused e₁.shared.cache 9) samples behind))
-            (Predict.untouched (Predict.refused e₁.shared.cache 12) samples behind)
+            (Predict.untouched (Predict.refused e₁.shared.cache Refusal.OutsideGrid) samples behind))
+            (Predict.untouched (Predict.refused e₁.shared.cache Refusal.BadState) samples behind)
 
         by : (s t : Bool) → in_grid h m.tile.key ≡ t
             → cond (is_road (predict_shown (left s t).predicted.answer (left s t).samples (left s t).behind))
-            (cond (in_grid h m.tile.key) works (predicted (Roads.Refused 9) [] [])) nothing
+            (cond (in_grid h m.tile.key) works (predicted (Err Refusal.OutsideGrid) [] [])) nothing
             ≡ predict_shown (left s t).predicted.answer (left s t).samples (left s t).behind
         by true true q = rw q (shows v.answer refl)
         by true false q = rw q

@@ -1,6 +1,8 @@
 -- Under the premises, with an arena as long as its pages, no call is refused with 12 but for a matcher that the caller gives, and a step's road ends neither
 -- by 6 nor by 10. The idea: what is ready holds what the pack has, so it passes; and the current match was found in a tile of the pack.
-use Rattle.std.specs.Prelude.{Option, Some, None}
+use Rattle.refusal.specs.declared.Refusal.{Refusal}
+use Rattle.refusal.specs.Refusal.{number_of, number_of_result}
+use Rattle.std.specs.Prelude.{Result, Ok, Err, Option, Some, None}
 use Rattle.cache.specs.declared.Loading.{Loading}
 use Prim.Native.Nat.{ℕ, ◌*◌, ◌<◌, ◌≤◌}
 use mathlib.Core.Path.{◌≡◌, refl, sym, ap, subst, ◌∙◌}
@@ -29,7 +31,6 @@ use Rattle.cache_lists.specs.Claims.{Parsed}
 use Rattle.cache_lists.proofs.Lookups.{LandingIs, landing, next_is}
 use Rattle.cache_lists.proofs.Kept.{Kept}
 use Rattle.cache_lists.proofs.Same.{header_is, kept_passes, given, parsed_rules}
-use Rattle.matcher.specs.declared.Current.{Current}
 use Rattle.matcher.specs.declared.Heading.{Heading}
 use Rattle.matcher.specs.declared.Kept as Keeping
 use Rattle.matcher.specs.declared.Matched.{Matched}
@@ -61,7 +62,8 @@ use Rattle.engine.specs.declared.Status.{Status}
 use Rattle.engine.specs.declared.Stepped.{Stepped}
 use Rattle.engine_states.proofs.MatcherKept.{look_accepted}
 use Rattle.engine_states.proofs.RoadBounds.{road_not_stale}
-use Rattle.direct.specs.Lists.{World, number_of_status}
+use Rattle.direct.proofs.OneNumber.{bad_start, bad_state}
+use Rattle.direct.specs.Lists.{World}
 use Rattle.direct.specs.Finished as Shows
 use Rattle.direct.specs.Finished.{Shown, Task, match_of, road_at, match_shown, road_shown, task_shown}
 use Rattle.direct.specs.Direct.{header_of, directly}
@@ -117,16 +119,16 @@ module _ (at : TileKey → Look) (fresh : (key : TileKey) → at key ≡ stale �
         up_keeps (λ (r : Run) (i : ℕ). run_step r.end (key_at near i) at r q) no_run Fresh k (λ z. let y : ◌≡◌ {A = ℕ} 0 1 = cc in omega arith)
         (λ (i : ℕ) (below : i < k) (r : Run). step_fresh r.end (key_at near i) r)
 
-  pub match_accepted : (m : Matcher) (h : Header) (fix : Point) (heading : Heading) (k : ℕ) → (Gather.update_over at m h fix heading).answer ≡ Match.Refused k → ⊥
+  pub match_accepted : (m : Matcher) (h : Header) (fix : Point) (heading : Heading) (k : Refusal) → (Gather.update_over at m h fix heading).answer ≡ Err k → ⊥
   unfolding Gather.update_over
   match_accepted m h fix heading k e =
       let r = run_over at m h fix heading in by r.end r.kept (run_fresh (query_of m h fix heading) (near_of h fix) 4) e
     where
-      some : (x : Current) → Gather.outcome x ≡ Match.Refused k → ⊥
-      some Current.Nothing e = let y : ◌≡◌ {A = ℕ} 0 1 = cc in omega arith
-      some (Current.Is f) e = let y : ◌≡◌ {A = ℕ} 0 1 = cc in omega arith
+      some : (x : Option Matched) → Gather.outcome x ≡ Err k → ⊥
+      some None e = let y : ◌≡◌ {A = ℕ} 0 1 = cc in omega arith
+      some (Some f) e = let y : ◌≡◌ {A = ℕ} 0 1 = cc in omega arith
 
-      by : (end : Ending) (s : Keeping.Kept) → (end ≡ Ending.Stale → ⊥) → (Gather.matching_by end s m heading).answer ≡ Match.Refused k → ⊥
+      by : (end : Ending) (s : Keeping.Kept) → (end ≡ Ending.Stale → ⊥) → (Gather.matching_by end s m heading).answer ≡ Err k → ⊥
       by Ending.All s f e = some (Settle.matched m s heading).current e
       by (Ending.Need key) s f e = let y : ◌≡◌ {A = ℕ} 0 1 = cc in omega arith
       by Ending.Stale s f e = f refl
@@ -134,12 +136,12 @@ module _ (at : TileKey → Look) (fresh : (key : TileKey) → at key ≡ stale �
 -- ---- the match that a match leaves was found, or there before
 
 matcher_within : (at : TileKey → Look) (m : Matcher) (h : Header) → Accepted at h → (fix : Point) (heading : Heading) (f : Matched)
-    → (Gather.update_over at m h fix heading).matcher.current ≡ Current.Is f → FoundIn at h f ⊎ (m.current ≡ Current.Is f)
+    → (Gather.update_over at m h fix heading).matcher.current ≡ Some f → FoundIn at h f ⊎ (m.current ≡ Some f)
 unfolding Gather.update_over
 matcher_within at m h accepted fix heading f e = by (run_over at m h fix heading).end (run_over at m h fix heading).kept refl refl e
   where
     by : (end : Ending) (k : Keeping.Kept) → (run_over at m h fix heading).end ≡ end → (run_over at m h fix heading).kept ≡ k
-        → (Gather.matching_by end k m heading).matcher.current ≡ Current.Is f → FoundIn at h f ⊎ (m.current ≡ Current.Is f)
+        → (Gather.matching_by end k m heading).matcher.current ≡ Some f → FoundIn at h f ⊎ (m.current ≡ Some f)
     by Ending.All k q r e = update_within at m h accepted fix heading f (rw (q, r) (ap Gather.outcome e))
     by (Ending.Need key) k q r e = inr e
     by Ending.Stale k q r e = inr e
@@ -160,7 +162,7 @@ is_again Shows.unanswered = false
 
 -- the current match was found in a tile of the pack
 abbrev pub CurrentFits : List ℕ → ℕ → Matcher → Type 0
-CurrentFits P n m = (f : Matched) → m.current ≡ Current.Is f → FoundIn (directly n P) (header_of P) f
+CurrentFits P n m = (f : Matched) → m.current ≡ Some f → FoundIn (directly n P) (header_of P) f
 
 pub record Stays (P : List ℕ) (n : ℕ) (horizon : Float) (w : World) : Type 0 where
   pub fit : Fit P n horizon w
@@ -209,7 +211,7 @@ module _ (P : List ℕ) (n : ℕ) (horizon : Float) (w : World) (s : Stays P n h
         ⊎_elim (found_direct f) (fits f) (matcher_within (look c₁ w.arena h₁.tile) m h₁ (look_accepted c₁ w.arena h₁) p heading f e)
 
     -- the start of a road is where it was found
-    module _ (found : Matched) (is : e₁.follower.matcher.current ≡ Current.Is found) where
+    module _ (found : Matched) (is : e₁.follower.matcher.current ≡ Some found) where
       start_in : FoundIn (directly n P) (header_of P) found
       start_in = s.found found is
 
@@ -228,17 +230,17 @@ module _ (P : List ℕ) (n : ℕ) (horizon : Float) (w : World) (s : Stays P n h
       road_there =
           Predict.predict_over (look c₁ w.arena h₁.tile) c₁.pages.count h₁ found e₁.follower.horizon_m (replicate 501 (pos 0)) (replicate 11 (pos 0))
 
-      not_6 : road_there.answer ≡ Roads.Rematch → ⊥
+      not_6 : road_there.answer ≡ Ok Roads.Rematch → ⊥
       not_6 =
           road_not_rematch (look c₁ w.arena h₁.tile) c₁.pages.count h₁ found e₁.follower.horizon_m (replicate 501 (pos 0)) (replicate 11 (pos 0))
           start_in.bytes start_in.within present same_bytes
 
-      not_10 : road_there.answer ≡ Roads.Refused 10 → ⊥
+      not_10 : road_there.answer ≡ Err Refusal.BadStart → ⊥
       not_10 =
           road_start_fits (look c₁ w.arena h₁.tile) c₁.pages.count h₁ found e₁.follower.horizon_m (replicate 501 (pos 0)) (replicate 11 (pos 0))
           start_in.bytes start_in.within present same_bytes
 
-      not_12 : road_there.answer ≡ Roads.Refused 12 → ⊥
+      not_12 : road_there.answer ≡ Err Refusal.BadState → ⊥
       not_12 =
           road_not_stale (look c₁ w.arena h₁.tile) fresh_look c₁.pages.count h₁ found e₁.follower.horizon_m (replicate 501 (pos 0))
           (replicate 11 (pos 0))
@@ -246,47 +248,47 @@ module _ (P : List ℕ) (n : ℕ) (horizon : Float) (w : World) (s : Stays P n h
   -- ---- what a step answers, shows and leaves
 
   -- an open fetch is one that the state makes
-  open_number : is_open c₁.pending ≡ true → number_of_status (open_read e₁) ≡ 12 → ⊥
+  open_number : is_open c₁.pending ≡ true → number_of_result (open_read e₁) ≡ 12 → ⊥
   open_number o z = by c₁.pending refl o z
     where
-      loads : (x : Option Loading) → wants_chunk_of x c₁ ≡ true → number_of_status (chunk_request x) ≡ 12 → ⊥
+      loads : (x : Option Loading) → wants_chunk_of x c₁ ≡ true → number_of_result (chunk_request x) ≡ 12 → ⊥
       loads None q z = true≢false (sym q)
       loads (Some l) q z = omega arith
 
-      by : (x : Pending) → c₁.pending ≡ x → is_open x ≡ true → number_of_status (request_of e₁.shared x) ≡ 12 → ⊥
+      by : (x : Pending) → c₁.pending ≡ x → is_open x ≡ true → number_of_result (request_of e₁.shared x) ≡ 12 → ⊥
       by Pending.Nothing q o z = true≢false (sym o)
       by Pending.Header q o z = omega arith
       by (Pending.Entry key) q o z = omega arith
       by Pending.Chunk q o z = loads c₁.loading (open_fits e₁ w.arena s.ok Pending.Chunk q) z
 
-  either_number : (t : Bool) (x y : Stepped) → (number_of_status x.answer ≡ 12 → ⊥) → (number_of_status y.answer ≡ 12 → ⊥) → number_of_status (cond t x y).answer ≡ 12 → ⊥
+  either_number : (t : Bool) (x y : Stepped) → (number_of_result x.answer ≡ 12 → ⊥) → (number_of_result y.answer ≡ 12 → ⊥) → number_of_result (cond t x y).answer ≡ 12 → ⊥
   either_number true x y p q = p
   either_number false x y p q = q
 
-  match_number : (f : Fix) (x : MatchOutcome.Outcome) → e₁.shared.phase ≡ Phase.Ready → (match_of e₁ w.arena f).answer ≡ x
-      → number_of_status (match_ended_by x e₁ (counted e₁.follower) f (match_of e₁ w.arena f)).answer ≡ 12 → ⊥
+  match_number : (f : Fix) (x : Result MatchOutcome.Outcome Refusal) → e₁.shared.phase ≡ Phase.Ready → (match_of e₁ w.arena f).answer ≡ x
+      → number_of_result (match_ended_by x e₁ (counted e₁.follower) f (match_of e₁ w.arena f)).answer ≡ 12 → ⊥
   unfolding Gather.updated
-  match_number f (Match.Found m) r q z = omega arith
-  match_number f Match.Nothing r q z = omega arith
-  match_number f (Match.Need key) r q z = by (may_ask (counted e₁.follower).due _) z
+  match_number f (Ok (Match.Found m)) r q z = omega arith
+  match_number f (Ok Match.Nothing) r q z = omega arith
+  match_number f (Ok (Match.Need key)) r q z = by (may_ask (counted e₁.follower).due _) z
     where
-      by : (t : Bool) → number_of_status (cond t Status.Working Status.Idle) ≡ 12 → ⊥
+      by : (t : Bool) → number_of_result (cond t (Ok Status.Working) (Ok Status.Idle)) ≡ 12 → ⊥
       by true z = omega arith
       by false z = omega arith
-  match_number f (Match.Refused k) r q z = match_accepted (look c₁ w.arena h₁.tile) (fresh_look r) e₁.follower.matcher h₁ _ _ k q
+  match_number f (Err k) r q z = match_accepted (look c₁ w.arena h₁.tile) (fresh_look r) e₁.follower.matcher h₁ _ _ k q
 
-  road_number : (f : Fix) (found : Matched) (x : RoadOutcome.Outcome) → e₁.shared.phase ≡ Phase.Ready → e₁.follower.matcher.current ≡ Current.Is found
+  road_number : (f : Fix) (found : Matched) (x : Result RoadOutcome.Outcome Refusal) → e₁.shared.phase ≡ Phase.Ready → e₁.follower.matcher.current ≡ Some found
       → (road_at e₁ w.arena found).predicted.answer ≡ x
-      → number_of_status (road_ended_by x e₁ (counted e₁.follower) f found (road_at e₁ w.arena found)).answer ≡ 12 → ⊥
+      → number_of_result (road_ended_by x e₁ (counted e₁.follower) f found (road_at e₁ w.arena found)).answer ≡ 12 → ⊥
   unfolding Predict.predicted_in
-  road_number f found (Roads.Road p) r c q z = omega arith
-  road_number f found (Roads.Need key) r c q z = omega arith
-  road_number f found Roads.Rematch r c q z = omega arith
-  road_number f found (Roads.Refused k) r c q z =
-      either_number (eqb k 10) (ended e₁ _ (rematch (counted e₁.follower)) Status.Working) (refused e₁ k) (λ y. omega arith)
-      (λ (y : k ≡ 12). not_12 r found c (q ∙ ap Roads.Refused y)) z
+  road_number f found (Ok (Roads.Road p)) r c q z = omega arith
+  road_number f found (Ok (Roads.Need key)) r c q z = omega arith
+  road_number f found (Ok Roads.Rematch) r c q z = omega arith
+  road_number f found (Err k) r c q z =
+      either_number (eqb (number_of k) 10) (ended e₁ _ (rematch (counted e₁.follower)) (Ok Status.Working)) (refused e₁ k) (λ y. omega arith)
+      (λ (y : number_of k ≡ 12). not_12 r found c (q ∙ ap Err (bad_state k y))) z
 
-  pub steps_number : {x : Task} {t : Stepped} → Steps e₁ w.arena x t → number_of_status t.answer ≡ 12 → ⊥
+  pub steps_number : {x : Task} {t : Stepped} → Steps e₁ w.arena x t → number_of_result t.answer ≡ 12 → ⊥
   unfolding arrived
   steps_number (Ways.repeats o) z = open_number o z
   steps_number (Ways.fails failed) z = omega arith
@@ -306,21 +308,21 @@ module _ (P : List ℕ) (n : ℕ) (horizon : Float) (w : World) (s : Stays P n h
   either_again true x y p q = p
   either_again false x y p q = q
 
-  match_again : (x : MatchOutcome.Outcome) (m : Engine) → is_again (match_shown x e₁ m) ≡ false
-  match_again (Match.Found p) m = refl
-  match_again Match.Nothing m = either_again (is_matched e₁.follower.ahead.matched) _ _ refl refl
-  match_again (Match.Need key) m = refl
-  match_again (Match.Refused k) m = refl
+  match_again : (x : Result MatchOutcome.Outcome Refusal) (m : Engine) → is_again (match_shown x e₁ m) ≡ false
+  match_again (Ok (Match.Found p)) m = refl
+  match_again (Ok Match.Nothing) m = either_again (is_matched e₁.follower.ahead.matched) _ _ refl refl
+  match_again (Ok (Match.Need key)) m = refl
+  match_again (Err k) m = refl
 
-  road_again : (found : Matched) (r : e₁.shared.phase ≡ Phase.Ready) (c : e₁.follower.matcher.current ≡ Current.Is found) (x : RoadOutcome.Outcome) (m : Engine)
+  road_again : (found : Matched) (r : e₁.shared.phase ≡ Phase.Ready) (c : e₁.follower.matcher.current ≡ Some found) (x : Result RoadOutcome.Outcome Refusal) (m : Engine)
       → (road_there r found c).answer ≡ x → is_again (road_shown x m) ≡ false
-  road_again found r c (Roads.Road p) m a = refl
-  road_again found r c (Roads.Need key) m a = refl
-  road_again found r c Roads.Rematch m a = absurd (not_6 r found c a)
-  road_again found r c (Roads.Refused i) m a = by (eqb i 10) refl
+  road_again found r c (Ok (Roads.Road p)) m a = refl
+  road_again found r c (Ok (Roads.Need key)) m a = refl
+  road_again found r c (Ok Roads.Rematch) m a = absurd (not_6 r found c a)
+  road_again found r c (Err i) m a = by (eqb (number_of i) 10) refl
     where
-      by : (t : Bool) → eqb i 10 ≡ t → is_again (cond t (Shows.again 10 m.follower.matcher) Shows.nothing) ≡ false
-      by true e = absurd (not_10 r found c (a ∙ ap Roads.Refused (eqb-true i 10 e)))
+      by : (t : Bool) → eqb (number_of i) 10 ≡ t → is_again (cond t (Shows.again 10 m.follower.matcher) Shows.nothing) ≡ false
+      by true e = absurd (not_10 r found c (a ∙ ap Err (bad_start i (eqb-true (number_of i) 10 e))))
       by false e = refl
 
   pub steps_again : {x : Task} {t : Stepped} → Steps e₁ w.arena x t → is_again (task_shown x e₁ w.arena t.engine) ≡ false
@@ -343,24 +345,24 @@ module _ (P : List ℕ) (n : ℕ) (horizon : Float) (w : World) (s : Stays P n h
   fits_as : {a b : Matcher} → b ≡ a → CurrentFits P n a → CurrentFits P n b
   fits_as e f = subst (CurrentFits P n) (sym e) f
 
-  match_found : (f : Fix) (x : MatchOutcome.Outcome) → e₁.shared.phase ≡ Phase.Ready
+  match_found : (f : Fix) (x : Result MatchOutcome.Outcome Refusal) → e₁.shared.phase ≡ Phase.Ready
       → CurrentFits P n (match_ended_by x e₁ (counted e₁.follower) f (match_of e₁ w.arena f)).engine.follower.matcher
   unfolding Gather.updated
-  match_found f (Match.Found m) r = fits_as (match_holds (counted e₁.follower) _ f).matcher (match_fits r e₁.follower.matcher _ _ s.found)
-  match_found f Match.Nothing r = fits_as (match_holds (counted e₁.follower) _ f).matcher (match_fits r e₁.follower.matcher _ _ s.found)
-  match_found f (Match.Need key) r = fits_as (match_asks_lem (counted e₁.follower) _ key).matcher s.found
-  match_found f (Match.Refused k) r = s.found
+  match_found f (Ok (Match.Found m)) r = fits_as (match_holds (counted e₁.follower) _ f).matcher (match_fits r e₁.follower.matcher _ _ s.found)
+  match_found f (Ok Match.Nothing) r = fits_as (match_holds (counted e₁.follower) _ f).matcher (match_fits r e₁.follower.matcher _ _ s.found)
+  match_found f (Ok (Match.Need key)) r = fits_as (match_asks_lem (counted e₁.follower) _ key).matcher s.found
+  match_found f (Err k) r = s.found
 
-  road_found : (f : Fix) (found : Matched) (r : Predict.After) (x : RoadOutcome.Outcome)
+  road_found : (f : Fix) (found : Matched) (r : Predict.After) (x : Result RoadOutcome.Outcome Refusal)
       → CurrentFits P n (road_ended_by x e₁ (counted e₁.follower) f found r).engine.follower.matcher
   unfolding published
-  road_found f found r (Roads.Road p) = s.found
-  road_found f found r (Roads.Need key) = fits_as (road_asks_lem (counted e₁.follower) _ f found key).matcher s.found
-  road_found f found r Roads.Rematch = reset_fits P n
-  road_found f found r (Roads.Refused k) = by (eqb k 10)
+  road_found f found r (Ok (Roads.Road p)) = s.found
+  road_found f found r (Ok (Roads.Need key)) = fits_as (road_asks_lem (counted e₁.follower) _ f found key).matcher s.found
+  road_found f found r (Ok Roads.Rematch) = reset_fits P n
+  road_found f found r (Err k) = by (eqb (number_of k) 10)
     where
       by : (t : Bool)
-          → CurrentFits P n (cond t (ended e₁ r.predicted.cache (rematch (counted e₁.follower)) Status.Working) (refused e₁ k)).engine.follower.matcher
+          → CurrentFits P n (cond t (ended e₁ r.predicted.cache (rematch (counted e₁.follower)) (Ok Status.Working)) (refused e₁ k)).engine.follower.matcher
       by true = reset_fits P n
       by false = s.found
 

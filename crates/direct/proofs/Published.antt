@@ -1,5 +1,8 @@
 -- What stands published: of each call, by the ways that it goes (`publishes`), and of the matcher (`call_holds`); then along a list (`all_published`,
 -- `all_read`), and by `all_direct` beside the direct engine (`all_read_direct`).
+use Rattle.refusal.specs.Refusal.{number_of}
+use Rattle.refusal.specs.declared.Refusal.{Refusal}
+use Rattle.std.specs.Prelude.{Option, Some, None, Result, Ok, Err}
 use Prim.Native.Nat.{ℕ, ◌+◌}
 use mathlib.Core.Path.{◌≡◌, refl, sym, ap, subst, ◌∙◌}
 use mathlib.Core.Bool.{Bool, true, false, cond}
@@ -9,7 +12,6 @@ use native.Mathlib.Omega.{arith}
 use lib.Dec.{eqb}
 use lib.ListN.{length}
 use Rattle.pack.specs.Grid.{is_point}
-use Rattle.matcher.specs.declared.Current.{Current}
 use Rattle.matcher.specs.declared.Matched.{Matched}
 use Rattle.matcher.specs.Calls as Matching
 use Rattle.matcher.specs.Gather as Gather
@@ -33,10 +35,9 @@ use Rattle.engine.specs.Work.{counted, may_ask, match_ended_by, road_ended_by, p
 use Rattle.engine.specs.Deliver.{After, arrived}
 use Rattle.engine.specs.Steps.{stepped}
 use Rattle.engine.specs.Calls as Engines
-use Rattle.engine.specs.declared.AheadRead.{AheadRead}
+use Rattle.engine.specs.Calls.{ahead_in}
 use Rattle.engine.specs.declared.Changed.{Changed}
 use Rattle.engine.specs.declared.Engine.{Engine}
-use Rattle.engine.specs.declared.Known.TheVariants as Known
 use Rattle.engine.specs.declared.Status.TheVariants as Status
 use Rattle.engine.specs.declared.Stepped.{Stepped}
 use Rattle.direct.specs.Lists as Calls
@@ -65,7 +66,7 @@ pub data Leaves (e : Engine) (s : Shown) (pages : ℕ) (a : Ahead) : Type 0 wher
 pub data LeavesMatcher (e : Engine) (s : Shown) (m : Matcher) : Type 0 where
   holds : m ≡ e.follower.matcher → LeavesMatcher e s m
   makes : FinishedMatch m.current s → LeavesMatcher e s m
-  clears : m.current ≡ Current.Nothing → LeavesMatcher e s m
+  clears : m.current ≡ None → LeavesMatcher e s m
 
 module _ (e : Engine) (arena : List ℕ) where
   abbrev a₁ : Ahead
@@ -93,34 +94,34 @@ module _ (e : Engine) (arena : List ℕ) where
       by false m = stays refl
 
   -- a match
-  leaves_match : (f : Fix) (x : MatchOutcome.Outcome) → (match_of e arena f).answer ≡ x
+  leaves_match : (f : Fix) (x : Result MatchOutcome.Outcome Refusal) → (match_of e arena f).answer ≡ x
       → let n = (match_ended_by x e f₁ f (match_of e arena f)).engine in
       Leaves e (match_shown x e n) n.shared.cache.pages.count n.follower.ahead
   unfolding Work.matched
-  leaves_match f (Match.Found m) q = by (match_of e arena f).matcher.current (made_current e arena f (Match.Found m) q refl)
+  leaves_match f (Ok (Match.Found m)) q = by (match_of e arena f).matcher.current (made_current e arena f (Ok (Match.Found m)) q refl)
     where
-      by : (c : Current) → Gather.outcome c ≡ Match.Found m → {s : Shown} {pages : ℕ}
+      by : (c : Option Matched) → Gather.outcome c ≡ Ok (Match.Found m) → {s : Shown} {pages : ℕ}
           → Leaves e s pages (Work.matched_by c f₁ (match_of e arena f).matcher f).ahead
-      by Current.Nothing z = let o : ◌≡◌ {A = ℕ} 0 1 = cc in absurd (omega arith)
-      by (Current.Is g) z = stays refl
-  leaves_match f Match.Nothing q = by (match_of e arena f).matcher.current (made_current e arena f Match.Nothing q refl) (is_matched a₁.matched) refl
+      by None z = let o : ◌≡◌ {A = ℕ} 0 1 = cc in absurd (omega arith)
+      by (Some g) z = stays refl
+  leaves_match f (Ok Match.Nothing) q = by (match_of e arena f).matcher.current (made_current e arena f (Ok Match.Nothing) q refl) (is_matched a₁.matched) refl
     where
-      by : (c : Current) → Gather.outcome c ≡ Match.Nothing → (t : Bool) → is_matched a₁.matched ≡ t → {pages : ℕ}
+      by : (c : Option Matched) → Gather.outcome c ≡ Ok Match.Nothing → (t : Bool) → is_matched a₁.matched ≡ t → {pages : ℕ}
           → let g = Work.matched_by c f₁ (match_of e arena f).matcher f in
           Leaves e (cond t (Shows.unmatched g.matcher (road_of g.ahead)) (Shows.matched g.matcher)) pages g.ahead
-      by Current.Nothing z true r = ends refl
-      by Current.Nothing z false r = stays (ap (λ (t : Bool). cond t (without_match a₁ f.at_ms End.Uncertain) a₁) r)
-      by (Current.Is g) z t r = let o : ◌≡◌ {A = ℕ} 0 1 = cc in absurd (omega arith)
-  leaves_match f (Match.Need key) q = stays (match_asks_lem f₁ (match_of e arena f).cache.pages.count key).ahead
-  leaves_match f (Match.Refused number) q = stays refl
+      by None z true r = ends refl
+      by None z false r = stays (ap (λ (t : Bool). cond t (without_match a₁ f.at_ms End.Uncertain) a₁) r)
+      by (Some g) z t r = let o : ◌≡◌ {A = ℕ} 0 1 = cc in absurd (omega arith)
+  leaves_match f (Ok (Match.Need key)) q = stays (match_asks_lem f₁ (match_of e arena f).cache.pages.count key).ahead
+  leaves_match f (Err number) q = stays refl
 
   -- a road
-  leaves_road : (f : Fix) (found : Matched) (x : RoadOutcome.Outcome) → Works e f → e.follower.matcher.current ≡ Current.Is found
+  leaves_road : (f : Fix) (found : Matched) (x : Result RoadOutcome.Outcome Refusal) → Works e f → e.follower.matcher.current ≡ Some found
       → let n = (road_ended_by x e f₁ f found (road_at e arena found)).engine in
       Leaves e (road_shown x n) n.shared.cache.pages.count n.follower.ahead
   unfolding published with_match
-  leaves_road f found (Roads.Road p) w c = ends refl
-  leaves_road f found (Roads.Need key) w c =
+  leaves_road f found (Ok (Roads.Road p)) w c = ends refl
+  leaves_road f found (Ok (Roads.Need key)) w c =
       by (may_ask e.follower.due (road_at e arena found).predicted.cache.pages.count) refl
     where
       pages : ℕ
@@ -130,8 +131,8 @@ module _ (e : Engine) (arena : List ℕ) where
           → Leaves e Shows.nothing pages (cond t (Work.with_due f₁ (Work.asking f₁.due key (f₁.due.reloads + 1))) (published f₁ a₁ f found Work.no_road)).ahead
       by true q = stays refl
       by false q = limit (record { asked = q; fix = f; found = found; newest = w.fix; current = c; memory = refl })
-  leaves_road f found Roads.Rematch w c = stays refl
-  leaves_road f found (Roads.Refused number) w c = either_stays (eqb number 10) _ _ refl refl
+  leaves_road f found (Ok Roads.Rematch) w c = stays refl
+  leaves_road f found (Err number) w c = either_stays (eqb (number_of number) 10) _ _ refl refl
 
   steps_leave : {x : Task} {s : Stepped} → Steps e arena x s
       → Leaves e (task_shown x e arena s.engine) s.engine.shared.cache.pages.count s.engine.follower.ahead
@@ -151,7 +152,7 @@ module _ (e : Engine) (arena : List ℕ) where
   step_leaves = by (engine_ok e (length arena)) refl
     where
       left : Bool → Stepped
-      left t = cond t (stepped e arena) (refused e 12)
+      left t = cond t (stepped e arena) (refused e Refusal.BadState)
 
       by : (t : Bool) → engine_ok e (length arena) ≡ t → Leaves e (cond t (task_shown (task_of e) e arena (left t).engine) Shows.nothing) (left t).engine.shared.cache.pages.count
           (left t).engine.follower.ahead
@@ -168,27 +169,27 @@ module _ (e : Engine) (arena : List ℕ) where
       by true = clears refl
       by false = holds refl
 
-  holds_match : (f : Fix) (x : MatchOutcome.Outcome) → let n = (match_ended_by x e f₁ f (match_of e arena f)).engine in
+  holds_match : (f : Fix) (x : Result MatchOutcome.Outcome Refusal) → let n = (match_ended_by x e f₁ f (match_of e arena f)).engine in
       LeavesMatcher e (match_shown x e n) n.follower.matcher
-  holds_match f (Match.Found m) = makes refl
-  holds_match f Match.Nothing = by (is_matched a₁.matched) _ _
+  holds_match f (Ok (Match.Found m)) = makes refl
+  holds_match f (Ok Match.Nothing) = by (is_matched a₁.matched) _ _
     where
       by : (t : Bool) (m : Matcher) (r : Road) → LeavesMatcher e (cond t (Shows.unmatched m r) (Shows.matched m)) m
       by true m r = makes refl
       by false m r = makes refl
-  holds_match f (Match.Need key) = holds (match_asks_lem f₁ (match_of e arena f).cache.pages.count key).matcher
-  holds_match f (Match.Refused number) = holds refl
+  holds_match f (Ok (Match.Need key)) = holds (match_asks_lem f₁ (match_of e arena f).cache.pages.count key).matcher
+  holds_match f (Err number) = holds refl
 
-  holds_road : (f : Fix) (found : Matched) (x : RoadOutcome.Outcome) → let n = (road_ended_by x e f₁ f found (road_at e arena found)).engine in
+  holds_road : (f : Fix) (found : Matched) (x : Result RoadOutcome.Outcome Refusal) → let n = (road_ended_by x e f₁ f found (road_at e arena found)).engine in
       LeavesMatcher e (road_shown x n) n.follower.matcher
   unfolding published
-  holds_road f found (Roads.Road p) = holds refl
-  holds_road f found (Roads.Need key) = holds (road_asks_lem f₁ (road_at e arena found).predicted.cache.pages.count f found key).matcher
-  holds_road f found Roads.Rematch = clears refl
-  holds_road f found (Roads.Refused number) = by (eqb number 10)
+  holds_road f found (Ok (Roads.Road p)) = holds refl
+  holds_road f found (Ok (Roads.Need key)) = holds (road_asks_lem f₁ (road_at e arena found).predicted.cache.pages.count f found key).matcher
+  holds_road f found (Ok Roads.Rematch) = clears refl
+  holds_road f found (Err number) = by (eqb (number_of number) 10)
     where
       by : (t : Bool) {s : Shown}
-          → LeavesMatcher e s (cond t (Work.ended e (road_at e arena found).predicted.cache (Work.rematch f₁) Status.Working) (refused e number)).engine.follower.matcher
+          → LeavesMatcher e s (cond t (Work.ended e (road_at e arena found).predicted.cache (Work.rematch f₁) (Ok Status.Working)) (refused e number)).engine.follower.matcher
       by true = clears refl
       by false = holds refl
 
@@ -209,7 +210,7 @@ module _ (e : Engine) (arena : List ℕ) where
   step_holds = by (engine_ok e (length arena)) refl
     where
       left : Bool → Stepped
-      left t = cond t (stepped e arena) (refused e 12)
+      left t = cond t (stepped e arena) (refused e Refusal.BadState)
 
       by : (t : Bool) → engine_ok e (length arena) ≡ t → LeavesMatcher e (cond t (task_shown (task_of e) e arena (left t).engine) Shows.nothing) (left t).engine.follower.matcher
       by true ok = steps_hold (step_is e arena ok)
@@ -339,19 +340,19 @@ all_published n horizon arena cs = along cs (start n horizon arena)
 abbrev on_ahead : World → Road
 on_ahead w = road_of w.engine.follower.ahead
 
-abbrev on_match : World → Current
+abbrev on_match : World → Option Matched
 on_match w = w.engine.follower.matcher.current
 
 -- a match that is none
-no_match : {A : Type 0} (found : Matched) → Current.Is found ≡ Current.Nothing → A
+no_match : {A : Type 0} (found : Matched) → Some found ≡ None → A
 no_match found q = let z : ◌≡◌ {A = ℕ} 0 1 = cc in absurd (omega arith)
 
 -- what is published after a list: as it was, none, one that the list finished, or the Memory answer for a match held before it or finished in it
-pub data Reads (held : Current) (before r : Road) (ss : List Shown) : Type 0 where
+pub data Reads (held : Option Matched) (before r : Road) (ss : List Shown) : Type 0 where
   same : r ≡ before → Reads held before r ss
   none : r ≡ blank → Reads held before r ss
   among : Among (FinishedRoad r) ss → Reads held before r ss
-  remembers : (at : ℕ) (found : Matched) → r ≡ memory_of at found → (Current.Is found ≡ held) ⊎ Among (FinishedMatch (Current.Is found)) ss
+  remembers : (at : ℕ) (found : Matched) → r ≡ memory_of at found → (Some found ≡ held) ⊎ Among (FinishedMatch (Some found)) ss
       → Reads held before r ss
 
 limit_reads : (e : Engine) (pages : ℕ) (a : Ahead) (ss : List Shown) → AtLimit e pages a
@@ -369,11 +370,11 @@ publishes_reads w c a ss (at_limit l) = limit_reads w.engine _ a _ l
 publishes_reads w c a ss (lent_at_limit l) = limit_reads w.engine _ a _ l
 
 remembers_on : (w : World) (c : Call) (r : Road) (ss : List Shown) (at : ℕ) (found : Matched) → r ≡ memory_of at found
-    → Current.Is found ≡ on_match (exec c w).world → LeavesMatcher w.engine (shown w c) (exec c w).world.engine.follower.matcher
+    → Some found ≡ on_match (exec c w).world → LeavesMatcher w.engine (shown w c) (exec c w).world.engine.follower.matcher
     → Reads (on_match w) (on_ahead w) r (shown w c ∷ ss)
 unfolding Among
 remembers_on w c r ss at found q h (holds k) = remembers at found q (inl (h ∙ ap (λ (m : Matcher). m.current) k))
-remembers_on w c r ss at found q h (makes k) = remembers at found q (inr (inl (subst (λ (x : Current). FinishedMatch x (shown w c)) (sym h) k)))
+remembers_on w c r ss at found q h (makes k) = remembers at found q (inr (inl (subst (λ (x : Option Matched). FinishedMatch x (shown w c)) (sym h) k)))
 remembers_on w c r ss at found q h (clears k) = no_match found (h ∙ k)
 
 reads_along : (cs : List Call) (w : World) → Reads (on_match w) (on_ahead w) (on_ahead (after cs w)) (shows cs w)
@@ -401,12 +402,11 @@ all_read n horizon arena cs = by (engine_ok w.engine (length w.arena)) (reads_al
     w : World
     w = after cs (start n horizon arena)
 
-    answer : Bool → AheadRead
-    answer t =
-        cond t (record { answer = Known.Is; ahead = w.engine.follower.ahead }) (record { answer = Known.Refused 12; ahead = nothing_ahead 0 })
+    answer : Bool → Result Ahead Refusal
+    answer t = cond t (Ok w.engine.follower.ahead) (Err Refusal.BadState)
 
-    by : (t : Bool) → Reads Current.Nothing blank (on_ahead w) (shows cs (start n horizon arena))
-        → Read (shows cs (start n horizon arena)) (road_of (answer t).ahead)
+    by : (t : Bool) → Reads None blank (on_ahead w) (shows cs (start n horizon arena))
+        → Read (shows cs (start n horizon arena)) (road_of (ahead_in (answer t)))
     by true (same q) = is_blank q
     by true (none q) = is_blank q
     by true (among a) = was_finished a

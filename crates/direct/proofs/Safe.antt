@@ -1,6 +1,6 @@
 -- With no premise: the cache's own invariant holds along every list of calls, and each call is safe. By the ways that a call goes.
+use Rattle.refusal.specs.Refusal.{number_of_result}
 use Rattle.refusal.specs.declared.Refusal.{Refusal}
-use Rattle.std.specs.Prelude.{Result}
 use Prim.Native.Nat.{ℕ, ◌+◌, ◌≤◌}
 use mathlib.Core.Path.{◌≡◌, refl, sym, ap, ◌∙◌}
 use mathlib.Core.Bool.{Bool, true, false, ◌&&◌, cond, true≢false}
@@ -9,7 +9,7 @@ use mathlib.Core.Logic.{inl}
 use native.Mathlib.Omega.{arith}
 use lib.Dec.{eqb, ltb, leb}
 use lib.ListN.{length}
-use Rattle.std.specs.Prelude.{Ok, Err}
+use Rattle.std.specs.Prelude.{Result, Ok, Err}
 use Rattle.pack.specs.Grid as Grid
 use Rattle.pack.specs.Grid.{is_point}
 use Rattle.pack.specs.declared.TileKey.{TileKey}
@@ -38,7 +38,7 @@ use Rattle.engine.specs.declared.Engine.{Engine}
 use Rattle.engine.specs.declared.Status.{Status}
 use Rattle.engine.specs.declared.Stepped.{Stepped}
 use Rattle.engine_states.proofs.CacheKept.{ok_parts, pending_ok_lem}
-use Rattle.direct.specs.Lists.{World, Call, fix, lost, reset, step, deliver, step_from, read, on_cache, nearby, current, update, predict, delivered, cache_of, number_of_status, number, exec, Along}
+use Rattle.direct.specs.Lists.{World, Call, fix, lost, reset, step, deliver, step_from, read, on_cache, nearby, current, update, predict, delivered, cache_of, number, exec, Along}
 use Rattle.direct.specs.Finished.{Task, none, off_map, match, road, task_of}
 use Rattle.direct.specs.Claims.{open_read, task_hands, HandedOut, reads_of, lent_reads, reads, SameFor, LentOnly, HasLen, TakesOnly, kind_of, KeptBytes, LeavesShort, Safe}
 use Rattle.engine_states.proofs.Ways as Ways
@@ -142,13 +142,13 @@ handed_after w (predict h m horizon samples behind) = road_hands w.engine.shared
 
 -- ---- one read at most
 
-one_of : (s : Status) → length (reads_of s) ≤ 1
-one_of (Status.Fetch offset len) = omega arith
-one_of Status.Idle = omega arith
-one_of Status.Working = omega arith
-one_of Status.NoPack = omega arith
-one_of Status.OffMap = omega arith
-one_of (Status.Refused n) = omega arith
+one_of : (s : Result Status Refusal) → length (reads_of s) ≤ 1
+one_of (Ok (Status.Fetch offset len)) = omega arith
+one_of (Ok Status.Idle) = omega arith
+one_of (Ok Status.Working) = omega arith
+one_of (Ok Status.NoPack) = omega arith
+one_of (Ok Status.OffMap) = omega arith
+one_of (Err n) = omega arith
 
 either_none : (t : Bool) (x y : Stepped) → is_fetch x.answer ≡ false → is_fetch y.answer ≡ false → is_fetch (cond t x y).answer ≡ false
 either_none true x y p q = p
@@ -173,25 +173,25 @@ pub deliver_none : (e : Engine) (arena : List ℕ) (failure : ℕ) (bs : List �
 unfolding Engines.deliver
 deliver_none e arena failure bs = by (engine_ok e (length arena)) refl
   where
-    by : (t : Bool) → engine_ok e (length arena) ≡ t → is_fetch (cond t (Delivered.delivered e arena failure bs) (over (refused e 12) arena)).answer ≡ false
+    by : (t : Bool) → engine_ok e (length arena) ≡ t → is_fetch (cond t (Delivered.delivered e arena failure bs) (over (refused e Refusal.BadState) arena)).answer ≡ false
     by true ok = delivers_none (deliver_is e arena ok failure bs)
     by false ok = refl
 
-none_read : (s : Status) → is_fetch s ≡ false → reads_of s ≡ []
-none_read (Status.Fetch offset len) e = absurd (true≢false e)
-none_read Status.Idle e = refl
-none_read Status.Working e = refl
-none_read Status.NoPack e = refl
-none_read Status.OffMap e = refl
-none_read (Status.Refused n) e = refl
+none_read : (s : Result Status Refusal) → is_fetch s ≡ false → reads_of s ≡ []
+none_read (Ok (Status.Fetch offset len)) e = absurd (true≢false e)
+none_read (Ok Status.Idle) e = refl
+none_read (Ok Status.Working) e = refl
+none_read (Ok Status.NoPack) e = refl
+none_read (Ok Status.OffMap) e = refl
+none_read (Err n) e = refl
 
-one_lent : (s t : Status) → (is_fetch s ≡ true → is_fetch t ≡ false) → length (lent_reads s t) ≤ 1
-one_lent (Status.Fetch offset len) t e = rw (none_read t (e refl)) (omega arith)
-one_lent Status.Idle t e = omega arith
-one_lent Status.Working t e = omega arith
-one_lent Status.NoPack t e = omega arith
-one_lent Status.OffMap t e = omega arith
-one_lent (Status.Refused n) t e = omega arith
+one_lent : (s t : Result Status Refusal) → (is_fetch s ≡ true → is_fetch t ≡ false) → length (lent_reads s t) ≤ 1
+one_lent (Ok (Status.Fetch offset len)) t e = rw (none_read t (e refl)) (omega arith)
+one_lent (Ok Status.Idle) t e = omega arith
+one_lent (Ok Status.Working) t e = omega arith
+one_lent (Ok Status.NoPack) t e = omega arith
+one_lent (Ok Status.OffMap) t e = omega arith
+one_lent (Err n) t e = omega arith
 
 lent_none : {e : Engine} {arena Q : List ℕ} {r : After} → Lends e arena Q r → is_fetch (Engines.step e arena).answer ≡ true → is_fetch r.answer ≡ false
 lent_none (Ways.plain t) s = absurd (true≢false (sym s ∙ t))
@@ -229,13 +229,13 @@ module _ (arena Q R : List ℕ) where
   unfolding Engines.step_from
   lent_only_lem e = by (Engines.step e arena).answer
     where
-      by : (a : Status) → SameFor a Q R → Engines.step_from_by a (Engines.step e arena) arena R ≡ Engines.step_from_by a (Engines.step e arena) arena Q
-      by (Status.Fetch offset len) s = answered_only (Engines.step e arena).engine offset len s
-      by Status.Idle s = refl
-      by Status.Working s = refl
-      by Status.NoPack s = refl
-      by Status.OffMap s = refl
-      by (Status.Refused n) s = refl
+      by : (a : Result Status Refusal) → SameFor a Q R → Engines.step_from_by a (Engines.step e arena) arena R ≡ Engines.step_from_by a (Engines.step e arena) arena Q
+      by (Ok (Status.Fetch offset len)) s = answered_only (Engines.step e arena).engine offset len s
+      by (Ok Status.Idle) s = refl
+      by (Ok Status.Working) s = refl
+      by (Ok Status.NoPack) s = refl
+      by (Ok Status.OffMap) s = refl
+      by (Err n) s = refl
 
 only_after : (w : World) (c : Call) → LentOnly w c
 unfolding exec
@@ -247,19 +247,19 @@ only_after w c = record {
 
 -- ---- what a delivery takes
 
-delivers_len : {e : Engine} {arena : List ℕ} {failure : ℕ} {bs : List ℕ} {r : After} → Delivers e arena failure bs r → failure ≡ 0 → number_of_status r.answer ≡ 0
+delivers_len : {e : Engine} {arena : List ℕ} {failure : ℕ} {bs : List ℕ} {r : After} → Delivers e arena failure bs r → failure ≡ 0 → number_of_result r.answer ≡ 0
     → HasLen (open_read e) (length bs)
 delivers_len Ways.refuses z s = absurd (omega arith)
 delivers_len (Ways.loses number o len) z s = rw o (len z)
 delivers_len (Ways.parses o z' len a) z s = rw o len
 delivers_len (Ways.brings key b) z s = rw b.asks (b.size z)
 
-takes_len : (e : Engine) (arena : List ℕ) (failure : ℕ) (bs : List ℕ) → failure ≡ 0 → number_of_status (Engines.deliver e arena failure bs).answer ≡ 0
+takes_len : (e : Engine) (arena : List ℕ) (failure : ℕ) (bs : List ℕ) → failure ≡ 0 → number_of_result (Engines.deliver e arena failure bs).answer ≡ 0
     → HasLen (open_read e) (length bs)
 unfolding Engines.deliver
 takes_len e arena failure bs z s = by (engine_ok e (length arena)) refl s
   where
-    by : (t : Bool) → engine_ok e (length arena) ≡ t → number_of_status (cond t (Delivered.delivered e arena failure bs) (over (refused e 12) arena)).answer ≡ 0
+    by : (t : Bool) → engine_ok e (length arena) ≡ t → number_of_result (cond t (Delivered.delivered e arena failure bs) (over (refused e Refusal.BadState) arena)).answer ≡ 0
         → HasLen (open_read e) (length bs)
     by true ok s = delivers_len (deliver_is e arena ok failure bs) z s
     by false ok s = absurd (omega arith)
@@ -294,7 +294,7 @@ unfolding Engines.deliver
 deliver_writes e arena failure bs = by (engine_ok e (length arena)) refl
   where
     by : (t : Bool) → engine_ok e (length arena) ≡ t
-        → Written (OfChunk e.shared.cache.loading) arena (cond t (Delivered.delivered e arena failure bs) (over (refused e 12) arena)).arena
+        → Written (OfChunk e.shared.cache.loading) arena (cond t (Delivered.delivered e arena failure bs) (over (refused e Refusal.BadState) arena)).arena
     by true ok = delivers_write (deliver_is e arena ok failure bs)
     by false ok = not_written _ arena
 

@@ -1,6 +1,8 @@
 -- Two lists that settle before each fix. The idea: the story can be told again without saying where a match was cleared, since it goes with the first fix
 -- that is off the map (`resettled`). The engine's matcher is then the one told, but for a match that the next step off the map will clear
 -- (`Recounts`); a pack that has failed finishes nothing before the next reset.
+use Rattle.refusal.specs.declared.Refusal.{Refusal}
+use Rattle.refusal.specs.Refusal.{number_of_result}
 use Prim.Native.Nat.{ℕ, ◌*◌, ◌≤◌}
 use mathlib.Core.Path.{◌≡◌, refl, sym, ap, subst, ◌∙◌}
 use mathlib.Core.Bool.{Bool, true, false, ◌&&◌, not, cond, true≢false}
@@ -16,7 +18,6 @@ use Rattle.pack.specs.declared.Header.{Header}
 use Rattle.cache.specs.State.{state_ok, arena_ok}
 use Rattle.cache.proofs.Below.{and_left, and_right}
 use Rattle.cache.specs.declared.Pending.{Pending}
-use Rattle.matcher.specs.declared.Current.{Current}
 use Rattle.matcher.specs.Calls as Matching
 use Rattle.matcher.specs.declared.Matcher.{Matcher}
 use Rattle.predict.specs.declared.End.TheVariants as End
@@ -25,7 +26,6 @@ use Rattle.engine.specs.Follow as Followers
 use Rattle.engine.specs.Follow.{is_matched}
 use Rattle.engine.specs.declared.Fix.{Fix}
 use Rattle.engine.specs.declared.Follower.{Follower}
-use Rattle.engine.specs.declared.MaybeFix.{MaybeFix}
 use Rattle.engine.specs.State as States
 use Rattle.engine.specs.State.{unchanged, followed, is_failed, header_ok, shared_ok, engine_ok}
 use Rattle.engine.specs.Deliver.{After}
@@ -36,7 +36,7 @@ use Rattle.engine.specs.declared.Phase.{Phase}
 use Rattle.engine.specs.declared.Sight.{Sight}
 use Rattle.engine_states.proofs.KeptParts.{EngineOk, apart}
 use Rattle.direct.specs.Lists as Calls
-use Rattle.direct.specs.Lists.{World, Call, number_of_taken, exec, start, Along}
+use Rattle.direct.specs.Lists.{World, Call, exec, start, Along}
 use Rattle.direct.specs.Finished as Shows
 use Rattle.direct.specs.Finished.{Shown, Road, is_match, is_road, open_task, phase_task, task_of, task_shown, step_shown, shown}
 use Rattle.direct.specs.Direct.{Made, Told, Lookup, header_of, directly, Held, new_held, lost_held, forgotten, Worked, Direct, step_worked_by, step_worked, key_worked, no_road, pack_after}
@@ -65,7 +65,7 @@ use Rattle.direct.proofs.Due.{Clears, reset_clears, step_clears, deliver_clears,
 abbrev refixed : Header → Held → Fix → Held
 refixed h d f =
     cond (Fixes.is_same_place d.sight.fix f) d
-    (record { sight = Fixes.seen d.sight f; matcher = cleared (is_off h (MaybeFix.Is f)) d.matcher; last = d.last })
+    (record { sight = Fixes.seen d.sight f; matcher = cleared (is_off h (Some f)) d.matcher; last = d.last })
 
 module _ (at : Lookup) (made : Made) where
   abbrev resettled_one : Event → Past → Past
@@ -281,7 +281,7 @@ module _ (at : Lookup) (n : ℕ) (horizon : Float) (answers : Answers n at) wher
 
         left : Bool → Held
         left k = cond k (record { sight = e₁.follower.sight; matcher = p.held.matcher; last = p.held.last })
-            (record { sight = Fixes.seen e₁.follower.sight f; matcher = cleared (is_off h₁ (MaybeFix.Is f)) p.held.matcher; last = p.held.last })
+            (record { sight = Fixes.seen e₁.follower.sight f; matcher = cleared (is_off h₁ (Some f)) p.held.matcher; last = p.held.last })
 
         next : Bool → Follower
         next k = cond k e₁.follower (record {
@@ -299,7 +299,7 @@ module _ (at : Lookup) (n : ℕ) (horizon : Float) (answers : Answers n at) wher
         by false = record {
           pack = refl;
           sight = refl;
-          matcher = λ u. ap (cleared (is_off h₁ (MaybeFix.Is f))) (is u);
+          matcher = λ u. ap (cleared (is_off h₁ (Some f))) (is u);
           clears = t.clears;
           rested = λ u o. ((due u).1, λ m. absurd (true≢false m));
         }
@@ -329,9 +329,9 @@ module _ (at : Lookup) (n : ℕ) (horizon : Float) (answers : Answers n at) wher
     fix_call f settled = by (engine_ok e₁ (length w.arena)) (is_point f.lat f.lon)
       where
         left : Bool → Bool → Changed
-        left a b = cond a (cond b (followed e₁ (Followers.fixed e₁.follower f)) (unchanged e₁ 8)) (unchanged e₁ 12)
+        left a b = cond a (cond b (followed e₁ (Followers.fixed e₁.follower f)) (unchanged e₁ Refusal.OutOfRange)) (unchanged e₁ Refusal.BadState)
 
-        by : (a b : Bool) → Recounts (told (taken (number_of_taken (left a b).answer) (Story.fixed f)) p) P (left a b).engine
+        by : (a b : Bool) → Recounts (told (taken (number_of_result (left a b).answer) (Story.fixed f)) p) P (left a b).engine
         by true true = fix_tells f settled
         by true false = t
         by false b = t
@@ -341,9 +341,9 @@ module _ (at : Lookup) (n : ℕ) (horizon : Float) (answers : Answers n at) wher
     lost_call = by (engine_ok e₁ (length w.arena))
       where
         left : Bool → Changed
-        left a = cond a (followed e₁ (Followers.lost e₁.follower)) (unchanged e₁ 12)
+        left a = cond a (followed e₁ (Followers.lost e₁.follower)) (unchanged e₁ Refusal.BadState)
 
-        by : (a : Bool) → Recounts (told (taken (number_of_taken (left a).answer) Story.lost) p) P (left a).engine
+        by : (a : Bool) → Recounts (told (taken (number_of_result (left a).answer) Story.lost) p) P (left a).engine
         by true = lost_tells
         by false = t
 
@@ -352,9 +352,9 @@ module _ (at : Lookup) (n : ℕ) (horizon : Float) (answers : Answers n at) wher
     reset_call Q = by (engine_ok e₁ (length w.arena))
       where
         left : Bool → Changed
-        left a = cond a (States.forgotten e₁) (unchanged e₁ 12)
+        left a = cond a (States.forgotten e₁) (unchanged e₁ Refusal.BadState)
 
-        by : (a : Bool) → Recounts (told (taken (number_of_taken (left a).answer) (Story.reset Q)) p) (cond (not (eqb (number_of_taken (left a).answer) 0)) P Q) (left a).engine
+        by : (a : Bool) → Recounts (told (taken (number_of_result (left a).answer) (Story.reset Q)) p) (cond (not (eqb (number_of_result (left a).answer) 0)) P Q) (left a).engine
         by true = reset_tells Q
         by false = t
 
@@ -415,7 +415,7 @@ module _ (at : Lookup) (n : ℕ) (horizon : Float) (answers : Answers n at) wher
 
   -- what a step shows, worked out from what the engine sees and matches
   abbrev seen_by : World → Held
-  seen_by w = record { sight = w.engine.follower.sight; matcher = w.engine.follower.matcher; last = Current.Nothing }
+  seen_by w = record { sight = w.engine.follower.sight; matcher = w.engine.follower.matcher; last = None }
 
   shown_by : (P : List ℕ) (w : World) → Fit P n horizon w
       → let s = step_shown w.engine w.arena in
@@ -448,9 +448,9 @@ module _ (at : Lookup) (n : ℕ) (horizon : Float) (answers : Answers n at) wher
       by true Pending.Chunk = refl
 
   -- off the map a road is emptied, or nothing is finished
-  abbrev off_shown : MaybeFix → Shown
-  off_shown MaybeFix.Nothing = Shows.nothing
-  off_shown (MaybeFix.Is f) = Shows.emptied Matching.reset (no_road f End.MapEdge)
+  abbrev off_shown : Option Fix → Shown
+  off_shown None = Shows.nothing
+  off_shown (Some f) = Shows.emptied Matching.reset (no_road f End.MapEdge)
 
   off_worked : (P : List ℕ) (x : Told) (d : Held) → is_off (header_of P) d.sight.fix ≡ true → x.match ≡ false
       → (step_worked at (made_of n horizon) P x d).shown ≡ cond x.road (off_shown d.sight.fix) Shows.nothing
@@ -467,9 +467,9 @@ module _ (at : Lookup) (n : ℕ) (horizon : Float) (answers : Answers n at) wher
       road f true q = outside f (key_of (header_of P) f.lat f.lon) q
       road f false q = refl
 
-      by : (y : MaybeFix) → is_off (header_of P) y ≡ true → (step_worked_by at (made_of n horizon) P y x d).shown ≡ cond x.road (off_shown y) Shows.nothing
-      by MaybeFix.Nothing q = absurd (true≢false (sym q))
-      by (MaybeFix.Is f) q = rw m (road f x.road q)
+      by : (y : Option Fix) → is_off (header_of P) y ≡ true → (step_worked_by at (made_of n horizon) P y x d).shown ≡ cond x.road (off_shown y) Shows.nothing
+      by None q = absurd (true≢false (sym q))
+      by (Some f) q = rw m (road f x.road q)
 
   off_shows : (P : List ℕ) (w : World) (p : Past) → Ends p P w → is_off (header_of P) w.engine.follower.sight.fix ≡ true
       → let s = step_shown w.engine w.arena in s ≡ cond (is_road s) (off_shown w.engine.follower.sight.fix) Shows.nothing

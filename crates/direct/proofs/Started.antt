@@ -1,5 +1,8 @@
 -- A road from a start that lies within the tile looked up for it ends neither with 6 nor with 10 (`road_started`). The idea: the tile's id is the
 -- start's own, and what number 10 asks of a start is what a match within its tile has; beyond these two tests a road is one, or Need or 12.
+use Rattle.refusal.specs.Refusal.{number_of}
+use Rattle.refusal.specs.declared.Refusal.{Refusal}
+use Rattle.std.specs.Prelude.{Result, Ok, Err}
 use Rattle.std.proofs.Common.{Option, Some, None}
 use Prim.Native.Nat.{ℕ}
 use mathlib.Core.Path.{◌≡◌, refl, subst}
@@ -61,11 +64,11 @@ module _ (bs : List ℕ) (m : Matched) (within : Within bs m) where
 -- ---- the road
 
 -- neither 6 nor 10
-abbrev pub Started : Outcome → Type 0
-Started (Outcome.Road p) = Unit
-Started (Outcome.Need key) = Unit
-Started Outcome.Rematch = ⊥
-Started (Outcome.Refused number) = number ≡ 10 → ⊥
+abbrev pub Started : Result Outcome Refusal → Type 0
+Started (Ok (Outcome.Road p)) = Unit
+Started (Ok (Outcome.Need key)) = Unit
+Started (Ok Outcome.Rematch) = ⊥
+Started (Err refusal) = number_of refusal ≡ 10 → ⊥
 
 outcome_started : (ending : Ending) (w : Walk) (t : Track) (b : Behind) → Started (outcome_by ending w t b)
 outcome_started Ending.Going w t b = tt
@@ -103,8 +106,8 @@ module _ (at : TileKey → Look) (n : ℕ) (h : Header) (m : Matched) (horizon :
     unfolding forecast_over
     road_started = directed_started m.forward
 
-    pub road_not_rematch : (predict_over at n h m horizon samples behind).answer ≡ Outcome.Rematch → ⊥
+    pub road_not_rematch : (predict_over at n h m horizon samples behind).answer ≡ Ok Outcome.Rematch → ⊥
     road_not_rematch e = subst Started e road_started
 
-    pub road_start_fits : (predict_over at n h m horizon samples behind).answer ≡ Outcome.Refused 10 → ⊥
+    pub road_start_fits : (predict_over at n h m horizon samples behind).answer ≡ Err Refusal.BadStart → ⊥
     road_start_fits e = subst Started e road_started refl

@@ -1,5 +1,7 @@
 -- Lists of calls with the same story finish the same: what the engine sees and matches is the story told again at the direct lookup (`story_told`), and what
 -- a step finishes is worked out of that alone.
+use Rattle.refusal.specs.declared.Refusal.{Refusal}
+use Rattle.refusal.specs.Refusal.{number_of, number_of_result}
 use Prim.Native.Nat.{ℕ, ◌≤◌}
 use mathlib.Core.Path.{◌≡◌, refl, sym, ap, subst, ◌∙◌}
 use mathlib.Core.Bool.{Bool, true, false, not, cond, true≢false}
@@ -8,10 +10,9 @@ use lib.Dec.{eqb}
 use lib.Ieee.{Float}
 use lib.IntN.{ℤ}
 use lib.ListN.{length}
-use Rattle.std.specs.Prelude.{Option, Some, None}
+use Rattle.std.specs.Prelude.{Result, Ok, Err, Option, Some, None}
 use Rattle.pack.specs.declared.TileKey.{TileKey}
 use Rattle.pack.specs.Grid.{is_point, key_of}
-use Rattle.matcher.specs.declared.Current.{Current}
 use Rattle.matcher.specs.declared.Matched.{Matched}
 use Rattle.matcher.specs.Calls as Matching
 use Rattle.matcher.specs.declared.Matcher.{Matcher}
@@ -22,14 +23,13 @@ use Rattle.predict.specs.declared.Outcome.TheVariants as Roads
 use Rattle.engine.specs.Follow as Followers
 use Rattle.engine.specs.declared.Fix.{Fix}
 use Rattle.engine.specs.declared.Follower.{Follower}
-use Rattle.engine.specs.declared.MaybeFix.{MaybeFix}
 use Rattle.engine.specs.State as States
 use Rattle.engine.specs.State.{unchanged, followed, engine_ok}
 use Rattle.engine.specs.Calls as Engines
 use Rattle.engine.specs.declared.Changed.{Changed}
 use Rattle.engine.specs.declared.Engine.{Engine}
 use Rattle.direct.specs.Lists as Calls
-use Rattle.direct.specs.Lists.{World, Call, number_of_taken, exec, start}
+use Rattle.direct.specs.Lists.{World, Call, exec, start}
 use Rattle.direct.specs.Finished as Shows
 use Rattle.direct.specs.Finished.{Shown, is_match, is_road, step_shown, shown}
 use Rattle.direct.specs.Direct.{Made, Told, Lookup, header_of, directly, Held, new_held, with_matcher, fixed, lost_held, forgotten, Worked, idle, stuck, empty_worked, match_worked, road_worked, current_worked, key_worked, fix_worked, step_worked_by, step_worked, match_held, road_held, update_worked, predict_worked, worked, Direct, applied, settled, pack_after, direct_exec}
@@ -51,9 +51,9 @@ pub record Past : Type 0 where
 
 module _ (at : Lookup) (made : Made) where
   -- the fix that is held, matched
-  pub rematched : MaybeFix → Past → Held
-  rematched MaybeFix.Nothing p = p.held
-  rematched (MaybeFix.Is f) p = with_matcher p.held (match_held at made p.pack p.held f).matcher
+  pub rematched : Option Fix → Past → Held
+  rematched None p = p.held
+  rematched (Some f) p = with_matcher p.held (match_held at made p.pack p.held f).matcher
 
   abbrev pub retold_one : Event → Past → Past
   retold_one (Story.fixed f) p = record { pack = p.pack; held = fixed p.held f }
@@ -93,13 +93,13 @@ module _ (at : Lookup) (made : Made) where
     showing : (x : Worked) (s : Shown) → x.shown ≡ s → Retold (events_of x.shown) x → Retold (events_of s) x
     showing x s e r = subst (λ (z : Shown). Retold (events_of z) x) e r
 
-    module _ (f : Fix) (is : d.sight.fix ≡ MaybeFix.Is f) where
+    module _ (f : Fix) (is : d.sight.fix ≡ Some f) where
       abbrev next : Matcher
       next = (match_held at made P d f).matcher
 
       matched_held : rematched d.sight.fix (record { pack = P; held = d }) ≡ with_matcher d next
       unfolding rematched
-      matched_held = ap (λ (x : MaybeFix). rematched x (record { pack = P; held = d })) is
+      matched_held = ap (λ (x : Option Fix). rematched x (record { pack = P; held = d })) is
 
       match_retold : (x : Worked) → x.held.matcher ≡ next → x.held.sight ≡ d.sight → Retold (Story.matched ∷ []) x
       unfolding retold
@@ -110,23 +110,23 @@ module _ (at : Lookup) (made : Made) where
       }
 
       -- a finished match
-      found_by : (s : Shown) (x : MatchOutcome.Outcome) (road : Bool) → is_match s ≡ true → (match_worked x road d f next).shown ≡ s
+      found_by : (s : Shown) (x : Result MatchOutcome.Outcome Refusal) (road : Bool) → is_match s ≡ true → (match_worked x road d f next).shown ≡ s
           → Retold (events_of s) (match_worked x road d f next)
-      found_by s (Match.Found y) road m e = let x : Worked = match_worked (Match.Found y) road d f next in showing x s e (match_retold x refl refl)
-      found_by s Match.Nothing true m e = let x : Worked = match_worked Match.Nothing true d f next in showing x s e (match_retold x refl refl)
-      found_by s Match.Nothing false m e = let x : Worked = match_worked Match.Nothing false d f next in showing x s e (match_retold x refl refl)
-      found_by s (Match.Need key) road m e = absurd (true≢false (sym (ap is_match e ∙ m)))
-      found_by s (Match.Refused k) road m e = absurd (true≢false (sym (ap is_match e ∙ m)))
+      found_by s (Ok (Match.Found y)) road m e = let x : Worked = match_worked (Ok (Match.Found y)) road d f next in showing x s e (match_retold x refl refl)
+      found_by s (Ok Match.Nothing) true m e = let x : Worked = match_worked (Ok Match.Nothing) true d f next in showing x s e (match_retold x refl refl)
+      found_by s (Ok Match.Nothing) false m e = let x : Worked = match_worked (Ok Match.Nothing) false d f next in showing x s e (match_retold x refl refl)
+      found_by s (Ok (Match.Need key)) road m e = absurd (true≢false (sym (ap is_match e ∙ m)))
+      found_by s (Err k) road m e = absurd (true≢false (sym (ap is_match e ∙ m)))
 
       -- a finished road
-      road_by : (s : Shown) (x : RoadOutcome.Outcome) (found : Matched) (samples behind : List ℤ) → is_road s ≡ true
+      road_by : (s : Shown) (x : Result RoadOutcome.Outcome Refusal) (found : Matched) (samples behind : List ℤ) → is_road s ≡ true
           → (road_worked x d f found samples behind).shown ≡ s → Retold (events_of s) (road_worked x d f found samples behind)
-      road_by s (Roads.Road p) found samples behind r e =
-          let x : Worked = road_worked (Roads.Road p) d f found samples behind in showing x s e (none_retold x refl refl)
-      road_by s (Roads.Need key) found samples behind r e = absurd (true≢false (sym (ap is_road e ∙ r)))
-      road_by s Roads.Rematch found samples behind r e =
-          let x : Worked = road_worked Roads.Rematch d f found samples behind in showing x s e (clear_retold x refl refl)
-      road_by s (Roads.Refused k) found samples behind r e = by (eqb k 10) e
+      road_by s (Ok (Roads.Road p)) found samples behind r e =
+          let x : Worked = road_worked (Ok (Roads.Road p)) d f found samples behind in showing x s e (none_retold x refl refl)
+      road_by s (Ok (Roads.Need key)) found samples behind r e = absurd (true≢false (sym (ap is_road e ∙ r)))
+      road_by s (Ok Roads.Rematch) found samples behind r e =
+          let x : Worked = road_worked (Ok Roads.Rematch) d f found samples behind in showing x s e (clear_retold x refl refl)
+      road_by s (Err k) found samples behind r e = by (eqb (number_of k) 10) e
         where
           left : Bool → Worked
           left t = cond t (record { held = with_matcher d Matching.reset; shown = Shows.again 10 Matching.reset }) (stuck d)
@@ -135,9 +135,9 @@ module _ (at : Lookup) (made : Made) where
           by true e = showing (left true) s e (clear_retold (left true) refl refl)
           by false e = absurd (true≢false (sym (ap is_road e ∙ r)))
 
-      current_by : (s : Shown) (x : Current) → is_road s ≡ true → (current_worked at made P x d f).shown ≡ s → Retold (events_of s) (current_worked at made P x d f)
-      current_by s Current.Nothing r e = absurd (true≢false (sym (ap is_road e ∙ r)))
-      current_by s (Current.Is found) r e =
+      current_by : (s : Shown) (x : Option Matched) → is_road s ≡ true → (current_worked at made P x d f).shown ≡ s → Retold (events_of s) (current_worked at made P x d f)
+      current_by s None r e = absurd (true≢false (sym (ap is_road e ∙ r)))
+      current_by s (Some found) r e =
           let x = road_held at made P found in road_by s x.answer found x.samples x.behind r e
 
       key_by : (s : Shown) (x : Option TileKey) → is_road s ≡ true → (key_worked at made P x d f).shown ≡ s → Retold (events_of s) (key_worked at made P x d f)
@@ -151,10 +151,10 @@ module _ (at : Lookup) (made : Made) where
       fix_by s t false false p q u v e =
           rw (u, v) (showing (idle d) s (rw (u, v) at e) (none_retold (idle d) refl refl))
 
-    step_by : (s : Shown) (t : Told) (x : MaybeFix) → d.sight.fix ≡ x → t.match ≡ is_match s → t.road ≡ is_road s → (step_worked_by at made P x t d).shown ≡ s
+    step_by : (s : Shown) (t : Told) (x : Option Fix) → d.sight.fix ≡ x → t.match ≡ is_match s → t.road ≡ is_road s → (step_worked_by at made P x t d).shown ≡ s
         → Retold (events_of s) (step_worked_by at made P x t d)
-    step_by s t MaybeFix.Nothing q m r e = showing (idle d) s e (none_retold (idle d) refl refl)
-    step_by s t (MaybeFix.Is f) q m r e = fix_by f q s t (is_match s) (is_road s) refl refl m r e
+    step_by s t None q m r e = showing (idle d) s e (none_retold (idle d) refl refl)
+    step_by s t (Some f) q m r e = fix_by f q s t (is_match s) (is_road s) refl refl m r e
 
     step_retold : (s : Shown) (t : Told) → t.match ≡ is_match s → t.road ≡ is_road s → (step_worked at made P t d).shown ≡ s
         → Retold (events_of s) (step_worked at made P t d)
@@ -215,10 +215,10 @@ module _ (at : Lookup) (n : ℕ) (horizon : Float) (answers : Answers n at) wher
     fix_recalls f = by (engine_ok e₁ (length w.arena)) (is_point f.lat f.lon)
       where
         left : Bool → Bool → Changed
-        left s t = cond s (cond t (followed e₁ (Followers.fixed e₁.follower f)) (unchanged e₁ 8)) (unchanged e₁ 12)
+        left s t = cond s (cond t (followed e₁ (Followers.fixed e₁.follower f)) (unchanged e₁ Refusal.OutOfRange)) (unchanged e₁ Refusal.BadState)
 
         by : (s t : Bool)
-            → Recalls (retold at (made_of n horizon) (taken (number_of_taken (left s t).answer) (Story.fixed f)) p₁) P
+            → Recalls (retold at (made_of n horizon) (taken (number_of_result (left s t).answer) (Story.fixed f)) p₁) P
             (record { engine = (left s t).engine; arena = w.arena })
         by true true = record { pack = refl; held = fixed_follows h e₁.follower f follows.sight follows.matcher }
         by true false = record { pack = refl; held = follows }
@@ -229,9 +229,9 @@ module _ (at : Lookup) (n : ℕ) (horizon : Float) (answers : Answers n at) wher
     lost_recalls = by (engine_ok e₁ (length w.arena))
       where
         left : Bool → Changed
-        left t = cond t (followed e₁ (Followers.lost e₁.follower)) (unchanged e₁ 12)
+        left t = cond t (followed e₁ (Followers.lost e₁.follower)) (unchanged e₁ Refusal.BadState)
 
-        by : (t : Bool) → Recalls (retold at (made_of n horizon) (taken (number_of_taken (left t).answer) Story.lost) p₁) P
+        by : (t : Bool) → Recalls (retold at (made_of n horizon) (taken (number_of_result (left t).answer) Story.lost) p₁) P
             (record { engine = (left t).engine; arena = w.arena })
         by true = record { pack = refl; held = lost_follows h e₁.follower follows.sight }
         by false = record { pack = refl; held = follows }
@@ -241,10 +241,10 @@ module _ (at : Lookup) (n : ℕ) (horizon : Float) (answers : Answers n at) wher
     reset_recalls Q = by (engine_ok e₁ (length w.arena))
       where
         left : Bool → Changed
-        left t = cond t (States.forgotten e₁) (unchanged e₁ 12)
+        left t = cond t (States.forgotten e₁) (unchanged e₁ Refusal.BadState)
 
         by : (t : Bool)
-            → Recalls (retold at (made_of n horizon) (taken (number_of_taken (left t).answer) (Story.reset Q)) p₁) (cond (not (eqb (number_of_taken (left t).answer) 0)) P Q)
+            → Recalls (retold at (made_of n horizon) (taken (number_of_result (left t).answer) (Story.reset Q)) p₁) (cond (not (eqb (number_of_result (left t).answer) 0)) P Q)
             (record { engine = (left t).engine; arena = w.arena })
         by true = record { pack = refl; held = record { sight = follows.sight; matcher = refl } }
         by false = record { pack = refl; held = follows }
@@ -295,28 +295,28 @@ module _ (at : Lookup) (made : Made) (P : List ℕ) (d : Held) where
   unfolding step_worked
   same_told t u m r = by d.sight.fix
     where
-      by : (x : MaybeFix) → step_worked_by at made P x u d ≡ step_worked_by at made P x t d
-      by MaybeFix.Nothing = refl
-      by (MaybeFix.Is f) = rw (m, r)
+      by : (x : Option Fix) → step_worked_by at made P x u d ≡ step_worked_by at made P x t d
+      by None = refl
+      by (Some f) = rw (m, r)
 
   -- and a match by that it was finished
   match_told : (t u : Told) → t.match ≡ true → u.match ≡ true → matcher_of (step_worked at made P u d).shown ≡ matcher_of (step_worked at made P t d).shown
   unfolding step_worked
   match_told t u m r = by d.sight.fix
     where
-      either : (f : Fix) (x : MatchOutcome.Outcome) (a b : Bool) (next : Matcher)
+      either : (f : Fix) (x : Result MatchOutcome.Outcome Refusal) (a b : Bool) (next : Matcher)
           → matcher_of (match_worked x b d f next).shown ≡ matcher_of (match_worked x a d f next).shown
-      either f (Match.Found y) a b next = refl
-      either f Match.Nothing true true next = refl
-      either f Match.Nothing true false next = refl
-      either f Match.Nothing false true next = refl
-      either f Match.Nothing false false next = refl
-      either f (Match.Need key) a b next = refl
-      either f (Match.Refused k) a b next = refl
+      either f (Ok (Match.Found y)) a b next = refl
+      either f (Ok Match.Nothing) true true next = refl
+      either f (Ok Match.Nothing) true false next = refl
+      either f (Ok Match.Nothing) false true next = refl
+      either f (Ok Match.Nothing) false false next = refl
+      either f (Ok (Match.Need key)) a b next = refl
+      either f (Err k) a b next = refl
 
-      by : (x : MaybeFix) → matcher_of (step_worked_by at made P x u d).shown ≡ matcher_of (step_worked_by at made P x t d).shown
-      by MaybeFix.Nothing = refl
-      by (MaybeFix.Is f) = rw (m, r) (either f (match_held at made P d f).answer t.road u.road (match_held at made P d f).matcher)
+      by : (x : Option Fix) → matcher_of (step_worked_by at made P x u d).shown ≡ matcher_of (step_worked_by at made P x t d).shown
+      by None = refl
+      by (Some f) = rw (m, r) (either f (match_held at made P d f).answer t.road u.road (match_held at made P d f).matcher)
 
 nothing_same : SameFinish Shows.nothing Shows.nothing
 nothing_same = record { matches = λ p q. refl; all = λ p q. refl }
@@ -362,7 +362,7 @@ module _ (at : Lookup) (n : ℕ) (horizon : Float) (answers : Answers n at) wher
 
   -- what is seen and matched, as it is held
   abbrev seen_by : World → Held
-  seen_by w = record { sight = w.engine.follower.sight; matcher = w.engine.follower.matcher; last = Current.Nothing }
+  seen_by w = record { sight = w.engine.follower.sight; matcher = w.engine.follower.matcher; last = None }
 
   -- the direct engine's turn at a call shows what the call does
   alike : (P : List ℕ) (w : World) → Fit P n horizon w → (c : Call) → Fair P w c

@@ -1,6 +1,7 @@
 -- What is claimed of every list of calls, from a fresh engine of any page count and horizon over any arena: demand 3. `AllFair` are its premises,
 -- and there are no others. `AllSafe` is claimed with none.
-use Rattle.std.specs.Prelude.{ℕ, ◌+◌, ◌*◌, ◌≤◌, ◌≡◌, Bool, false, ◌&&◌, not, List, [], ◌∷◌, eqb, Float, ℤ, pos, length, take, drop, replicate}
+use Rattle.refusal.specs.declared.Refusal.{Refusal}
+use Rattle.std.specs.Prelude.{Result, Ok, Err, ℕ, ◌+◌, ◌*◌, ◌≤◌, ◌≡◌, Bool, false, ◌&&◌, not, List, [], ◌∷◌, eqb, Float, ℤ, pos, length, take, drop, replicate}
 use Rattle.pack.specs.declared.Header.{Header}
 use Rattle.pack.specs.declared.TileKey.{TileKey}
 use Rattle.geo.specs.declared.Point.{Point}
@@ -52,23 +53,23 @@ shows (c ∷ cs) w = shown w c ∷ shows cs (exec c w).world
 -- one pack, which changes only at a reset; a header, entry or tile given to a call is that pack's"
 
 -- bytes that answer a fetch are what the pack has there
-abbrev pub FairBytes : List ℕ → Status → List ℕ → Type 0
-FairBytes P (Status.Fetch offset len) bs = length bs ≡ len → (offset + len ≤ length P) × (bs ≡ take len (drop offset P))
-FairBytes P Status.Idle bs = Unit
-FairBytes P Status.Working bs = Unit
-FairBytes P Status.NoPack bs = Unit
-FairBytes P Status.OffMap bs = Unit
-FairBytes P (Status.Refused n) bs = Unit
+abbrev pub FairBytes : List ℕ → Result Status Refusal → List ℕ → Type 0
+FairBytes P (Ok (Status.Fetch offset len)) bs = length bs ≡ len → (offset + len ≤ length P) × (bs ≡ take len (drop offset P))
+FairBytes P (Ok Status.Idle) bs = Unit
+FairBytes P (Ok Status.Working) bs = Unit
+FairBytes P (Ok Status.NoPack) bs = Unit
+FairBytes P (Ok Status.OffMap) bs = Unit
+FairBytes P (Err e) bs = Unit
 
 -- what a lent pack yields for a fetch is what the pack has there
-abbrev pub FairLent : List ℕ → Status → List ℕ → Type 0
-FairLent P (Status.Fetch offset len) Q =
+abbrev pub FairLent : List ℕ → Result Status Refusal → List ℕ → Type 0
+FairLent P (Ok (Status.Fetch offset len)) Q =
     offset + len ≤ length Q → (offset + len ≤ length P) × (take len (drop offset Q) ≡ take len (drop offset P))
-FairLent P Status.Idle Q = Unit
-FairLent P Status.Working Q = Unit
-FairLent P Status.NoPack Q = Unit
-FairLent P Status.OffMap Q = Unit
-FairLent P (Status.Refused n) Q = Unit
+FairLent P (Ok Status.Idle) Q = Unit
+FairLent P (Ok Status.Working) Q = Unit
+FairLent P (Ok Status.NoPack) Q = Unit
+FairLent P (Ok Status.OffMap) Q = Unit
+FairLent P (Err e) Q = Unit
 
 -- nothing is asked of a call that gives nothing, of a read that failed, nor of a delivery that is refused
 abbrev pub Fair : List ℕ → World → Call → Type 0
@@ -160,22 +161,22 @@ HandedOut w (read r) = Unit
 HandedOut w (nearby h p) = Unit
 HandedOut w (current m) = Unit
 
-abbrev pub reads_of : Status → List Read
-reads_of (Status.Fetch offset len) = record { offset = offset; len = len } ∷ []
-reads_of Status.Idle = []
-reads_of Status.Working = []
-reads_of Status.NoPack = []
-reads_of Status.OffMap = []
-reads_of (Status.Refused n) = []
+abbrev pub reads_of : Result Status Refusal → List Read
+reads_of (Ok (Status.Fetch offset len)) = record { offset = offset; len = len } ∷ []
+reads_of (Ok Status.Idle) = []
+reads_of (Ok Status.Working) = []
+reads_of (Ok Status.NoPack) = []
+reads_of (Ok Status.OffMap) = []
+reads_of (Err e) = []
 
 -- of the lent-pack form: what its step asks for, and what is asked for still once that was delivered
-abbrev pub lent_reads : Status → Status → List Read
-lent_reads (Status.Fetch offset len) after = record { offset = offset; len = len } ∷ reads_of after
-lent_reads Status.Idle after = []
-lent_reads Status.Working after = []
-lent_reads Status.NoPack after = []
-lent_reads Status.OffMap after = []
-lent_reads (Status.Refused n) after = []
+abbrev pub lent_reads : Result Status Refusal → Result Status Refusal → List Read
+lent_reads (Ok (Status.Fetch offset len)) after = record { offset = offset; len = len } ∷ reads_of after
+lent_reads (Ok Status.Idle) after = []
+lent_reads (Ok Status.Working) after = []
+lent_reads (Ok Status.NoPack) after = []
+lent_reads (Ok Status.OffMap) after = []
+lent_reads (Err e) after = []
 
 -- the reads that a call asks for, or makes of a lent pack
 abbrev pub reads : World → Call → List Read
@@ -192,13 +193,13 @@ reads w (current m) = []
 reads w (update m h p heading) = []
 reads w (predict h m horizon samples behind) = []
 
-abbrev pub SameFor : Status → List ℕ → List ℕ → Type 0
-SameFor (Status.Fetch offset len) Q R = Cached.SameAt offset len Q R
-SameFor Status.Idle Q R = Unit
-SameFor Status.Working Q R = Unit
-SameFor Status.NoPack Q R = Unit
-SameFor Status.OffMap Q R = Unit
-SameFor (Status.Refused n) Q R = Unit
+abbrev pub SameFor : Result Status Refusal → List ℕ → List ℕ → Type 0
+SameFor (Ok (Status.Fetch offset len)) Q R = Cached.SameAt offset len Q R
+SameFor (Ok Status.Idle) Q R = Unit
+SameFor (Ok Status.Working) Q R = Unit
+SameFor (Ok Status.NoPack) Q R = Unit
+SameFor (Ok Status.OffMap) Q R = Unit
+SameFor (Err e) Q R = Unit
 
 -- "fetches twice in a step" by values: of a lent pack a call sees the one read that its step asks for, or its `fetch` tells, and nothing else; and a
 -- delivery asks for none
@@ -207,13 +208,13 @@ pub record LentOnly (w : World) (c : Call) : Type 0 where
   pub load : (x : CacheCalls.Call) → c ≡ on_cache x → Cached.LentOnly (cache_of w) x
   pub delivery : (failure : ℕ) (bs : List ℕ) → c ≡ deliver failure bs → reads w c ≡ []
 
-abbrev pub HasLen : Status → ℕ → Type 0
-HasLen (Status.Fetch offset len) n = n ≡ len
-HasLen Status.Idle n = ⊥
-HasLen Status.Working n = ⊥
-HasLen Status.NoPack n = ⊥
-HasLen Status.OffMap n = ⊥
-HasLen (Status.Refused k) n = ⊥
+abbrev pub HasLen : Result Status Refusal → ℕ → Type 0
+HasLen (Ok (Status.Fetch offset len)) n = n ≡ len
+HasLen (Ok Status.Idle) n = ⊥
+HasLen (Ok Status.Working) n = ⊥
+HasLen (Ok Status.NoPack) n = ⊥
+HasLen (Ok Status.OffMap) n = ⊥
+HasLen (Err e) n = ⊥
 
 -- bytes that a delivery takes are those of the open fetch: with any other number of them it is refused
 abbrev pub TakesOnly : World → Call → Type 0

@@ -2,8 +2,7 @@
 -- 12's test; in every world that a fair list leaves, with the pack's header, it does and answers what the public call does. A lookup of a key outside the
 -- grid is 9 as a public call; the core leaves all as it was and hands out no run.
 use Rattle.refusal.specs.declared.Refusal.{Refusal}
-use Rattle.std.specs.Prelude.{Result, Ok, Err}
-use Rattle.std.specs.Prelude.{ℕ, ◌*◌, ◌≤◌, ◌≡◌, true, false, ◌&&◌, List, [], ◌∷◌, Float, ℤ, length}
+use Rattle.std.specs.Prelude.{Result, Ok, Err, ℕ, ◌*◌, ◌≤◌, ◌≡◌, true, false, ◌&&◌, List, [], ◌∷◌, Float, ℤ, length}
 use Rattle.pack.specs.Grid.{in_grid}
 use Rattle.pack.specs.declared.Header.{Header}
 use Rattle.pack.specs.declared.TileKey.{TileKey}
@@ -65,7 +64,7 @@ abbrev pub NoRun : Result Lookup Refusal → Type 0
 NoRun (Ok (Lookup.Ready first len)) = ⊥
 NoRun (Ok Lookup.Missing) = Unit
 NoRun (Ok Lookup.Absent) = Unit
-NoRun (Err number) = Unit
+NoRun (Err e) = Unit
 
 pub record Outside (w : World) (h : Header) (key : TileKey) : Type 0 where
   pub cache : (Lookups.got w.engine.shared.cache w.arena h.tile key).cache ≡ w.engine.shared.cache

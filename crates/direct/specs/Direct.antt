@@ -2,8 +2,9 @@
 -- pack, the state's page count, whatever else the engine was made with and the calls with their arguments, and is told which were refused, left a
 -- fetch open, or finished a match or road." It is written over `at`, which says how a tile of a pack is looked up; `directly` is document 01's
 -- direct lookup.
-use Rattle.std.specs.Prelude.{Option, Some, None}
-use Rattle.std.specs.Prelude.{ℕ, Bool, ◌&&◌, cond, List, [], ◌∷◌, ◌++◌, eqb, Float, ℤ, pos, take, replicate}
+use Rattle.refusal.specs.Refusal.{number_of}
+use Rattle.refusal.specs.declared.Refusal.{Refusal}
+use Rattle.std.specs.Prelude.{Result, Ok, Err, Option, Some, None, ℕ, Bool, ◌&&◌, cond, List, [], ◌∷◌, ◌++◌, eqb, Float, ℤ, pos, take, replicate}
 use Rattle.num.specs.Order.{min}
 use Rattle.pack.specs.Sector.{parse, header_in}
 use Rattle.pack.specs.Grid.{is_point, in_grid, key_of}
@@ -12,7 +13,6 @@ use Rattle.pack.specs.declared.TileKey.{TileKey}
 use Rattle.geo.specs.Flat.{whole}
 use Rattle.geo.specs.declared.Point.{Point}
 use Rattle.cache.specs.Direct.{Look, direct}
-use Rattle.matcher.specs.declared.Current.{Current}
 use Rattle.matcher.specs.declared.Heading.{Heading}
 use Rattle.matcher.specs.declared.Matched.{Matched}
 use Rattle.matcher.specs.Calls as Matching
@@ -28,7 +28,6 @@ use Rattle.predict.specs.declared.Outcome.TheVariants as Roads
 use Rattle.engine.specs.Fixes as Fixes
 use Rattle.engine.specs.Publish.{nothing_ahead, with_match, without_match}
 use Rattle.engine.specs.declared.Fix.{Fix}
-use Rattle.engine.specs.declared.MaybeFix.{MaybeFix}
 use Rattle.engine.specs.declared.Sight.{Sight}
 use Rattle.engine.specs.Work.{with_heights}
 use Rattle.direct.specs.Lists.{Call, fix, lost, reset, step, deliver, step_from, read, on_cache, nearby, current, update, predict}
@@ -64,10 +63,10 @@ directly n P key = direct P (header_of P) n key
 pub record Held : Type 0 where
   pub sight : Sight
   pub matcher : Matcher
-  pub last : Current
+  pub last : Option Matched
 
 abbrev pub new_held : Held
-new_held = record { sight = Fixes.nothing_seen; matcher = Matching.reset; last = Current.Nothing }
+new_held = record { sight = Fixes.nothing_seen; matcher = Matching.reset; last = None }
 
 abbrev pub with_matcher : Held → Matcher → Held
 with_matcher d m = record { sight = d.sight; matcher = m; last = d.last }
@@ -77,10 +76,10 @@ abbrev pub fixed : Held → Fix → Held
 fixed d f = cond (Fixes.is_same_place d.sight.fix f) d (record { sight = Fixes.seen d.sight f; matcher = d.matcher; last = d.last })
 
 abbrev pub lost_held : Held → Held
-lost_held d = record { sight = Fixes.lost d.sight; matcher = Matching.reset; last = Current.Nothing }
+lost_held d = record { sight = Fixes.lost d.sight; matcher = Matching.reset; last = None }
 
 abbrev pub forgotten : Held → Held
-forgotten d = record { sight = d.sight; matcher = Matching.reset; last = Current.Nothing }
+forgotten d = record { sight = d.sight; matcher = Matching.reset; last = None }
 
 -- ---- what it works out
 
@@ -101,25 +100,25 @@ abbrev pub no_road : Fix → End → Road
 no_road f end = road_of (without_match (nothing_ahead 0) f.at_ms end)
 
 -- a match that was finished; with a road beside it, which was emptied, where none was found
-abbrev pub match_worked : MatchOutcome.Outcome → Bool → Held → Fix → Matcher → Worked
-match_worked (Match.Found m) road d f next = record { held = with_matcher d next; shown = matched next }
-match_worked Match.Nothing road d f next =
+abbrev pub match_worked : Result MatchOutcome.Outcome Refusal → Bool → Held → Fix → Matcher → Worked
+match_worked (Ok (Match.Found m)) road d f next = record { held = with_matcher d next; shown = matched next }
+match_worked (Ok Match.Nothing) road d f next =
     cond road
-    (record { held = record { sight = d.sight; matcher = next; last = Current.Nothing }; shown = unmatched next (no_road f End.Uncertain) })
+    (record { held = record { sight = d.sight; matcher = next; last = None }; shown = unmatched next (no_road f End.Uncertain) })
     (record { held = with_matcher d next; shown = matched next })
-match_worked (Match.Need key) road d f next = stuck d
-match_worked (Match.Refused number) road d f next = stuck d
+match_worked (Ok (Match.Need key)) road d f next = stuck d
+match_worked (Err e) road d f next = stuck d
 
 -- a road that was finished: published with the held fix's time; by 6 or 10 the matcher is cleared
-abbrev pub road_worked : RoadOutcome.Outcome → Held → Fix → Matched → List ℤ → List ℤ → Worked
-road_worked (Roads.Road p) d f found samples behind = record {
-  held = record { sight = d.sight; matcher = d.matcher; last = Current.Is found };
+abbrev pub road_worked : Result RoadOutcome.Outcome Refusal → Held → Fix → Matched → List ℤ → List ℤ → Worked
+road_worked (Ok (Roads.Road p)) d f found samples behind = record {
+  held = record { sight = d.sight; matcher = d.matcher; last = Some found };
   shown = published (road_of (with_match (with_heights (nothing_ahead 0) samples behind) f.at_ms found p));
 }
-road_worked (Roads.Need key) d f found samples behind = stuck d
-road_worked Roads.Rematch d f found samples behind = record { held = with_matcher d Matching.reset; shown = again 6 Matching.reset }
-road_worked (Roads.Refused number) d f found samples behind =
-    cond (eqb number 10) (record { held = with_matcher d Matching.reset; shown = again 10 Matching.reset }) (stuck d)
+road_worked (Ok (Roads.Need key)) d f found samples behind = stuck d
+road_worked (Ok Roads.Rematch) d f found samples behind = record { held = with_matcher d Matching.reset; shown = again 6 Matching.reset }
+road_worked (Err e) d f found samples behind =
+    cond (eqb (number_of e) 10) (record { held = with_matcher d Matching.reset; shown = again 10 Matching.reset }) (stuck d)
 
 -- off the map a published road is emptied, and the match goes with it: because it was told so
 abbrev pub empty_worked : Held → Fix → Worked
@@ -147,9 +146,9 @@ module _ (at : Lookup) (made : Made) (P : List ℕ) where
   road_held found =
       Predict.predict_over (at P) made.pages (header_of P) found (min made.horizon (whole 10000)) (replicate 501 (pos 0)) (replicate 11 (pos 0))
 
-  abbrev pub current_worked : Current → Held → Fix → Worked
-  current_worked Current.Nothing d f = stuck d
-  current_worked (Current.Is found) d f = let r = road_held found in road_worked r.answer d f found r.samples r.behind
+  abbrev pub current_worked : Option Matched → Held → Fix → Worked
+  current_worked None d f = stuck d
+  current_worked (Some found) d f = let r = road_held found in road_worked r.answer d f found r.samples r.behind
 
   abbrev pub key_worked : Option TileKey → Held → Fix → Worked
   key_worked (Some key) d f = current_worked d.matcher.current d f
@@ -160,9 +159,9 @@ module _ (at : Lookup) (made : Made) (P : List ℕ) where
       cond t.match (let u = match_held d f in match_worked u.answer t.road d f u.matcher)
       (cond t.road (key_worked (key_of (header_of P) f.lat f.lon) d f) (idle d))
 
-  abbrev pub step_worked_by : MaybeFix → Told → Held → Worked
-  step_worked_by MaybeFix.Nothing t d = idle d
-  step_worked_by (MaybeFix.Is f) t d = fix_worked t d f
+  abbrev pub step_worked_by : Option Fix → Told → Held → Worked
+  step_worked_by None t d = idle d
+  step_worked_by (Some f) t d = fix_worked t d f
 
   -- what a step finished, at the held fix
   unfoldable pub step_worked : Told → Held → Worked
@@ -172,12 +171,12 @@ module _ (at : Lookup) (made : Made) (P : List ℕ) where
   unfoldable pub update_worked : Matcher → Header → Point → Heading → Shown
   update_worked m h p heading =
       let u = Gather.update_over (at P) m h p heading in
-      cond (is_point p.lat p.lon && heading_ok heading) (or_unanswered (update_shown u.answer u.matcher)) (updated (Match.Refused 8) m)
+      cond (is_point p.lat p.lon && heading_ok heading) (or_unanswered (update_shown u.answer u.matcher)) (updated (Err Refusal.OutOfRange) m)
 
   unfoldable pub predict_worked : Header → Matched → Float → List ℤ → List ℤ → Shown
   predict_worked h m horizon samples behind =
       let r = Predict.predict_over (at P) made.pages h m horizon samples behind in
-      cond (in_grid h m.tile.key) (or_unanswered (predict_shown r.answer r.samples r.behind)) (predicted (Roads.Refused 9) [] [])
+      cond (in_grid h m.tile.key) (or_unanswered (predict_shown r.answer r.samples r.behind)) (predicted (Err Refusal.OutsideGrid) [] [])
 
   -- "What a call finishes it works out by the definition"; "All else, refusals too, changes nothing"
   unfoldable pub worked : Call → Told → Held → Worked

@@ -2,8 +2,10 @@
 -- empty Memory answer at the reload limit"; so is (docs/DECISIONS.md, "Demand 3") an empty road that a step publishes because nothing was found or because the fix
 -- is off the map. "Compared are how it ended and, as that call leaves them, all its fields but `loads`, generation and heights past its length":
 -- `Shown` has just those, read off what the call leaves.
-use Rattle.std.specs.Prelude.{ℕ, Bool, true, false, cond, List, [], eqb, Float, ℤ, length, take}
-use Rattle.matcher.specs.declared.Current.{Current}
+use Rattle.refusal.specs.Refusal.{number_of}
+use Rattle.refusal.specs.declared.Refusal.{Refusal}
+use Rattle.matcher.specs.declared.Matched.{Matched}
+use Rattle.std.specs.Prelude.{Option, Result, Ok, Err, ℕ, Bool, true, false, cond, List, [], eqb, Float, ℤ, length, take}
 use Rattle.matcher.specs.Calls as Matching
 use Rattle.matcher.specs.declared.Matcher.{Matcher}
 use Rattle.matcher.specs.declared.Outcome as MatchOutcome
@@ -26,7 +28,7 @@ use Rattle.direct.specs.Lists.{World, Call, fix, lost, reset, step, deliver, ste
 -- of a published road; heights below its lengths
 pub record Road : Type 0 where
   pub at_ms : ℕ
-  pub matched : Current
+  pub matched : Option Matched
   pub start_z_dm : ℤ
   pub len : ℕ
   pub samples : List ℤ
@@ -65,27 +67,27 @@ pub data Shown : Type 0 where
   -- off the map: the road that was published is emptied and the matcher cleared
   emptied : Matcher → Road → Shown
   -- by a direct call: how a match ended, and the matcher given back; how a road ended, with its heights ahead and behind
-  updated : MatchOutcome.Outcome → Matcher → Shown
-  predicted : RoadOutcome.Outcome → List ℤ → List ℤ → Shown
+  updated : Result MatchOutcome.Outcome Refusal → Matcher → Shown
+  predicted : Result RoadOutcome.Outcome Refusal → List ℤ → List ℤ → Shown
   -- of the direct engine alone: a lookup without an answer
   unanswered : Shown
 
 -- ---- a step: what it works at (`task_of`), the match that it then makes and the road that it works out stand in specs/Tasks of crate engine_states
 
 -- of the engine e, which the step leaves as n
-abbrev pub match_shown : MatchOutcome.Outcome → Engine → Engine → Shown
-match_shown (Match.Found m) e n = matched n.follower.matcher
-match_shown Match.Nothing e n =
+abbrev pub match_shown : Result MatchOutcome.Outcome Refusal → Engine → Engine → Shown
+match_shown (Ok (Match.Found m)) e n = matched n.follower.matcher
+match_shown (Ok Match.Nothing) e n =
     cond (is_matched e.follower.ahead.matched) (unmatched n.follower.matcher (road_of n.follower.ahead)) (matched n.follower.matcher)
-match_shown (Match.Need key) e n = nothing
-match_shown (Match.Refused number) e n = nothing
+match_shown (Ok (Match.Need key)) e n = nothing
+match_shown (Err refusal) e n = nothing
 
 -- Need is 5; past the reload limit it is the empty Memory answer
-abbrev pub road_shown : RoadOutcome.Outcome → Engine → Shown
-road_shown (Roads.Road p) n = published (road_of n.follower.ahead)
-road_shown (Roads.Need key) n = nothing
-road_shown Roads.Rematch n = again 6 n.follower.matcher
-road_shown (Roads.Refused number) n = cond (eqb number 10) (again 10 n.follower.matcher) nothing
+abbrev pub road_shown : Result RoadOutcome.Outcome Refusal → Engine → Shown
+road_shown (Ok (Roads.Road p)) n = published (road_of n.follower.ahead)
+road_shown (Ok (Roads.Need key)) n = nothing
+road_shown (Ok Roads.Rematch) n = again 6 n.follower.matcher
+road_shown (Err refusal) n = cond (eqb (number_of refusal) 10) (again 10 n.follower.matcher) nothing
 
 abbrev pub off_map_shown : Engine → Engine → Shown
 off_map_shown e n = cond (is_matched e.follower.ahead.matched) (emptied n.follower.matcher (road_of n.follower.ahead)) nothing
@@ -102,17 +104,17 @@ step_shown e arena = cond (engine_ok e (length arena)) (task_shown (task_of e) e
 
 -- ---- a direct call: it ends other than by 5 or 12, so a refusal by 8, 9 or 10 is finished too
 
-abbrev pub update_shown : MatchOutcome.Outcome → Matcher → Shown
-update_shown (Match.Found m) next = updated (Match.Found m) next
-update_shown Match.Nothing next = updated Match.Nothing next
-update_shown (Match.Need key) next = nothing
-update_shown (Match.Refused number) next = cond (eqb number 12) nothing (updated (Match.Refused number) next)
+abbrev pub update_shown : Result MatchOutcome.Outcome Refusal → Matcher → Shown
+update_shown (Ok (Match.Found m)) next = updated (Ok (Match.Found m)) next
+update_shown (Ok Match.Nothing) next = updated (Ok Match.Nothing) next
+update_shown (Ok (Match.Need key)) next = nothing
+update_shown (Err refusal) next = cond (eqb (number_of refusal) 12) nothing (updated (Err refusal) next)
 
-abbrev pub predict_shown : RoadOutcome.Outcome → List ℤ → List ℤ → Shown
-predict_shown (Roads.Road p) samples behind = predicted (Roads.Road p) (take p.len samples) (take p.behind behind)
-predict_shown (Roads.Need key) samples behind = nothing
-predict_shown Roads.Rematch samples behind = predicted Roads.Rematch [] []
-predict_shown (Roads.Refused number) samples behind = cond (eqb number 12) nothing (predicted (Roads.Refused number) [] [])
+abbrev pub predict_shown : Result RoadOutcome.Outcome Refusal → List ℤ → List ℤ → Shown
+predict_shown (Ok (Roads.Road p)) samples behind = predicted (Ok (Roads.Road p)) (take p.len samples) (take p.behind behind)
+predict_shown (Ok (Roads.Need key)) samples behind = nothing
+predict_shown (Ok Roads.Rematch) samples behind = predicted (Ok Roads.Rematch) [] []
+predict_shown (Err refusal) samples behind = cond (eqb (number_of refusal) 12) nothing (predicted (Err refusal) [] [])
 
 -- ---- a call
 

@@ -2,8 +2,9 @@
 -- is told what was finished, an emptied road too (docs/DECISIONS.md, Demand 3). `AllLast` says what it is. As long as no empty Memory answer was
 -- published, which is not finished and of which it is not told, its last match is the published one; and whether a road is emptied, off the map or
 -- where no match is found, is whether there is a last match.
-use Rattle.std.specs.Prelude.{ℕ, ◌≤◌, ◌≡◌, Bool, true, false, ◌&&◌, not, List, [], ◌∷◌, Float, length}
-use Rattle.matcher.specs.declared.Current.{Current}
+use Rattle.refusal.specs.declared.Refusal.{Refusal}
+use Rattle.matcher.specs.declared.Matched.{Matched}
+use Rattle.std.specs.Prelude.{Option, Result, Ok, Err, ℕ, ◌≤◌, ◌≡◌, Bool, true, false, ◌&&◌, not, List, [], ◌∷◌, Float, length}
 use Rattle.matcher.specs.declared.Outcome.TheVariants as Match
 use Rattle.predict.specs.declared.Outcome as RoadOutcome
 use Rattle.predict.specs.declared.Outcome.TheVariants as Roads
@@ -27,15 +28,15 @@ direct_after at made P (c ∷ cs) [] d = d
 direct_after at made P (c ∷ cs) (t ∷ ts) d = direct_after at made (pack_after P c t) cs ts (direct_exec at made P c t d).direct
 
 -- its last match, once what waits is done
-abbrev pub last_of : Direct → Current
+abbrev pub last_of : Direct → Option Matched
 last_of d = (applied d.waiting d.held).last
 
 -- a road that asks for a tile, and may ask no more
-abbrev pub is_need : RoadOutcome.Outcome → Bool
-is_need (Roads.Need key) = true
-is_need (Roads.Road p) = false
-is_need Roads.Rematch = false
-is_need (Roads.Refused number) = false
+abbrev pub is_need : Result RoadOutcome.Outcome Refusal → Bool
+is_need (Ok (Roads.Need key)) = true
+is_need (Ok (Roads.Road p)) = false
+is_need (Ok Roads.Rematch) = false
+is_need (Err e) = false
 
 abbrev pub task_remembers : Task → Engine → List ℕ → Bool
 task_remembers (Tasks.road f found) e arena =
@@ -50,12 +51,12 @@ pub record NoMemory (w : World) (c : Call) : Type 0 where
   pub lent : (Q : List ℕ) → c ≡ Calls.step_from Q → task_remembers (task_of w.engine) w.engine w.arena ≡ false
 
 -- the last match beside the engine, before its next step
-pub record Tells (last : Current) (w : World) : Type 0 where
+pub record Tells (last : Option Matched) (w : World) : Type 0 where
   pub published : last ≡ w.engine.follower.ahead.matched
   pub off_map : (f : Fix) → engine_ok w.engine (length w.arena) ≡ true → task_of w.engine ≡ Tasks.off_map f
       → is_road (step_shown w.engine w.arena) ≡ is_matched last
   pub none_found : (f : Fix) → engine_ok w.engine (length w.arena) ≡ true → task_of w.engine ≡ Tasks.match f
-      → (match_of w.engine w.arena f).answer ≡ Match.Nothing → is_road (step_shown w.engine w.arena) ≡ is_matched last
+      → (match_of w.engine w.arena f).answer ≡ Ok Match.Nothing → is_road (step_shown w.engine w.arena) ≡ is_matched last
 
 abbrev pub AllLast : Type 0
 AllLast =

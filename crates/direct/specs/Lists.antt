@@ -1,8 +1,9 @@
 -- The public calls as data, and what a list of them does to the engine and the arena, by the functions' own definitions. Each call gets the
 -- state and the arena that the last one left (demand 3). A direct call is one of cache.rs, matcher.rs or predict.rs: where it takes a cache
 -- state, that is the engine's, and the rest are its own arguments (document 01).
-use Rattle.std.specs.Prelude.{ℕ, List, [], ◌∷◌, Float, ℤ}
-use Rattle.matcher.specs.declared.Answer as NearAnswer
+use Rattle.refusal.specs.declared.Refusal.{Refusal}
+use Rattle.refusal.specs.Refusal.{number_of_result}
+use Rattle.std.specs.Prelude.{Some, None, Ok, Err, true, false, Option, Result, Bool, ℕ, List, [], ◌∷◌, Float, ℤ}
 use Rattle.pack.specs.declared.Header.{Header}
 use Rattle.geo.specs.declared.Point.{Point}
 use Rattle.cache.specs.State as Caches
@@ -12,11 +13,9 @@ use Rattle.cache_lists.specs.Claims as CacheClaims
 use Rattle.matcher.specs.declared.Heading.{Heading}
 use Rattle.matcher.specs.declared.Matched.{Matched}
 use Rattle.matcher.specs.Calls as Matching
-use Rattle.matcher.specs.declared.CurrentRead.{CurrentRead}
 use Rattle.matcher.specs.declared.Matcher.{Matcher}
 use Rattle.matcher.specs.declared.Outcome as MatchOutcome
 use Rattle.matcher.specs.Numbers as Matchers
-use Rattle.matcher.specs.Numbers.{number_of_answer, number_of_current_read}
 use Rattle.predict.specs.Predict as Predict
 use Rattle.predict.specs.Numbers as Roads
 use Rattle.predict.specs.declared.Outcome as RoadOutcome
@@ -24,16 +23,11 @@ use Rattle.engine.specs.Follow as Followers
 use Rattle.engine.specs.declared.Fix.{Fix}
 use Rattle.engine.specs.State.{unread}
 use Rattle.engine.specs.Calls as Engines
-pub use Rattle.engine.specs.Numbers.{number_of_taken, number_of_status, number_of_known, number_of_heading_read, number_of_count}
 use Rattle.engine.specs.Deliver.{After}
 use Rattle.engine.specs.declared.Changed.{Changed}
-use Rattle.engine.specs.declared.Count.{Count}
 use Rattle.engine.specs.declared.Engine.{Engine}
-use Rattle.engine.specs.declared.HeadingRead.{HeadingRead}
-use Rattle.engine.specs.declared.Known.{Known}
 use Rattle.engine.specs.declared.Status.{Status}
 use Rattle.engine.specs.declared.Stepped.{Stepped}
-use Rattle.engine.specs.declared.Taken.{Taken}
 
 -- what the calls work on
 pub record World : Type 0 where
@@ -65,16 +59,16 @@ pub data Call : Type 0 where
   predict : Header → Matched → Float → List ℤ → List ℤ → Call
 
 pub data Answer : Type 0 where
-  taken : Taken → Answer
-  status : Status → Answer
-  known : Known → Answer
-  headed : HeadingRead → Answer
-  counted : Count → Answer
+  taken : Result Unit Refusal → Answer
+  status : Result Status Refusal → Answer
+  known : Result Bool Refusal → Answer
+  headed : Result (Option Float) Refusal → Answer
+  counted : Result ℕ Refusal → Answer
   cached : Cached.Answer → Answer
-  around : NearAnswer.Answer → Answer
-  holding : CurrentRead → Answer
-  matched : MatchOutcome.Outcome → Matcher → Answer
-  predicted : RoadOutcome.Outcome → List ℤ → List ℤ → Answer
+  around : Result Unit Refusal → Answer
+  holding : Result (Option Matched) Refusal → Answer
+  matched : Result MatchOutcome.Outcome Refusal → Matcher → Answer
+  predicted : Result RoadOutcome.Outcome Refusal → List ℤ → List ℤ → Answer
 
 -- what a call leaves, and what it answers
 pub record Done : Type 0 where
@@ -95,9 +89,19 @@ stepped w s = record { world = record { engine = s.engine; arena = w.arena }; an
 abbrev pub delivered : After → Done
 delivered a = record { world = record { engine = a.engine; arena = a.arena }; answer = status a.answer }
 
+-- whether an answer has what was asked for
+abbrev pub tells : {T : Type 0} → Result T Refusal → Result Bool Refusal
+tells (Ok t) = Ok true
+tells (Err e) = Err e
+
+abbrev pub tells_some : {T : Type 0} → Result (Option T) Refusal → Result Bool Refusal
+tells_some (Ok (Some t)) = Ok true
+tells_some (Ok None) = Ok false
+tells_some (Err e) = Err e
+
 abbrev pub reading : Reading → Engine → List ℕ → Answer
-reading its_ahead e arena = known (Engines.ahead e arena).answer
-reading its_header e arena = known (Engines.header e arena).answer
+reading its_ahead e arena = known (tells (Engines.ahead e arena))
+reading its_header e arena = known (tells_some (Engines.header e arena))
 reading its_heading e arena = headed (Engines.heading e arena)
 reading its_loads e arena = counted (Engines.loads e arena)
 reading its_steps e arena = counted (Engines.steps e arena)
@@ -135,14 +139,14 @@ exec (predict h m horizon samples behind) w =
 -- ---- document 01's number of a refusal, 0 for any other answer: a step of a load that failed is none
 
 abbrev pub number : Answer → ℕ
-number (taken a) = number_of_taken a
-number (status a) = number_of_status a
-number (known a) = number_of_known a
-number (headed a) = number_of_heading_read a
-number (counted a) = number_of_count a
+number (taken a) = number_of_result a
+number (status a) = number_of_result a
+number (known a) = number_of_result a
+number (headed a) = number_of_result a
+number (counted a) = number_of_result a
 number (cached a) = CacheClaims.number a
-number (around a) = number_of_answer a
-number (holding a) = number_of_current_read a
+number (around a) = number_of_result a
+number (holding a) = number_of_result a
 number (matched a m) = Matchers.number_of_outcome a
 number (predicted a samples behind) = Roads.number_of_outcome a
 

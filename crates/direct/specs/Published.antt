@@ -3,13 +3,12 @@
 -- Memory answer at the reload limit, which document 01 does not count as finished, and whose match is one that was). So a missed read, a delivery, an
 -- eviction or a direct call can't change a road once it is published. `AllPublished` and `AllRead` are claimed with no premise, `AllReadDirect` on
 -- demand 3's.
-use Rattle.std.specs.Prelude.{ℕ, ◌≤◌, ◌≡◌, false, List, [], ◌∷◌, ◌⊎◌, Float}
-use Rattle.matcher.specs.declared.Current.{Current}
+use Rattle.std.specs.Prelude.{Option, Some, ℕ, ◌≤◌, ◌≡◌, false, List, [], ◌∷◌, ◌⊎◌, Float}
 use Rattle.matcher.specs.declared.Matched.{Matched}
+use Rattle.engine.specs.Calls.{ahead_in}
 use Rattle.engine.specs.Publish.{nothing_ahead, forgotten, with_match}
 use Rattle.engine.specs.declared.Ahead.{Ahead}
 use Rattle.engine.specs.declared.Fix.{Fix}
-use Rattle.engine.specs.declared.MaybeFix.TheVariants as MaybeFix
 use Rattle.engine.specs.Work.{may_ask, no_road}
 use Rattle.engine.specs.Calls as Engines
 use Rattle.engine.specs.declared.Engine.{Engine}
@@ -34,7 +33,7 @@ FinishedRoad r (Shows.predicted a samples behind) = ⊥
 FinishedRoad r Shows.unanswered = ⊥
 
 -- c is how the match that was finished ended
-abbrev pub FinishedMatch : Current → Shown → Type 0
+abbrev pub FinishedMatch : Option Matched → Shown → Type 0
 FinishedMatch c (Shows.matched m) = c ≡ m.current
 FinishedMatch c (Shows.unmatched m q) = c ≡ m.current
 FinishedMatch c (Shows.published q) = ⊥
@@ -52,8 +51,8 @@ pub record AtLimit (e : Engine) (pages : ℕ) (a : Ahead) : Type 0 where
   pub asked : may_ask e.follower.due pages ≡ false
   pub fix : Fix
   pub found : Matched
-  pub newest : e.follower.sight.fix ≡ MaybeFix.Is fix
-  pub current : e.follower.matcher.current ≡ Current.Is found
+  pub newest : e.follower.sight.fix ≡ Some fix
+  pub current : e.follower.matcher.current ≡ Some found
   pub memory : a ≡ with_match e.follower.ahead fix.at_ms found no_road
 
 -- the road that stands published after a call: as it was, every field; the one that the call finished; the empty one with the next generation; the
@@ -91,11 +90,11 @@ memory_of at found = road_of (with_match (nothing_ahead 0) at found no_road)
 pub data Read (ss : List Shown) (r : Road) : Type 0 where
   is_blank : r ≡ blank → Read ss r
   was_finished : Among (FinishedRoad r) ss → Read ss r
-  is_memory : (at : ℕ) (found : Matched) → r ≡ memory_of at found → Among (FinishedMatch (Current.Is found)) ss → Read ss r
+  is_memory : (at : ℕ) (found : Matched) → r ≡ memory_of at found → Among (FinishedMatch (Some found)) ss → Read ss r
 
 -- the road that `ahead` answers
 abbrev pub read_of : World → Road
-read_of w = road_of (Engines.ahead w.engine w.arena).ahead
+read_of w = road_of (ahead_in (Engines.ahead w.engine w.arena))
 
 -- after any list of calls a host reads what the list finished
 abbrev pub AllRead : Type 0

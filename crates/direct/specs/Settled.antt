@@ -2,7 +2,8 @@
 -- call `step` until it answers neither Working nor Fetch before they give the next fix: where a fix is taken, nothing is due. Then where a match was
 -- cleared is decided by what the story says beside it, and can be left out. What carries it is a law of every list, `AllCleared`: unless a road is due, a step off the map
 -- clears the matcher where it has a match.
-use Rattle.std.specs.Prelude.{ℕ, ◌≤◌, ◌≡◌, Bool, true, false, ◌||◌, not, cond, List, [], ◌∷◌, ◌++◌, Float}
+use Rattle.refusal.specs.declared.Refusal.{Refusal}
+use Rattle.std.specs.Prelude.{Result, Ok, Err, ℕ, ◌≤◌, ◌≡◌, Bool, true, false, ◌||◌, not, cond, List, [], ◌∷◌, ◌++◌, Float}
 use Rattle.matcher.specs.Calls as Matching
 use Rattle.engine.specs.Follow.{is_matched}
 use Rattle.engine.specs.State.{is_failed}
@@ -51,13 +52,13 @@ without_cleared [] = []
 without_cleared (x ∷ xs) = cond (is_cleared x) (without_cleared xs) (x ∷ without_cleared xs)
 
 -- there is nothing to do before the next fix
-abbrev pub is_resting : Status → Bool
-is_resting Status.Idle = true
-is_resting Status.OffMap = true
-is_resting Status.NoPack = true
-is_resting Status.Working = false
-is_resting (Status.Fetch offset len) = false
-is_resting (Status.Refused number) = false
+abbrev pub is_resting : Result Status Refusal → Bool
+is_resting (Ok Status.Idle) = true
+is_resting (Ok Status.OffMap) = true
+is_resting (Ok Status.NoPack) = true
+is_resting (Ok Status.Working) = false
+is_resting (Ok (Status.Fetch offset len)) = false
+is_resting (Err e) = false
 
 -- so a host that calls `step` until it rests before it gives a fix keeps to this: after a fair list that kept to it, a step that rests leaves the engine
 -- settled

@@ -3,6 +3,7 @@
 -- the second reads of header and chunk are missed, a fetch is withdrawn, a direct `update` is made, and the tile is cleared away and loaded again. The
 -- next step of each finishes a match, which is none (`ends_one`, `ends_two`, `none_found`), and by `all_stories` these are equal (`same_match`). A direct `predict` and the empty
 -- Memory answer, which takes nineteen loads, are left out as too long to compute.
+use Rattle.std.specs.Prelude.{None}
 use mathlib.Core.Path.{◌≡◌, refl, sym, ◌∙◌}
 use mathlib.Core.Bool.{true}
 use mathlib.Core.List.{[], ◌∷◌, ◌++◌}
@@ -13,7 +14,6 @@ use Rattle.cache.specs.Calls as CacheCalls
 use Rattle.matcher.specs.Calls as Matching
 use Rattle.matcher.specs.State as Matchers
 use Rattle.matcher.specs.Settle as Settle
-use Rattle.matcher.specs.declared.Current.TheVariants as Current
 use Rattle.engine.specs.Publish as Publish
 use Rattle.engine.specs.Follow as Followers
 use Rattle.engine.specs.State as Engines
@@ -50,7 +50,7 @@ unfolding all Story.after
 ends_two = refl
 
 -- the far fix has no match
-pub none_found : (matcher_of (shown (after one begin) step)).current ≡ Current.Nothing
+pub none_found : (matcher_of (shown (after one begin) step)).current ≡ None
 unfolding all Story.after
 none_found = refl
 

@@ -3,10 +3,9 @@
 -- the second reads of header and chunk are missed, a fetch is withdrawn, a direct `update` is made, and the tile is cleared away and loaded again. The
 -- next step of each finishes a match, which is none (`ends_one`, `ends_two`, `none_found`), and by `all_stories` these are equal (`same_match`). A direct `predict` and the empty
 -- Memory answer, which takes nineteen loads, are left out as too long to compute.
-use Rattle.std.specs.Prelude.{◌≡◌, true, List, [], ◌∷◌, ◌++◌, pos, negsuc}
+use Rattle.std.specs.Prelude.{None, ◌≡◌, true, List, [], ◌∷◌, ◌++◌, pos, negsuc}
 use Rattle.cache_lists.specs.Lists as Cached
 use Rattle.matcher.specs.Calls as Matching
-use Rattle.matcher.specs.declared.Current.TheVariants as Current
 use Rattle.matcher.specs.declared.Heading.TheVariants as Heading
 use Rattle.engine.specs.declared.Fix.{Fix}
 use Rattle.direct.specs.Lists.{Call, fix, reset, step, deliver, step_from, on_cache, update}
@@ -49,7 +48,7 @@ pub record Stories : Type 0 where
   pub ends_one : is_match (shown (after one begin) step) ≡ true
   pub ends_two : is_match (shown (after two begin) step) ≡ true
   -- the far fix has no match
-  pub none_found : (matcher_of (shown (after one begin) step)).current ≡ Current.Nothing
+  pub none_found : (matcher_of (shown (after one begin) step)).current ≡ None
   pub fair_one : AllFair pack (one ++ (step ∷ [])) begin
   pub fair_two : AllFair pack (two ++ (step ∷ [])) begin
   pub same_match : matcher_of (shown (after two begin) step) ≡ matcher_of (shown (after one begin) step)

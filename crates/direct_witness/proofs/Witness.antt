@@ -14,7 +14,6 @@ use Rattle.cache.specs.declared.look.Landing.TheVariants as Landing
 use Rattle.cache_lists.specs.Claims.{Parsed}
 use Rattle.cache.specs.declared.Progress.TheVariants as Progress
 use Rattle.engine.specs.declared.Status.TheVariants as Status
-use Rattle.engine.specs.declared.Taken.TheVariants as Taken
 use Rattle.crc.specs.Fcs as Fcs
 use Rattle.num.specs.Convert as Convert
 use Rattle.num.specs.Fold as Fold
@@ -130,11 +129,11 @@ lists = tt
 
 -- the tile stands in page 0 at the first `get`, and is gone at the second
 pub answered : answers calls begin
-    ≡ status (Status.Fetch 0 512) ∷ status Status.Working ∷ status (Status.Fetch 0 512) ∷ taken Taken.Done ∷ status Status.Working
-    ∷ status Status.Working ∷ status (Status.Fetch 512 8) ∷ status Status.Working ∷ status Status.Working ∷ status (Status.Fetch 528 68) ∷ taken Taken.Done ∷ status Status.Working
+    ≡ status (Ok (Status.Fetch 0 512)) ∷ status (Ok Status.Working) ∷ status (Ok (Status.Fetch 0 512)) ∷ taken (Ok tt) ∷ status (Ok Status.Working)
+    ∷ status (Ok Status.Working) ∷ status (Ok (Status.Fetch 512 8)) ∷ status (Ok Status.Working) ∷ status (Ok Status.Working) ∷ status (Ok (Status.Fetch 528 68)) ∷ taken (Ok tt) ∷ status (Ok Status.Working)
     ∷ cached (Cached.found (Ok (Lookup.Ready 0 68))) ∷ cached (Cached.stepped (Ok Progress.More)) ∷ cached (Cached.stepped (Ok Progress.Done))
     ∷ cached (Cached.found (Ok Lookup.Absent))
-    ∷ status Status.Working ∷ status Status.Working ∷ status Status.Working ∷ status Status.Working ∷ status Status.Working ∷ status Status.Idle
+    ∷ status (Ok Status.Working) ∷ status (Ok Status.Working) ∷ status (Ok Status.Working) ∷ status (Ok Status.Working) ∷ status (Ok Status.Working) ∷ status (Ok Status.Idle)
     ∷ []
 unfolding lists answers
 answered = refl

@@ -1,8 +1,7 @@
 -- Demand 3's theorem is not empty: a list of calls, computed from the definitions, in which its premises hold (`fair`), reads fail (`header_missed`,
 -- `entry_missed`), a tile is evicted and loaded again (`answered`, `ready`, `evicted`), fixes come while a fetch is open, and a match and a road are
 -- finished (`finished`) and read (`read`): so they are the direct engine's (`direct_finished`).
-use Rattle.std.specs.Prelude.{Ok}
-use Rattle.std.specs.Prelude.{ℕ, ◌≡◌, true, false, List, [], ◌∷◌, ◌++◌, ℤ, pos, negsuc, Float, take, replicate, Some}
+use Rattle.std.specs.Prelude.{None, Ok, ℕ, ◌≡◌, true, false, List, [], ◌∷◌, ◌++◌, ℤ, pos, negsuc, Float, take, replicate, Some}
 use Rattle.std.specs.Float.{fin}
 use Rattle.pack.specs.declared.Header.{Header}
 use Rattle.pack.specs.declared.TileKey.{TileKey}
@@ -12,14 +11,11 @@ use Rattle.cache.specs.declared.Lookup.TheVariants as Lookup
 use Rattle.cache.specs.declared.Progress.TheVariants as Progress
 use Rattle.cache.specs.declared.look.Landing.TheVariants as Landing
 use Rattle.cache_lists.specs.Lists as Cached
-use Rattle.matcher.specs.declared.Challenger.TheVariants as Challenger
-use Rattle.matcher.specs.declared.Current.TheVariants as Current
 use Rattle.matcher.specs.declared.Matched.{Matched}
 use Rattle.matcher.specs.declared.Matcher.{Matcher}
 use Rattle.predict.specs.declared.End.TheVariants as End
 use Rattle.engine.specs.declared.Fix.{Fix}
 use Rattle.engine.specs.declared.Status.TheVariants as Status
-use Rattle.engine.specs.declared.Taken.TheVariants as Taken
 use Rattle.direct.specs.Lists.{World, Call, fix, step, deliver, step_from, on_cache, Answer, taken, status, cached, exec, start}
 use Rattle.direct.specs.Finished.{Shown, nothing, matched, published, Road}
 use Rattle.direct.specs.Direct.{directly, new_direct, direct_shows}
@@ -112,7 +108,7 @@ found = record {
 
 -- 444.78 m from the road's start
 abbrev pub matcher : Matcher
-matcher = record { current = Current.Is found; challenger = Challenger.Nothing; misses = 0; run_from_m = fin false 14574551 (negsuc 14) }
+matcher = record { current = Some found; challenger = None; misses = 0; run_from_m = fin false 14574551 (negsuc 14) }
 
 -- decimetres above the rider, every 20 m
 abbrev pub heights : List ℤ
@@ -121,7 +117,7 @@ heights = pos 0 ∷ pos 2 ∷ pos 4 ∷ pos 6 ∷ pos 8 ∷ pos 11 ∷ []
 abbrev pub road : Road
 road = record {
   at_ms = 2000;
-  matched = Current.Is found;
+  matched = Some found;
   start_z_dm = pos 1050;
   len = 6;
   samples = heights;
@@ -169,11 +165,11 @@ finishes = replicate 19 nothing ++ (matched matcher ∷ published road ∷ nothi
 pub record Witness : Type 0 where
   -- the tile stands in page 0 at the first `get`, and is gone at the second
   pub answered : answers calls begin
-      ≡ status (Status.Fetch 0 512) ∷ status Status.Working ∷ status (Status.Fetch 0 512) ∷ taken Taken.Done ∷ status Status.Working
-      ∷ status Status.Working ∷ status (Status.Fetch 512 8) ∷ status Status.Working ∷ status Status.Working ∷ status (Status.Fetch 528 68) ∷ taken Taken.Done ∷ status Status.Working
+      ≡ status (Ok (Status.Fetch 0 512)) ∷ status (Ok Status.Working) ∷ status (Ok (Status.Fetch 0 512)) ∷ taken (Ok tt) ∷ status (Ok Status.Working)
+      ∷ status (Ok Status.Working) ∷ status (Ok (Status.Fetch 512 8)) ∷ status (Ok Status.Working) ∷ status (Ok Status.Working) ∷ status (Ok (Status.Fetch 528 68)) ∷ taken (Ok tt) ∷ status (Ok Status.Working)
       ∷ cached (Cached.found (Ok (Lookup.Ready 0 68))) ∷ cached (Cached.stepped (Ok Progress.More)) ∷ cached (Cached.stepped (Ok Progress.Done))
       ∷ cached (Cached.found (Ok Lookup.Absent))
-      ∷ status Status.Working ∷ status Status.Working ∷ status Status.Working ∷ status Status.Working ∷ status Status.Working ∷ status Status.Idle
+      ∷ status (Ok Status.Working) ∷ status (Ok Status.Working) ∷ status (Ok Status.Working) ∷ status (Ok Status.Working) ∷ status (Ok Status.Working) ∷ status (Ok Status.Idle)
       ∷ []
   pub finished : shows calls begin ≡ finishes
   -- a missed read of the header is counted, and one of the entry

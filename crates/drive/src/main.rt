@@ -8,6 +8,7 @@
 mod show;
 
 use engine::{Engine, Status};
+use refusal::Refusal;
 use ride::fixes::Line;
 use ride::host::{Card, Ride};
 use ride::{fixes, host};
@@ -33,15 +34,8 @@ fn say_line(rt: &impl Print, number: u16) -> io::Result<()> {
     println!(rt; "drive: line {number} is not latitude, longitude and time")
 }
 
-fn is_no_pack(status: Status) -> bool {
-    match status {
-        Status::NoPack => true,
-        Status::Idle
-        | Status::Working
-        | Status::OffMap
-        | Status::Fetch(_, _)
-        | Status::Refused(_) => false,
-    }
+fn is_no_pack(status: Result<Status, Refusal>) -> bool {
+    matches!(status, Ok(Status::NoPack))
 }
 
 // The fixes of a text, one after the other, up to the first that finds no pack.

@@ -1,9 +1,11 @@
 // What is printed: a line for each fix, the heights of the last road, and why a drive stops.
 ghost use Rattle.std.specs.Prelude.{◌≡◌, ◌≤◌, length};
 
-use engine::{Ahead, Current, Status};
+use engine::{Ahead, Status};
+use matcher::Matched;
 use profile_text::ROOM;
 use profile_text::drive::{FixLine, Place};
+use refusal::Refusal;
 use ride::host::{Ride, Turned};
 use std::io;
 
@@ -11,13 +13,13 @@ pub fn heading(rt: &impl Print) -> io::Result<()> {
     println!(rt; "fix status row col edge way offset samples end confidence")
 }
 
-fn status_of(status: Status) -> profile_text::drive::Status {
+fn status_of(status: Result<Status, Refusal>) -> profile_text::drive::Status {
     match status {
-        Status::Idle => profile_text::drive::Status::Idle,
-        Status::Working | Status::Fetch(_, _) => profile_text::drive::Status::Working,
-        Status::NoPack => profile_text::drive::Status::NoPack,
-        Status::OffMap => profile_text::drive::Status::OffMap,
-        Status::Refused(_) => profile_text::drive::Status::Refused,
+        Ok(Status::Idle) => profile_text::drive::Status::Idle,
+        Ok(Status::Working) | Ok(Status::Fetch(_, _)) => profile_text::drive::Status::Working,
+        Ok(Status::NoPack) => profile_text::drive::Status::NoPack,
+        Ok(Status::OffMap) => profile_text::drive::Status::OffMap,
+        Err(_) => profile_text::drive::Status::Refused,
     }
 }
 
@@ -45,10 +47,10 @@ fn decimetres(m: f32) -> u16 {
     short(num::cast::u32_of_f32(m * 10.0) as u64)
 }
 
-fn place_of(matched: Current) -> Option<Place> {
+fn place_of(matched: Option<Matched>) -> Option<Place> {
     match matched {
-        Current::Nothing => None,
-        Current::Is(m) => {
+        None => None,
+        Some(m) => {
             let tile = m.tile;
             let key = tile.key;
             Some(Place {
@@ -68,26 +70,34 @@ fn put(rt: &impl Print, line: FixLine) -> io::Result<()> {
     rt.write_all(&out[..len])
 }
 
-// The line of a fix: how the last call after it ended, and the road that is published.
+// How the last call after a fix ended, and the road that is published; an empty one where it is refused.
+fn line_of(number: u16, status: Result<Status, Refusal>, road: Result<Ahead, Refusal>) -> FixLine {
+    let status = status_of(status);
+    match road {
+        Ok(a) => FixLine {
+            number,
+            status,
+            place: place_of(a.matched),
+            samples: short(a.len as u64),
+            end: end_of(a.end),
+            confidence: a.confidence,
+        },
+        Err(_) => FixLine {
+            number,
+            status,
+            place: None,
+            samples: 0,
+            end: profile_text::drive::End::Uncertain,
+            confidence: 0,
+        },
+    }
+}
+
+// The line of a fix.
 pub fn fix(rt: &impl Print, number: u16, t: Turned, arena: &[u8]) -> io::Result<()> {
     let ride = t.ride;
     let e = ride.engine;
-    let read = e.ahead(arena);
-    let a = read.ahead;
-    let status = t.status;
-    let matched = a.matched;
-    let end = a.end;
-    put(
-        rt,
-        FixLine {
-            number,
-            status: status_of(status),
-            place: place_of(matched),
-            samples: short(a.len as u64),
-            end: end_of(end),
-            confidence: a.confidence,
-        },
-    )
+    put(rt, line_of(number, t.status, e.ahead(arena)))
 }
 
 // The heights of a road as the program `profile` reads them: decimetres of 16 bits, the low byte first.
@@ -113,14 +123,21 @@ fn byte_count(heights: usize) -> usize
     heights * 2
 }
 
+fn put_heights(rt: &impl Print, input: &[u8]) -> io::Result<()> {
+    let mut out = [0u8; ROOM];
+    let n = profile_text::text(input, &mut out);
+    rt.write_all(&out[..n])
+}
+
 // Metres ahead and rise of the last road; the heading alone where there is none.
 pub fn road(rt: &impl Print, ride: Ride, arena: &[u8]) -> io::Result<()> {
     let e = ride.engine;
-    let read = e.ahead(arena);
-    let a = read.ahead;
-    let input = heights(a);
-    let len = byte_count(a.len);
-    let mut out = [0u8; ROOM];
-    let n = profile_text::text(&input[0..len], &mut out);
-    rt.write_all(&out[..n])
+    match e.ahead(arena) {
+        Ok(a) => {
+            let input = heights(a);
+            let len = byte_count(a.len);
+            put_heights(rt, &input[..len])
+        }
+        Err(_) => put_heights(rt, b""),
+    }
 }

@@ -19,7 +19,6 @@ use Rattle.cache.specs.declared.Loaded.{Loaded}
 use Rattle.cache.specs.Loads as Loads
 use Rattle.cache.specs.Calls.{load_tested}
 use Rattle.cache.specs.declared.Progress.{Progress}
-use Rattle.matcher.specs.declared.Current.{Current}
 use Rattle.matcher.specs.declared.Matched.{Matched}
 use Rattle.matcher.specs.Gather.{updated}
 use Rattle.matcher.specs.declared.Outcome as MatchOutcome
@@ -32,7 +31,6 @@ use Rattle.engine.specs.Fixes.{place_of, is_same_place}
 use Rattle.engine.specs.Follow.{fixed, lost}
 use Rattle.engine.specs.declared.Fix.{Fix}
 use Rattle.engine.specs.declared.Follower.{Follower}
-use Rattle.engine.specs.declared.MaybeFix.{MaybeFix}
 use Rattle.engine.specs.declared.Engine.{Engine}
 use Rattle.engine.specs.declared.Phase.{Phase}
 use Rattle.engine.specs.declared.Shared.{Shared}
@@ -66,13 +64,13 @@ open_repeats e arena o = repeats_by e.shared.cache.pending e arena o
 
 -- ---- a step that opens one
 
-abbrev is_fetch : Status → Bool
-is_fetch (Status.Fetch offset len) = true
-is_fetch Status.Idle = false
-is_fetch Status.Working = false
-is_fetch Status.NoPack = false
-is_fetch Status.OffMap = false
-is_fetch (Status.Refused number) = false
+abbrev is_fetch : Result Status Refusal → Bool
+is_fetch (Ok (Status.Fetch offset len)) = true
+is_fetch (Ok Status.Idle) = false
+is_fetch (Ok Status.Working) = false
+is_fetch (Ok Status.NoPack) = false
+is_fetch (Ok Status.OffMap) = false
+is_fetch (Err number) = false
 
 -- the engine with a fetch open, all else as it was
 abbrev pub with_open : Engine → Pending → Engine
@@ -93,7 +91,7 @@ Opens e s = is_fetch s.answer ≡ true → Opening e s
 
 -- ---- the work of a step opens none
 
-asks_none : (t : Bool) → is_fetch (cond t Status.Working Status.Idle) ≡ false
+asks_none : (t : Bool) → is_fetch (cond t (Ok Status.Working) (Ok Status.Idle)) ≡ false
 asks_none true = refl
 asks_none false = refl
 
@@ -102,24 +100,24 @@ either_none true x y p q = p
 either_none false x y p q = q
 
 module _ (e : Engine) (arena : List ℕ) (f : Follower) (fix : Fix) where
-  match_none : (x : MatchOutcome.Outcome) (u : Updated) → is_fetch (match_ended_by x e f fix u).answer ≡ false
-  match_none (Found.Found m) u = refl
-  match_none Found.Nothing u = refl
-  match_none (Found.Need key) u = asks_none (may_ask f.due u.cache.pages.count)
-  match_none (Found.Refused number) u = refl
+  match_none : (x : Result MatchOutcome.Outcome Refusal) (u : Updated) → is_fetch (match_ended_by x e f fix u).answer ≡ false
+  match_none (Ok (Found.Found m)) u = refl
+  match_none (Ok Found.Nothing) u = refl
+  match_none (Ok (Found.Need key)) u = asks_none (may_ask f.due u.cache.pages.count)
+  match_none (Err refusal) u = refl
 
-  road_none : (r : RoadOutcome.Outcome) (found : Matched) (x : After) → is_fetch (road_ended_by r e f fix found x).answer ≡ false
-  road_none (Road.Road r) found x = refl
-  road_none (Road.Need key) found x = refl
-  road_none Road.Rematch found x = refl
-  road_none (Road.Refused number) found x = either_none (eqb number 10) _ _ refl refl
+  road_none : (r : Result RoadOutcome.Outcome Refusal) (found : Matched) (x : After) → is_fetch (road_ended_by r e f fix found x).answer ≡ false
+  road_none (Ok (Road.Road r)) found x = refl
+  road_none (Ok (Road.Need key)) found x = refl
+  road_none (Ok Road.Rematch) found x = refl
+  road_none (Err refusal) found x = either_none (eqb (number_of refusal) 10) _ _ refl refl
 
-  due_none : (m : Current) → is_fetch (road_due_by m e arena f fix).answer ≡ false
+  due_none : (m : Option Matched) → is_fetch (road_due_by m e arena f fix).answer ≡ false
   unfolding road_step
-  due_none (Current.Is found) =
+  due_none (Some found) =
       let x = predicted_in e.shared.cache arena e.shared.header found f.horizon_m (replicate 501 (pos 0)) (replicate 11 (pos 0)) in
       road_none x.predicted.answer found x
-  due_none Current.Nothing = refl
+  due_none None = refl
 
   grid_none : is_fetch (in_grid_step e arena f fix).answer ≡ false
   unfolding match_step
@@ -132,10 +130,10 @@ module _ (e : Engine) (arena : List ℕ) (f : Follower) (fix : Fix) where
   fix_none (Some key) = grid_none
   fix_none None = refl
 
-work_none : (m : MaybeFix) (e : Engine) (arena : List ℕ) (f : Follower) → is_fetch (worked_by m e arena f).answer ≡ false
+work_none : (m : Option Fix) (e : Engine) (arena : List ℕ) (f : Follower) → is_fetch (worked_by m e arena f).answer ≡ false
 unfolding at_fix
-work_none MaybeFix.Nothing e arena f = refl
-work_none (MaybeFix.Is fix) e arena f = fix_none e arena f fix (key_of e.shared.header fix.lat fix.lon)
+work_none None e arena f = refl
+work_none (Some fix) e arena f = fix_none e arena f fix (key_of e.shared.header fix.lat fix.lon)
 
 worked_opens : (e : Engine) (arena : List ℕ) → Opens e (worked e arena)
 unfolding worked
@@ -200,7 +198,7 @@ stepped_opens Pending.Chunk e arena q o = absurd (true≢false (ap is_open q))
 
 module _ (e : Engine) (arena : List ℕ) {offset len : ℕ}
     (none : e.shared.cache.pending ≡ Pending.Nothing)
-    (asked : (stepped e arena).answer ≡ Status.Fetch offset len) where
+    (asked : (stepped e arena).answer ≡ Ok (Status.Fetch offset len)) where
   -- nothing but `pending` changes
   pub opening_is_pending : Opening e (stepped e arena)
   unfolding stepped
@@ -240,7 +238,7 @@ Aside g = (f : Follower) (need : Option TileKey) (failures steps : ℕ) → with
 abbrev pub follows : (Follower → Follower) → Engine → Engine
 follows g e = record { shared = e.shared; follower = g e.follower }
 
-abbrev left : Status → Shared → Follower → Stepped
+abbrev left : Result Status Refusal → Shared → Follower → Stepped
 left answer s f = record { answer = answer; engine = record { shared = s; follower = f } }
 
 abbrev then : (Follower → Follower) → Stepped → Stepped
@@ -261,7 +259,7 @@ module _ (g : Follower → Follower) (aside : Aside g) where
       let f = e.follower in
       ap (λ (x : Follower). record { shared = e.shared; follower = x }) (sym (aside f f.due.need f.failures f.steps))
 
-  set_then : (answer : Status) (s : Shared) (f : Follower) (need : Option TileKey) (failures steps : ℕ)
+  set_then : (answer : Result Status Refusal) (s : Shared) (f : Follower) (need : Option TileKey) (failures steps : ℕ)
       → left answer s (with_parts (g f) need failures steps) ≡ then g (left answer s (with_parts f need failures steps))
   set_then answer s f need failures steps = ap (left answer s) (aside f need failures steps)
 

@@ -1,7 +1,6 @@
 -- The tile that is needed, by the next step towards it: a step of the engine goes by the read that this makes (`need_is`), in a state that number 12
 -- does not name and towards a key in the grid; and the part that came is the step of a load that it answers (`part_cases`, `part_is`). The code goes by
 -- what the cache answers (`need_reads`, `need_settles`).
-use Rattle.refusal.specs.Refusal.{number_of}
 use Rattle.refusal.specs.declared.Refusal.{Refusal}
 use Rattle.std.specs.Prelude.{Option, Some, None, Result, Ok, Err}
 use Rattle.std.proofs.Common.{◌≡◌, ℕ, Bool, true, false, cond, eqb, List, [], length, sym, refl, ap, ◌∙◌, arith}
@@ -94,11 +93,11 @@ pending_of Next.Missing key = Pending.Nothing
 pending_of Next.NoPages key = Pending.Nothing
 
 abbrev pub opened_at : Engine → Pending → ℕ → ℕ → Stepped
-opened_at e pending offset len = record { answer = Status.Fetch offset len; engine = (opened e pending).engine }
+opened_at e pending offset len = record { answer = Ok (Status.Fetch offset len); engine = (opened e pending).engine }
 
 abbrev pub need_by : Result (Option (ℕ × ℕ)) Refusal → Next → Engine → TileKey → Stepped
 need_by (Ok (Some (offset, len))) n e key = opened_at e (pending_of n key) offset len
-need_by (Err refusal) n e key = refused e (number_of refusal)
+need_by (Err refusal) n e key = refused e refusal
 need_by (Ok None) n e key = Deliver.arrived e (settled e.shared.cache n key)
 
 module _ (e : Engine) (arena : List ℕ) (key : TileKey) where
@@ -157,20 +156,20 @@ module _ (e : Engine) (arena : List ℕ) (key : TileKey) (failure : ℕ) (bs : L
       cond t (cond g answered (Loads.over (Loads.refused e.shared.cache Refusal.OutsideGrid) arena)) (Loads.over (Loads.refused e.shared.cache Refusal.NotAsked) arena)
 
   pub part_cases : part_came e arena key failure bs
-      ≡ cond taken (cond (in_grid e.shared.header key) (over (Deliver.loaded e (Loads.told answered)) answered.arena) (over (refused e 9) arena))
-      (over (refused e 11) arena)
+      ≡ cond taken (cond (in_grid e.shared.header key) (over (Deliver.loaded e (Loads.told answered)) answered.arena) (over (refused e Refusal.OutsideGrid) arena))
+      (over (refused e Refusal.NotAsked) arena)
   unfolding part_came
   part_cases = by taken (in_grid e.shared.header key)
     where
       by : (t g : Bool) → over (Deliver.loaded e (Loads.told (left t g))) (left t g).arena
-          ≡ cond t (cond g (over (Deliver.loaded e (Loads.told answered)) answered.arena) (over (refused e 9) arena)) (over (refused e 11) arena)
+          ≡ cond t (cond g (over (Deliver.loaded e (Loads.told answered)) answered.arena) (over (refused e Refusal.OutsideGrid) arena)) (over (refused e Refusal.NotAsked) arena)
       by true true = refl
       by true false = refl
       by false g = refl
 
   pub part_is : in_grid e.shared.header key ≡ true
-      → part_came e arena key failure bs ≡ cond taken (over (Deliver.loaded e (Loads.told answered)) answered.arena) (over (refused e 11) arena)
+      → part_came e arena key failure bs ≡ cond taken (over (Deliver.loaded e (Loads.told answered)) answered.arena) (over (refused e Refusal.NotAsked) arena)
   part_is inside =
       part_cases
-      ∙ ap (λ (g : Bool). cond taken (cond g (over (Deliver.loaded e (Loads.told answered)) answered.arena) (over (refused e 9) arena)) (over (refused e 11) arena))
+      ∙ ap (λ (g : Bool). cond taken (cond g (over (Deliver.loaded e (Loads.told answered)) answered.arena) (over (refused e Refusal.OutsideGrid) arena)) (over (refused e Refusal.NotAsked) arena))
       inside

@@ -2,7 +2,8 @@
 -- What a caller that holds the state in a form of its own goes by: a step towards the needed tile opens a fetch where the cache would read
 -- (`need_waits_entry`, `need_waits_chunk`), the needed tile lies in the grid (`need_in`), and a chunk that leaves more to come moves the load on and
 -- writes its bytes (`chunk_more`).
-use Rattle.std.specs.Prelude.{Option, Some, None}
+use Rattle.refusal.specs.declared.Refusal.{Refusal}
+use Rattle.std.specs.Prelude.{Ok, Option, Some, None}
 use Rattle.std.proofs.Common.{◌≡◌, ℕ, ◌+◌, ◌<◌, Bool, true, false, cond, ◌&&◌, eqb, List, [], ◌∷◌, length, sym, refl, ap, ◌∙◌, true≢false, lt-ltb, eq-eqb, eqb-true}
 use borrow.Author.Tests.{lt-leb}
 use Rattle.pack.specs.Grid.{in_grid}
@@ -139,7 +140,7 @@ load_at l come = record { key = l.key; slot = l.slot; offset = l.offset; len = l
 abbrev pub more_came : Engine → Loading → List ℕ → List ℕ → After
 more_came e l arena bs =
     let c = e.shared.cache in
-    over (ended e (moved c c.pages (Some (load_at l (l.done + chunk_len l)))) (counted e.follower) Status.Working)
+    over (ended e (moved c c.pages (Some (load_at l (l.done + chunk_len l)))) (counted e.follower) (Ok Status.Working))
     (put arena l.slot l.done bs)
 
 module _ (e : Engine) (arena bs : List ℕ) (ok : engine_ok e (length arena) ≡ true) (l : Loading)
@@ -155,7 +156,7 @@ module _ (e : Engine) (arena bs : List ℕ) (ok : engine_ok e (length arena) ≡
   made n =
       cond (Loads.takes n h₁ l.key 0 (length bs))
       (over (loaded e (Loads.told (Loads.stepped c₁ n arena h₁ l.key 0 bs))) (Loads.stepped c₁ n arena h₁ l.key 0 bs).arena)
-      (over (refused e 11) arena)
+      (over (refused e Refusal.NotAsked) arena)
 
   chunk_made : made (Next.Chunk l) ≡ more_came e l arena bs
   unfolding chunk_step further

@@ -1,16 +1,15 @@
 -- What number 12's test of the engine tells the functions behind it: the cache's state is a good one, the tile needed and the match lie in the grid
 -- of the header that was read, the fix is a point and the heading one that number 8 accepts.
-use Rattle.std.specs.Prelude.{Some}
+use Rattle.matcher.specs.declared.Matched.{Matched}
+use Rattle.std.specs.Prelude.{Option, None, Some}
 use Rattle.std.proofs.Common.{◌≡◌, ℕ, Bool, true, ◌&&◌, leb, List, [], ◌∷◌, refl}
 use Rattle.pack.specs.Grid.{is_point, in_grid}
 use Rattle.pack.specs.declared.TileKey.{TileKey}
 use Rattle.pack.proofs.Laws.{and_left, and_right, clause}
 use Rattle.cache.specs.State.{state_ok}
 use Rattle.matcher.specs.State.{key_ok, counts_ok, heading_ok}
-use Rattle.matcher.specs.declared.Current.{Current}
 use Rattle.engine.specs.declared.Engine.{Engine}
 use Rattle.engine.specs.declared.Fix.{Fix}
-use Rattle.engine.specs.declared.MaybeFix.TheVariants as MaybeFix
 use Rattle.engine.specs.declared.Phase.TheVariants as Phase
 use Rattle.engine.specs.State.{need_ok, matched_ok, shared_ok, pending_ok, fix_ok, places_ok, sight_ok, ahead_ok, failures_ok, matcher_ok, reload_limit, due_ok, engine_ok}
 
@@ -36,7 +35,7 @@ module _ (e : Engine) (n : ℕ) (ok : engine_ok e n ≡ true) where
   unfolding engine_ok
   sight_in = clause 2 causes ok
 
-  pub fix_in : (fix : Fix) → e.follower.sight.fix ≡ MaybeFix.Is fix → (is_point fix.lat fix.lon && heading_ok e.follower.sight.heading) ≡ true
+  pub fix_in : (fix : Fix) → e.follower.sight.fix ≡ Some fix → (is_point fix.lat fix.lon && heading_ok e.follower.sight.heading) ≡ true
   fix_in fix q =
       let point : is_point fix.lat fix.lon ≡ true = rw q at (and_left (fix_ok e.follower.sight.fix) _ sight_in) in
       let heading : heading_ok e.follower.sight.heading ≡ true
@@ -50,6 +49,6 @@ module _ (e : Engine) (n : ℕ) (ok : engine_ok e n ≡ true) where
   pub current_in : e.shared.phase ≡ Phase.Ready → key_ok e.follower.matcher.current e.shared.header ≡ true
   current_in ready = by e.follower.matcher.current matched_in
     where
-      by : (x : Current) → matched_ok e.shared x ≡ true → key_ok x e.shared.header ≡ true
-      by Current.Nothing q = refl
-      by (Current.Is m) q = rw ready at q
+      by : (x : Option Matched) → matched_ok e.shared x ≡ true → key_ok x e.shared.header ≡ true
+      by None q = refl
+      by (Some m) q = rw ready at q

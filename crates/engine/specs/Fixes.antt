@@ -1,7 +1,6 @@
 -- The fixes, and the heading of travel that they give: `engine.rs`, `Fix::from_e7`, `fix` and `lost`: "from the newest earlier fix at least
 -- HEADING_MOVE_M away". Each float operation is rounded once, in the Rust's order.
-use Rattle.std.specs.Prelude.{Option, Some, None}
-use Rattle.std.specs.Prelude.{ℕ, ◌+◌, ◌-◌, Bool, false, cond, ◌&&◌, ◌++◌, take, drop, replicate, ℤ, pos, int_div, int_le, nat_lt, slice_index_or, slice_set}
+use Rattle.std.specs.Prelude.{Option, Some, None, ℕ, ◌+◌, ◌-◌, Bool, false, cond, ◌&&◌, ◌++◌, take, drop, replicate, ℤ, pos, int_div, int_le, nat_lt, slice_index_or, slice_set}
 use Rattle.std.specs.Float.Ieee.{le}
 use Rattle.geo.specs.declared.Point.{Point}
 use Rattle.geo.specs.Flat.{whole, metres_of, length_of, bearing_of}
@@ -9,7 +8,6 @@ use Rattle.angle.specs.Cosine.{lon_scale_um}
 use Rattle.matcher.specs.declared.Heading.{Heading}
 use Rattle.predict.specs.Incoming.{highest}
 use Rattle.engine.specs.declared.Fix.{Fix}
-use Rattle.engine.specs.declared.MaybeFix.{MaybeFix}
 use Rattle.engine.specs.declared.Places.{Places}
 use Rattle.engine.specs.declared.Sight.{Sight}
 use Rattle.engine.specs.declared.fixes.Course.{Course}
@@ -24,7 +22,7 @@ no_point = record { lat = pos 0; lon = pos 0 }
 -- no fix yet
 abbrev pub nothing_seen : Sight
 nothing_seen = record {
-  fix = MaybeFix.Nothing;
+  fix = None;
   history = record { v = replicate 16 no_point; len = 0 };
   heading = Heading.Nothing;
   heading_at = 0;
@@ -34,9 +32,9 @@ abbrev pub same_number : ℤ → ℤ → Bool
 same_number a b = int_le a b && int_le b a
 
 -- "A fix at the same place is ignored, its time too" (document 01)
-abbrev pub is_same_place : MaybeFix → Fix → Bool
-is_same_place MaybeFix.Nothing fix = false
-is_same_place (MaybeFix.Is f) fix = same_number f.lat fix.lat && same_number f.lon fix.lon
+abbrev pub is_same_place : Option Fix → Fix → Bool
+is_same_place None fix = false
+is_same_place (Some f) fix = same_number f.lat fix.lat && same_number f.lon fix.lon
 
 -- ---- the places of the last fixes: HISTORY is 16
 
@@ -83,7 +81,7 @@ fresh c now = cond (nat_lt 120000 (now - c.at_ms)) Heading.Nothing c.heading
 unfoldable pub seen : Sight → Fix → Sight
 seen s fix =
     let c = course_of s fix in record {
-      fix = MaybeFix.Is fix;
+      fix = Some fix;
       history = push s.history (place_of fix);
       heading = fresh c fix.at_ms;
       heading_at = c.at_ms;
@@ -93,7 +91,7 @@ seen s fix =
 
 abbrev pub lost : Sight → Sight
 lost s = record {
-  fix = MaybeFix.Nothing;
+  fix = None;
   history = record { v = s.history.v; len = 0 };
   heading = Heading.Nothing;
   heading_at = s.heading_at;

@@ -1,23 +1,20 @@
 -- A follower from its start, and what a fix, the loss of fixes and a reset do to it: `engine.rs`, `new`, `fix`, `lost` and `reset`: "`reset`
 -- keeps fix, history and heading" (document 01).
-use Rattle.std.specs.Prelude.{None}
-use Rattle.std.specs.Prelude.{Bool, true, false, cond, Float}
+use Rattle.matcher.specs.declared.Matched.{Matched}
+use Rattle.std.specs.Prelude.{Option, Some, None, Bool, true, false, cond, Float}
 use Rattle.num.specs.Order.{min}
 use Rattle.geo.specs.Flat.{whole}
-use Rattle.matcher.specs.declared.Current.{Current}
 use Rattle.matcher.specs.Calls as Matching
 use Rattle.engine.specs.declared.Due.{Due}
 use Rattle.engine.specs.declared.Fix.{Fix}
 use Rattle.engine.specs.declared.Follower.{Follower}
-use Rattle.engine.specs.declared.MaybeFix.{MaybeFix}
-use Rattle.engine.specs.declared.MaybeTime.TheVariants as MaybeTime
 use Rattle.engine.specs.declared.Ahead.{Ahead}
 use Rattle.engine.specs.Fixes as Fixes
 use Rattle.engine.specs.Publish.{nothing_ahead, forgotten}
 use Rattle.engine.specs.Setters.{with_sight, with_matcher, with_due, with_ahead, with_failures, with_matching, with_road}
 
 abbrev pub nothing_done : Bool → Due
-nothing_done matching = record { matching = matching; road = false; last_road = MaybeTime.Nothing; need = None; reloads = 0 }
+nothing_done matching = record { matching = matching; road = false; last_road = None; need = None; reloads = 0 }
 
 -- `horizon_m.min(10,000)`: not-a-number becomes 10,000
 unfoldable pub fresh : Float → Follower
@@ -43,9 +40,9 @@ fixed f fix =
     cond (Fixes.is_same_place f.sight.fix fix) f
     (with_due (with_sight f (Fixes.seen f.sight fix)) (match_asked f.due))
 
-abbrev pub is_matched : Current → Bool
-is_matched Current.Nothing = false
-is_matched (Current.Is m) = true
+abbrev pub is_matched : Option Matched → Bool
+is_matched None = false
+is_matched (Some m) = true
 
 -- a road that is published goes
 abbrev pub lost_ahead : Ahead → Ahead
@@ -54,9 +51,9 @@ lost_ahead a = cond (is_matched a.matched) (forgotten a) a
 unfoldable pub lost : Follower → Follower
 lost f = with_ahead (with_due (with_matcher (with_sight f (Fixes.lost f.sight)) Matching.reset) (nothing_asked f.due)) (lost_ahead f.ahead)
 
-abbrev pub has_fix : MaybeFix → Bool
-has_fix MaybeFix.Nothing = false
-has_fix (MaybeFix.Is fix) = true
+abbrev pub has_fix : Option Fix → Bool
+has_fix None = false
+has_fix (Some fix) = true
 
 unfoldable pub reset : Follower → Follower
 reset f = with_failures (with_ahead (with_due (with_matcher f Matching.reset) (nothing_done (has_fix f.sight.fix))) (forgotten f.ahead)) 0

@@ -9,8 +9,6 @@ pub mod Work
 pub mod Deliver
 pub mod Steps
 pub mod Calls
--- The number of each answer.
-pub mod Numbers
 -- What a step is to do, and what it makes of an answer.
 pub mod Plans
 -- What number 12 asks beside the cache's own state, and what the plan is made of.

@@ -1,16 +1,15 @@
 -- The road ahead that is published: `engine.rs`, `Ahead` and `publish`.
-use Rattle.std.specs.Prelude.{ℕ, Bool, false, replicate, pos, nat_lt}
+use Rattle.std.specs.Prelude.{Option, Some, None, ℕ, Bool, false, replicate, pos, nat_lt}
 use Rattle.geo.specs.Flat.{whole}
 use Rattle.cache.specs.Lookups.{after}
-use Rattle.matcher.specs.declared.Current.{Current}
 use Rattle.matcher.specs.declared.Matched.{Matched}
 use Rattle.predict.specs.declared.End.{End}
 use Rattle.predict.specs.declared.Prediction.{Prediction}
 use Rattle.engine.specs.declared.Ahead.{Ahead}
 
-abbrev pub on_road_by : Current → ℕ → Bool
-on_road_by Current.Nothing len = false
-on_road_by (Current.Is m) len = nat_lt 1 len
+abbrev pub on_road_by : Option Matched → ℕ → Bool
+on_road_by None len = false
+on_road_by (Some m) len = nat_lt 1 len
 
 -- on a mapped road, and more than the rider's own height is known
 abbrev pub on_road : Ahead → Bool
@@ -21,7 +20,7 @@ unfoldable pub nothing_ahead : ℕ → Ahead
 nothing_ahead generation = record {
   generation = generation;
   at_ms = 0;
-  matched = Current.Nothing;
+  matched = None;
   start_z_dm = pos 0;
   samples = replicate 501 (pos 0);
   len = 0;
@@ -42,7 +41,7 @@ unfoldable pub without_match : Ahead → ℕ → End → Ahead
 without_match a at end = record {
   generation = after a.generation;
   at_ms = at;
-  matched = Current.Nothing;
+  matched = None;
   start_z_dm = pos 0;
   samples = a.samples;
   len = 0;
@@ -59,7 +58,7 @@ unfoldable pub with_match : Ahead → ℕ → Matched → Prediction → Ahead
 with_match a at m p = record {
   generation = after a.generation;
   at_ms = at;
-  matched = Current.Is m;
+  matched = Some m;
   start_z_dm = m.z_dm;
   samples = a.samples;
   len = p.len;

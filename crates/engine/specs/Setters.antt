@@ -1,12 +1,10 @@
 -- A follower, and what is due of it, with one field changed: one setter a field.
-use Rattle.std.specs.Prelude.{Option}
 use Rattle.pack.specs.declared.TileKey.{TileKey}
-use Rattle.std.specs.Prelude.{ℕ, Bool}
+use Rattle.std.specs.Prelude.{Option, ℕ, Bool}
 use Rattle.matcher.specs.declared.Matcher.{Matcher}
 use Rattle.engine.specs.declared.Ahead.{Ahead}
 use Rattle.engine.specs.declared.Due.{Due}
 use Rattle.engine.specs.declared.Follower.{Follower}
-use Rattle.engine.specs.declared.MaybeTime.{MaybeTime}
 use Rattle.engine.specs.declared.Sight.{Sight}
 
 -- ---- a follower
@@ -85,7 +83,7 @@ with_matching d b = record { matching = b; road = d.road; last_road = d.last_roa
 abbrev pub with_road : Due → Bool → Due
 with_road d b = record { matching = d.matching; road = b; last_road = d.last_road; need = d.need; reloads = d.reloads }
 
-abbrev pub with_last_road : Due → MaybeTime → Due
+abbrev pub with_last_road : Due → Option ℕ → Due
 with_last_road d at = record { matching = d.matching; road = d.road; last_road = at; need = d.need; reloads = d.reloads }
 
 abbrev pub with_need : Due → Option TileKey → Due

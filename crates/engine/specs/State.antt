@@ -3,10 +3,11 @@
 -- heading that 8 would refuse (`sight_ok`), a needed or matched key outside the read header's grid or held while the header is unread
 -- (`held_ok`), reloads above their limit (`due_ok`), an open fetch that the state would not make (`pending_ok`), a header that `Header::parse`
 -- would refuse, an arena shorter than its pages (`shared_ok`). A pack that failed keeps what is needed and matched.
-use Rattle.std.specs.Prelude.{Option, Some, None}
-use Rattle.std.specs.Prelude.{is_some}
+use Rattle.refusal.specs.declared.Refusal.{Refusal}
+use Rattle.engine.specs.declared.Fix.{Fix}
+use Rattle.matcher.specs.declared.Matched.{Matched}
 use Rattle.cache.specs.declared.Loading.{Loading}
-use Rattle.std.specs.Prelude.{ℕ, ◌+◌, ◌*◌, min, Bool, true, false, cond, not, ◌&&◌, [], ◌∷◌, ◌==◌, nat_le, nat_lt}
+use Rattle.std.specs.Prelude.{Ok, Err, Option, Some, None, is_some, ℕ, ◌+◌, ◌*◌, min, Bool, true, false, cond, not, ◌&&◌, [], ◌∷◌, ◌==◌, nat_le, nat_lt}
 use Rattle.pack.specs.Sector.{all_of, rules}
 use Rattle.pack.specs.Sector as Sector
 use Rattle.pack.specs.Grid.{in_grid, is_point}
@@ -17,7 +18,6 @@ use Rattle.cache.specs.Search.{lowest}
 use Rattle.cache.specs.State.{state_ok, arena_ok, cleared}
 use Rattle.cache.specs.declared.Cache.{Cache}
 use Rattle.cache.specs.declared.Pending.{Pending}
-use Rattle.matcher.specs.declared.Current.{Current}
 use Rattle.matcher.specs.State.{counts_ok, heading_ok}
 use Rattle.matcher.specs.declared.Matcher.{Matcher}
 use Rattle.engine.specs.Fixes.{place_at}
@@ -25,16 +25,13 @@ use Rattle.engine.specs.Follow as Followers
 use Rattle.engine.specs.declared.Ahead.{Ahead}
 use Rattle.engine.specs.declared.Due.{Due}
 use Rattle.engine.specs.declared.Follower.{Follower}
-use Rattle.engine.specs.declared.MaybeFix.{MaybeFix}
 use Rattle.engine.specs.declared.Places.{Places}
 use Rattle.engine.specs.declared.Sight.{Sight}
 use Rattle.engine.specs.declared.Changed.{Changed}
 use Rattle.engine.specs.declared.Engine.{Engine}
 use Rattle.engine.specs.declared.Phase.{Phase}
 use Rattle.engine.specs.declared.Shared.{Shared}
-use Rattle.engine.specs.declared.Status.TheVariants as Status
 use Rattle.engine.specs.declared.Stepped.{Stepped}
-use Rattle.engine.specs.declared.Taken.TheVariants as Taken
 
 -- ---- before the header is read
 
@@ -46,19 +43,19 @@ unread c = record { phase = Phase.Unread; header = no_header; cache = c }
 
 -- ---- answers
 
-abbrev pub refused : Engine → ℕ → Stepped
-refused e number = record { answer = Status.Refused number; engine = e }
+abbrev pub refused : Engine → Refusal → Stepped
+refused e refusal = record { answer = Err refusal; engine = e }
 
-abbrev pub unchanged : Engine → ℕ → Changed
-unchanged e number = record { answer = Taken.Refused number; engine = e }
+abbrev pub unchanged : Engine → Refusal → Changed
+unchanged e refusal = record { answer = Err refusal; engine = e }
 
 abbrev pub followed : Engine → Follower → Changed
-followed e f = record { answer = Taken.Done; engine = record { shared = e.shared; follower = f } }
+followed e f = record { answer = Ok tt; engine = record { shared = e.shared; follower = f } }
 
 -- another pack
 unfoldable pub forgotten : Engine → Changed
 forgotten e = record {
-  answer = Taken.Done;
+  answer = Ok tt;
   engine = record { shared = unread (cleared e.shared.cache); follower = Followers.reset e.follower };
 }
 
@@ -97,11 +94,11 @@ need_by phase h (Some key) = held_by phase h key
 abbrev pub need_ok : Shared → Option TileKey → Bool
 need_ok s need = need_by s.phase s.header need
 
-abbrev pub matched_by : Phase → Header → Current → Bool
-matched_by phase h Current.Nothing = true
-matched_by phase h (Current.Is m) = held_by phase h m.tile.key
+abbrev pub matched_by : Phase → Header → Option Matched → Bool
+matched_by phase h None = true
+matched_by phase h (Some m) = held_by phase h m.tile.key
 
-abbrev pub matched_ok : Shared → Current → Bool
+abbrev pub matched_ok : Shared → Option Matched → Bool
 matched_ok s current = matched_by s.phase s.header current
 
 -- the header counts in phase Ready alone
@@ -131,9 +128,9 @@ pending_by pending s need = pending_in pending s.phase s.cache.loading need
 abbrev pub pending_ok : Shared → Option TileKey → Bool
 pending_ok s need = pending_by s.cache.pending s need
 
-abbrev pub fix_ok : MaybeFix → Bool
-fix_ok MaybeFix.Nothing = true
-fix_ok (MaybeFix.Is f) = is_point f.lat f.lon
+abbrev pub fix_ok : Option Fix → Bool
+fix_ok None = true
+fix_ok (Some f) = is_point f.lat f.lon
 
 -- at most sixteen places, each a point
 unfoldable pub places_ok : Places → Bool
@@ -143,7 +140,7 @@ abbrev pub sight_ok : Sight → Bool
 sight_ok s = fix_ok s.fix && (places_ok s.history && heading_ok s.heading)
 
 -- 501 samples, 11 behind
-abbrev pub ahead_by : Phase → Header → ℕ → ℕ → Current → Bool
+abbrev pub ahead_by : Phase → Header → ℕ → ℕ → Option Matched → Bool
 ahead_by phase h len behind published = nat_le len 501 && (nat_le behind 11 && matched_by phase h published)
 
 abbrev pub ahead_ok : Shared → Ahead → Bool

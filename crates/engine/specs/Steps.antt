@@ -2,9 +2,8 @@
 -- changes nothing but that it is open.
 use Rattle.refusal.specs.Refusal.{number_of}
 use Rattle.refusal.specs.declared.Refusal.{Refusal}
-use Rattle.std.specs.Prelude.{Option, Some, None, Result, Ok, Err}
 use Rattle.cache.specs.declared.Loading.{Loading}
-use Rattle.std.specs.Prelude.{ℕ, Bool, false, cond, List, [], ◌==◌}
+use Rattle.std.specs.Prelude.{Option, Some, None, Result, Ok, Err, ℕ, Bool, false, cond, List, [], ◌==◌}
 use Rattle.pack.specs.Grid.{entry_of}
 use Rattle.pack.specs.declared.Header.{Header}
 use Rattle.pack.specs.declared.TileKey.{TileKey}
@@ -24,18 +23,18 @@ pub use Rattle.engine.specs.Deliver.{with_pending}
 
 -- ---- a fetch
 
-abbrev pub chunk_request : Option Loading → Status
-chunk_request None = Status.Refused 12
-chunk_request (Some l) = Status.Fetch (chunk_offset l) (chunk_len l)
+abbrev pub chunk_request : Option Loading → Result Status Refusal
+chunk_request None = Err Refusal.BadState
+chunk_request (Some l) = Ok (Status.Fetch (chunk_offset l) (chunk_len l))
 
 -- the read that an open fetch asks for, worked out from it, the header and the load; the header is the pack's first 512 bytes
-abbrev pub request_by : Header → Option Loading → Pending → Status
-request_by h loading Pending.Nothing = Status.Refused 12
-request_by h loading Pending.Header = Status.Fetch 0 512
-request_by h loading (Pending.Entry key) = Status.Fetch (entry_of h key) 8
+abbrev pub request_by : Header → Option Loading → Pending → Result Status Refusal
+request_by h loading Pending.Nothing = Err Refusal.BadState
+request_by h loading Pending.Header = Ok (Status.Fetch 0 512)
+request_by h loading (Pending.Entry key) = Ok (Status.Fetch (entry_of h key) 8)
 request_by h loading Pending.Chunk = chunk_request loading
 
-abbrev pub request_of : Shared → Pending → Status
+abbrev pub request_of : Shared → Pending → Result Status Refusal
 request_of s pending = request_by s.header s.cache.loading pending
 
 -- the engine with that fetch open, and its read
@@ -78,7 +77,7 @@ ready_step e arena = ready_by e.follower.due.need e arena
 -- ---- the step
 
 abbrev pub started_by : Phase → Engine → List ℕ → Stepped
-started_by Phase.Failed e arena = record { answer = Status.NoPack; engine = e }
+started_by Phase.Failed e arena = record { answer = Ok Status.NoPack; engine = e }
 started_by Phase.Unread e arena = opened e Pending.Header
 started_by Phase.Ready e arena = ready_step e arena
 

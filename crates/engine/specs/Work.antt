@@ -1,15 +1,15 @@
 -- The work of a step that needs no read: `engine.rs`, `step` from `self.fix` on, `reload` and `publish`. Off the map, a match, a road, or nothing.
 -- Inside a step 5 asks for the tile, and 6 and 10 have the fix matched again; the late 12 leaves the engine as it was (document 01,
 -- "Refused").
-use Rattle.std.specs.Prelude.{Option, Some, None}
-use Rattle.std.specs.Prelude.{ℕ, ◌+◌, ◌-◌, Bool, true, false, cond, not, ◌||◌, List, replicate, ℤ, pos, ◌==◌, nat_le, nat_lt}
+use Rattle.refusal.specs.Refusal.{number_of}
+use Rattle.refusal.specs.declared.Refusal.{Refusal}
+use Rattle.std.specs.Prelude.{Result, Ok, Err, Option, Some, None, ℕ, ◌+◌, ◌-◌, Bool, true, false, cond, not, ◌||◌, List, replicate, ℤ, pos, ◌==◌, nat_le, nat_lt}
 use Rattle.pack.specs.Grid.{key_of}
 use Rattle.pack.specs.declared.TileKey.{TileKey}
 use Rattle.geo.specs.Flat.{whole}
 use Rattle.cache.specs.Lookups.{after}
 use Rattle.cache.specs.declared.Cache.{Cache}
 use Rattle.matcher.specs.Score.{is_on}
-use Rattle.matcher.specs.declared.Current.{Current}
 use Rattle.matcher.specs.declared.Matched.{Matched}
 use Rattle.matcher.specs.Calls as Matching
 use Rattle.matcher.specs.Gather.{updated}
@@ -29,8 +29,6 @@ use Rattle.engine.specs.declared.Ahead.{Ahead}
 use Rattle.engine.specs.declared.Due.{Due}
 use Rattle.engine.specs.declared.Fix.{Fix}
 use Rattle.engine.specs.declared.Follower.{Follower}
-use Rattle.engine.specs.declared.MaybeFix.{MaybeFix}
-use Rattle.engine.specs.declared.MaybeTime.{MaybeTime}
 use Rattle.engine.specs.declared.Engine.{Engine}
 use Rattle.engine.specs.declared.Status.{Status}
 use Rattle.engine.specs.declared.Stepped.{Stepped}
@@ -41,13 +39,13 @@ use Rattle.engine.specs.State.{refused, reload_limit}
 abbrev pub counted : Follower → Follower
 counted f = with_steps f (after f.steps)
 
-abbrev pub ended : Engine → Cache → Follower → Status → Stepped
+abbrev pub ended : Engine → Cache → Follower → Result Status Refusal → Stepped
 ended e c f answer = record {
   answer = answer;
   engine = record { shared = record { phase = e.shared.phase; header = e.shared.header; cache = c }; follower = f };
 }
 
-abbrev pub is_matched : Current → Bool
+abbrev pub is_matched : Option Matched → Bool
 is_matched c = Followers.is_matched c
 
 -- a road that is published goes
@@ -74,22 +72,22 @@ may_ask d pages = nat_lt d.reloads (reload_limit pages)
 
 -- ---- a match
 
-abbrev pub is_other : Matched → Current → Bool
-is_other found Current.Nothing = true
-is_other found (Current.Is m) = not (is_on m found.tile found.edge)
+abbrev pub is_other : Matched → Option Matched → Bool
+is_other found None = true
+is_other found (Some m) = not (is_on m found.tile found.edge)
 
 -- PREDICT_EVERY_MS is 2,000
-abbrev pub is_time : MaybeTime → ℕ → Bool
-is_time MaybeTime.Nothing now = true
-is_time (MaybeTime.At at) now = nat_le 2000 (now - at)
+abbrev pub is_time : Option ℕ → ℕ → Bool
+is_time None now = true
+is_time (Some at) now = nat_le 2000 (now - at)
 
 abbrev pub match_done : Due → Bool → Due
 match_done d road = with_reloads (with_road (with_matching d false) road) 0
 
-abbrev pub matched_by : Current → Follower → Matcher → Fix → Follower
-matched_by Current.Nothing f m fix =
+abbrev pub matched_by : Option Matched → Follower → Matcher → Fix → Follower
+matched_by None f m fix =
     with_due (with_ahead (with_matcher f m) (emptied f.ahead fix.at_ms End.Uncertain)) (match_done f.due f.due.road)
-matched_by (Current.Is found) f m fix =
+matched_by (Some found) f m fix =
     with_due (with_matcher f m)
     (match_done f.due (cond (is_other found f.ahead.matched || is_time f.due.last_road fix.at_ms) true f.due.road))
 
@@ -101,13 +99,13 @@ abbrev pub match_asks : Follower → ℕ → TileKey → Follower
 match_asks f pages key =
     cond (may_ask f.due pages) (with_due f (asking f.due key (f.due.reloads + 1))) (with_due f (match_done f.due f.due.road))
 
-abbrev pub match_ended_by : MatchOutcome.Outcome → Engine → Follower → Fix → Updated → Stepped
-match_ended_by (Found.Found m) e f fix u = ended e u.cache (matched f u.matcher fix) Status.Working
-match_ended_by Found.Nothing e f fix u = ended e u.cache (matched f u.matcher fix) Status.Working
-match_ended_by (Found.Need key) e f fix u =
+abbrev pub match_ended_by : Result MatchOutcome.Outcome Refusal → Engine → Follower → Fix → Updated → Stepped
+match_ended_by (Ok (Found.Found m)) e f fix u = ended e u.cache (matched f u.matcher fix) (Ok Status.Working)
+match_ended_by (Ok Found.Nothing) e f fix u = ended e u.cache (matched f u.matcher fix) (Ok Status.Working)
+match_ended_by (Ok (Found.Need key)) e f fix u =
     let pages = u.cache.pages.count in
-    ended e u.cache (match_asks f pages key) (cond (may_ask f.due pages) Status.Working Status.Idle)
-match_ended_by (Found.Refused number) e f fix u = refused e number
+    ended e u.cache (match_asks f pages key) (cond (may_ask f.due pages) (Ok Status.Working) (Ok Status.Idle))
+match_ended_by (Err refusal) e f fix u = refused e refusal
 
 abbrev pub match_ended : Engine → Follower → Fix → Updated → Stepped
 match_ended e f fix u = match_ended_by u.answer e f fix u
@@ -122,7 +120,7 @@ abbrev pub no_road : Prediction
 no_road = record { len = 0; behind = 0; behind_m = whole 0; end = End.Memory; end_m = whole 0; confidence = 0 }
 
 abbrev pub road_done : Due → ℕ → Due
-road_done d at = with_reloads (with_last_road (with_road d false) (MaybeTime.At at)) 0
+road_done d at = with_reloads (with_last_road (with_road d false) (Some at)) 0
 
 unfoldable pub published : Follower → Ahead → Fix → Matched → Prediction → Follower
 published f a fix found p = with_ahead (with_due f (road_done f.due fix.at_ms)) (with_match a fix.at_ms found p)
@@ -155,14 +153,14 @@ with_heights a samples behind = record {
   confidence = a.confidence;
 }
 
-abbrev pub road_ended_by : RoadOutcome.Outcome → Engine → Follower → Fix → Matched → After → Stepped
-road_ended_by (Road.Road r) e f fix found x =
-    ended e x.predicted.cache (published f (with_heights f.ahead x.samples x.behind) fix found r) Status.Working
-road_ended_by (Road.Need key) e f fix found x =
-    ended e x.predicted.cache (road_asks f x.predicted.cache.pages.count fix found key) Status.Working
-road_ended_by Road.Rematch e f fix found x = ended e x.predicted.cache (rematch f) Status.Working
-road_ended_by (Road.Refused number) e f fix found x =
-    cond (number == 10) (ended e x.predicted.cache (rematch f) Status.Working) (refused e number)
+abbrev pub road_ended_by : Result RoadOutcome.Outcome Refusal → Engine → Follower → Fix → Matched → After → Stepped
+road_ended_by (Ok (Road.Road r)) e f fix found x =
+    ended e x.predicted.cache (published f (with_heights f.ahead x.samples x.behind) fix found r) (Ok Status.Working)
+road_ended_by (Ok (Road.Need key)) e f fix found x =
+    ended e x.predicted.cache (road_asks f x.predicted.cache.pages.count fix found key) (Ok Status.Working)
+road_ended_by (Ok Road.Rematch) e f fix found x = ended e x.predicted.cache (rematch f) (Ok Status.Working)
+road_ended_by (Err refusal) e f fix found x =
+    cond (number_of refusal == 10) (ended e x.predicted.cache (rematch f) (Ok Status.Working)) (refused e refusal)
 
 -- over fresh heights of 0
 unfoldable pub road_step : Engine → List ℕ → Follower → Fix → Matched → Stepped
@@ -173,9 +171,9 @@ road_step e arena f fix found =
 abbrev pub road_off : Due → Due
 road_off d = with_road d false
 
-abbrev pub road_due_by : Current → Engine → List ℕ → Follower → Fix → Stepped
-road_due_by (Current.Is found) e arena f fix = road_step e arena f fix found
-road_due_by Current.Nothing e arena f fix = ended e e.shared.cache (with_due f (road_off f.due)) Status.Idle
+abbrev pub road_due_by : Option Matched → Engine → List ℕ → Follower → Fix → Stepped
+road_due_by (Some found) e arena f fix = road_step e arena f fix found
+road_due_by None e arena f fix = ended e e.shared.cache (with_due f (road_off f.due)) (Ok Status.Idle)
 
 abbrev pub road_due : Engine → List ℕ → Follower → Fix → Stepped
 road_due e arena f fix = road_due_by f.matcher.current e arena f fix
@@ -184,18 +182,18 @@ road_due e arena f fix = road_due_by f.matcher.current e arena f fix
 
 abbrev pub in_grid_step : Engine → List ℕ → Follower → Fix → Stepped
 in_grid_step e arena f fix =
-    cond f.due.matching (match_step e arena f fix) (cond f.due.road (road_due e arena f fix) (ended e e.shared.cache f Status.Idle))
+    cond f.due.matching (match_step e arena f fix) (cond f.due.road (road_due e arena f fix) (ended e e.shared.cache f (Ok Status.Idle)))
 
 abbrev pub at_fix_by : Option TileKey → Engine → List ℕ → Follower → Fix → Stepped
 at_fix_by (Some key) e arena f fix = in_grid_step e arena f fix
-at_fix_by None e arena f fix = ended e e.shared.cache (off_map f fix) Status.OffMap
+at_fix_by None e arena f fix = ended e e.shared.cache (off_map f fix) (Ok Status.OffMap)
 
 unfoldable pub at_fix : Engine → List ℕ → Follower → Fix → Stepped
 at_fix e arena f fix = at_fix_by (key_of e.shared.header fix.lat fix.lon) e arena f fix
 
-abbrev pub worked_by : MaybeFix → Engine → List ℕ → Follower → Stepped
-worked_by MaybeFix.Nothing e arena f = ended e e.shared.cache f Status.Idle
-worked_by (MaybeFix.Is fix) e arena f = at_fix e arena f fix
+abbrev pub worked_by : Option Fix → Engine → List ℕ → Follower → Stepped
+worked_by None e arena f = ended e e.shared.cache f (Ok Status.Idle)
+worked_by (Some fix) e arena f = at_fix e arena f fix
 
 -- a step that needs no tile, counted
 unfoldable pub worked : Engine → List ℕ → Stepped

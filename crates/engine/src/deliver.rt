@@ -24,7 +24,7 @@ fn with_phase(s: Shared, phase: Phase, header: Header) -> Shared
     }
 }
 
-fn with_failures(e: Engine, s: Shared, failures: u8, answer: Status) -> Stepped
+fn with_failures(e: Engine, s: Shared, failures: u8, answer: Result<Status, Refusal>) -> Stepped
     ensures { result ≡ Deliver.with_failures e s failures answer }
 {
     let mut f = e.follower;
@@ -46,11 +46,11 @@ fn header_failed(e: Engine, failure: u32) -> Stepped
     if failure == 1 {
         if f.failures < 7 {
             let d = with_phase(s, Phase::Unread, header);
-            return with_failures(e, d, f.failures + 1, Status::Working);
+            return with_failures(e, d, f.failures + 1, Ok(Status::Working));
         }
     }
     let d = with_phase(s, Phase::Failed, header);
-    with_failures(e, d, f.failures, Status::NoPack)
+    with_failures(e, d, f.failures, Ok(Status::NoPack))
 }
 
 // The first 512 bytes of an answer that has as many: one copy.
@@ -98,7 +98,7 @@ fn header_came(e: Engine, failure: u32, bytes: &[u8]) -> Stepped
         Ok(header) => {
             let s = e.shared;
             let d = with_phase(s, Phase::Ready, header);
-            with_failures(e, d, 0, Status::Working)
+            with_failures(e, d, 0, Ok(Status::Working))
         }
         Err(refusal) => header_failed(e, refusal.number()),
     }
@@ -180,7 +180,7 @@ pub(crate) fn loaded(mut e: Engine, l: Loaded) -> Stepped
 {
     let progress = match l.answer {
         Ok(progress) => progress,
-        Err(refusal) => return crate::state::refused(e, refusal.number()),
+        Err(refusal) => return crate::state::refused(e, refusal),
     };
     let before = e.follower;
     let is_failed = fails_pack(progress, before.failures);
@@ -199,7 +199,7 @@ pub(crate) fn loaded(mut e: Engine, l: Loaded) -> Stepped
     e.shared = shared;
     let told = load_tells(is_failed);
     Stepped {
-        answer: told,
+        answer: Ok(told),
         engine: e,
     }
 }
@@ -237,7 +237,7 @@ fn need_came(e: Engine, arena: &mut [u8], failure: u32, bytes: &[u8]) -> Stepped
     let due = f.due;
     let need = due.need;
     match need {
-        None => crate::state::refused(e, 11),
+        None => crate::state::refused(e, Refusal::NotAsked),
         Some(key) => part_came(e, arena, key, failure, bytes),
     }
 }
@@ -248,18 +248,18 @@ pub(crate) fn delivered(e: Engine, arena: &mut [u8], failure: u32, bytes: &[u8])
     ensures arena_after { arena.new ≡ (Calls.deliver e arena.old failure bytes.now).arena }
 {
     if !crate::state::engine_ok(e, arena.len()) {
-        return crate::state::refused(e, 12);
+        return crate::state::refused(e, Refusal::BadState);
     }
     let s = e.shared;
     let c = s.cache;
     let pending = c.pending;
     match pending {
-        Pending::Nothing => crate::state::refused(e, 11),
+        Pending::Nothing => crate::state::refused(e, Refusal::NotAsked),
         Pending::Header => {
             if fits_header(failure, bytes.len()) {
                 return header_came(e, failure, bytes);
             }
-            crate::state::refused(e, 11)
+            crate::state::refused(e, Refusal::NotAsked)
         }
         Pending::Entry(_) | Pending::Chunk => need_came(e, arena, failure, bytes),
     }

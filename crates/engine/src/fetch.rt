@@ -25,31 +25,35 @@ pub fn with_pending(c: Cache, pending: Pending) -> Cache
 }
 
 // The read of a chunk.
-fn chunk_request(loading: Option<Loading>) -> Status
+fn chunk_request(loading: Option<Loading>) -> Result<Status, Refusal>
     ensures { result ≡ Steps.chunk_request loading }
 {
     match loading {
-        None => Status::Refused(12),
-        Some(l) => Status::Fetch(
+        None => Err(Refusal::BadState),
+        Some(l) => Ok(Status::Fetch(
             (l.offset as u64) + (l.done as u64),
             cache::step::chunk_len(l) as usize,
-        ),
+        )),
     }
 }
 
 // The read that an open fetch asks for, worked out from it, the header and the load.
-pub fn request(header: Header, loading: Option<Loading>, pending: Pending) -> Status
+pub fn request(
+    header: Header,
+    loading: Option<Loading>,
+    pending: Pending,
+) -> Result<Status, Refusal>
     ensures { result ≡ Steps.request_by header loading pending }
 {
     match pending {
-        Pending::Nothing => Status::Refused(12),
-        Pending::Header => Status::Fetch(0, 512),
-        Pending::Entry(key) => Status::Fetch(pack::grid::entry_of(header, key), 8),
+        Pending::Nothing => Err(Refusal::BadState),
+        Pending::Header => Ok(Status::Fetch(0, 512)),
+        Pending::Entry(key) => Ok(Status::Fetch(pack::grid::entry_of(header, key), 8)),
         Pending::Chunk => chunk_request(loading),
     }
 }
 
-fn request_of(s: Shared, pending: Pending) -> Status
+fn request_of(s: Shared, pending: Pending) -> Result<Status, Refusal>
     ensures { result ≡ Steps.request_of s pending }
 {
     let header = s.header;
@@ -121,7 +125,7 @@ pub(crate) fn stepped(mut e: Engine, arena: &[u8]) -> Stepped
     ensures { result ≡ Calls.step e arena.now }
 {
     if !crate::state::engine_ok(e, arena.len()) {
-        return crate::state::refused(e, 12);
+        return crate::state::refused(e, Refusal::BadState);
     }
     let s = e.shared;
     let c = s.cache;
@@ -141,7 +145,7 @@ pub(crate) fn stepped(mut e: Engine, arena: &[u8]) -> Stepped
     let plan = crate::plan::of_state(phase, header, fix, due, current);
     match plan {
         Plan::NoPack => Stepped {
-            answer: Status::NoPack,
+            answer: Ok(Status::NoPack),
             engine: e,
         },
         Plan::Header => opened(e, Pending::Header),
@@ -154,7 +158,7 @@ pub(crate) fn stepped(mut e: Engine, arena: &[u8]) -> Stepped
             let steps = std::num::wrapping_add_u32(e.follower.steps, 1);
             e.follower.steps = steps;
             Stepped {
-                answer: Status::Idle,
+                answer: Ok(Status::Idle),
                 engine: e,
             }
         }

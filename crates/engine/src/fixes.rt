@@ -2,7 +2,7 @@
 ghost use Rattle.std.specs.Prelude.{◌≡◌};
 ghost use Rattle.engine.specs.Fixes as Fixes;
 
-use crate::{Fix, MaybeFix, Places, Sight};
+use crate::{Fix, Places, Sight};
 use geo::{Metres, Point};
 use matcher::Heading;
 
@@ -14,7 +14,7 @@ pub(crate) fn nothing_seen() -> Sight
     let v = [none; 16];
     let history = Places { v, len: 0 };
     Sight {
-        fix: MaybeFix::Nothing,
+        fix: None,
         history,
         heading: Heading::Nothing,
         heading_at: 0,
@@ -22,12 +22,12 @@ pub(crate) fn nothing_seen() -> Sight
 }
 
 // Whether a fix is at the place of the newest one.
-pub(crate) fn is_same_place(last: MaybeFix, fix: Fix) -> bool
+pub(crate) fn is_same_place(last: Option<Fix>, fix: Fix) -> bool
     ensures { result ≡ Fixes.is_same_place last fix }
 {
     match last {
-        MaybeFix::Nothing => false,
-        MaybeFix::Is(f) => {
+        None => false,
+        Some(f) => {
             if f.lat == fix.lat {
                 return f.lon == fix.lon;
             }
@@ -157,7 +157,7 @@ pub(crate) fn seen(s: Sight, fix: Fix) -> Sight
     let history = push(old, here);
     let heading = fresh(course, fix.at_ms);
     Sight {
-        fix: MaybeFix::Is(fix),
+        fix: Some(fix),
         history,
         heading,
         heading_at: course.at_ms,
@@ -172,7 +172,7 @@ pub(crate) fn lost(s: Sight) -> Sight
     let mut history = old;
     history.len = 0;
     Sight {
-        fix: MaybeFix::Nothing,
+        fix: None,
         history,
         heading: Heading::Nothing,
         heading_at: s.heading_at,

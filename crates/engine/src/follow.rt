@@ -2,8 +2,8 @@
 ghost use Rattle.std.specs.Prelude.{◌≡◌};
 ghost use Rattle.engine.specs.Follow as State;
 
-use crate::{Due, Fix, Follower, MaybeFix, MaybeTime};
-use matcher::{Current, Matcher};
+use crate::{Due, Fix, Follower};
+use matcher::{Matched, Matcher};
 
 // Nothing done yet but, where `matching` says so, a match due.
 fn nothing_done(matching: bool) -> Due
@@ -12,7 +12,7 @@ fn nothing_done(matching: bool) -> Due
     Due {
         matching,
         road: false,
-        last_road: MaybeTime::Nothing,
+        last_road: None,
         need: None,
         reloads: 0,
     }
@@ -55,12 +55,12 @@ pub(crate) fn fixed(f: Follower, fix: Fix) -> Follower
     d
 }
 
-fn is_matched(c: Current) -> bool
+fn is_matched(c: Option<Matched>) -> bool
     ensures { result ≡ State.is_matched c }
 {
     match c {
-        Current::Nothing => false,
-        Current::Is(_) => true,
+        None => false,
+        Some(_) => true,
     }
 }
 
@@ -87,12 +87,12 @@ pub(crate) fn lost(f: Follower) -> Follower
     d
 }
 
-fn has_fix(fix: MaybeFix) -> bool
+fn has_fix(fix: Option<Fix>) -> bool
     ensures { result ≡ State.has_fix fix }
 {
     match fix {
-        MaybeFix::Nothing => false,
-        MaybeFix::Is(_) => true,
+        None => false,
+        Some(_) => true,
     }
 }
 

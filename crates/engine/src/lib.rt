@@ -28,9 +28,10 @@ ghost use Rattle.std.specs.Prelude.{◌≡◌};
 use cache::Cache;
 pub use geo::Point;
 use matcher::Matcher;
-pub use matcher::{Current, Heading, Matched};
+pub use matcher::{Heading, Matched};
 pub use pack::{Header, TileKey};
 pub use predict::{BEHIND_SAMPLES, End, MAX_SAMPLES};
+pub use refusal::Refusal;
 pub use tile::TileId;
 
 // A GPS position in micro-degrees, at a monotonic time.
@@ -39,18 +40,6 @@ pub struct Fix {
     pub lat: i32,
     pub lon: i32,
     pub at_ms: u64,
-}
-
-#[derive(Clone, Copy)]
-pub enum MaybeFix {
-    Nothing,
-    Is(Fix),
-}
-
-#[derive(Clone, Copy)]
-pub enum MaybeTime {
-    Nothing,
-    At(u64),
 }
 
 // The places of the last fixes, at most sixteen, the oldest first, and how many they are.
@@ -63,7 +52,7 @@ pub struct Places {
 // The newest fix, the places before it and at it, the heading that they give, and the time of the fix that gave it.
 #[derive(Clone, Copy)]
 pub struct Sight {
-    pub fix: MaybeFix,
+    pub fix: Option<Fix>,
     pub history: Places,
     pub heading: Heading,
     pub heading_at: u64,
@@ -75,7 +64,7 @@ pub struct Sight {
 pub struct Due {
     pub matching: bool,
     pub road: bool,
-    pub last_road: MaybeTime,
+    pub last_road: Option<u64>,
     pub need: Option<TileKey>,
     pub reloads: u16,
 }
@@ -87,7 +76,7 @@ pub struct Ahead {
     pub generation: u32,
     // The fix this was worked out from.
     pub at_ms: u64,
-    pub matched: Current,
+    pub matched: Option<Matched>,
     // Map elevation at the rider, decimetres.
     pub start_z_dm: i32,
     // Elevation every 20 m from the rider, relative to `start_z_dm`.
@@ -136,8 +125,8 @@ impl Ahead {
     {
         let matched = self.matched;
         match matched {
-            Current::Nothing => false,
-            Current::Is(_) => 1 < self.len,
+            None => false,
+            Some(_) => 1 < self.len,
         }
     }
 }
@@ -164,7 +153,7 @@ pub struct Engine {
 }
 
 // How a step ended: nothing to do until the next fix; more work queued; no readable pack; the newest fix is outside the pack's grid; a read
-// that the host is asked for, by offset and length; refused.
+// that the host is asked for, by offset and length.
 #[derive(Clone, Copy)]
 pub enum Status {
     Idle,
@@ -172,59 +161,19 @@ pub enum Status {
     NoPack,
     OffMap,
     Fetch(u64, usize),
-    Refused(u32),
 }
 
 #[derive(Clone, Copy)]
 pub struct Stepped {
-    pub answer: Status,
+    pub answer: Result<Status, Refusal>,
     pub engine: Engine,
 }
 
-// How a call without an answer of its own ended.
-#[derive(Clone, Copy)]
-pub enum Taken {
-    Done,
-    Refused(u32),
-}
-
+// A call without an answer of its own.
 #[derive(Clone, Copy)]
 pub struct Changed {
-    pub answer: Taken,
+    pub answer: Result<(), Refusal>,
     pub engine: Engine,
-}
-
-// Whether there is what was asked for, which stands beside the answer.
-#[derive(Clone, Copy)]
-pub enum Known {
-    Nothing,
-    Is,
-    Refused(u32),
-}
-
-#[derive(Clone, Copy)]
-pub struct HeaderRead {
-    pub answer: Known,
-    pub header: Header,
-}
-
-#[derive(Clone, Copy)]
-pub struct AheadRead {
-    pub answer: Known,
-    pub ahead: Ahead,
-}
-
-#[derive(Clone, Copy)]
-pub enum HeadingRead {
-    Nothing,
-    Degrees(f32),
-    Refused(u32),
-}
-
-#[derive(Clone, Copy)]
-pub enum Count {
-    Is(u32),
-    Refused(u32),
 }
 
 impl Engine {
@@ -243,10 +192,10 @@ impl Engine {
         ensures { result ≡ Calls.fix self arena.now fix }
     {
         if !state::engine_ok(self, arena.len()) {
-            return state::unchanged(self, 12);
+            return state::unchanged(self, Refusal::BadState);
         }
         if !pack::grid::is_point(fix.lat, fix.lon) {
-            return state::unchanged(self, 8);
+            return state::unchanged(self, Refusal::OutOfRange);
         }
         let before = self.follower;
         let after = crate::follow::fixed(before, fix);
@@ -254,11 +203,12 @@ impl Engine {
     }
 
     // The fixes stopped: forget the road.
+    #[tactic(auto, unfolding(crate::specs::Calls::lost))]
     pub fn lost(self, arena: &[u8]) -> Changed
         ensures { result ≡ Calls.lost self arena.now }
     {
         if !state::engine_ok(self, arena.len()) {
-            return state::unchanged(self, 12);
+            return state::unchanged(self, Refusal::BadState);
         }
         let before = self.follower;
         let after = crate::follow::lost(before);
@@ -266,97 +216,78 @@ impl Engine {
     }
 
     // Forget the pack and every cached tile, as after the card was written anew.
+    #[tactic(auto, unfolding(crate::specs::Calls::reset))]
     pub fn reset(self, arena: &[u8]) -> Changed
         ensures { result ≡ Calls.reset self arena.now }
     {
         if !state::engine_ok(self, arena.len()) {
-            return state::unchanged(self, 12);
+            return state::unchanged(self, Refusal::BadState);
         }
         state::forgotten(self)
     }
 
-    // The road ahead as it was published last; refused, an empty one stands beside the answer.
-    pub fn ahead(self, arena: &[u8]) -> AheadRead
+    // The road ahead as it was published last.
+    #[tactic(auto, unfolding(crate::specs::Calls::ahead))]
+    pub fn ahead(self, arena: &[u8]) -> Result<Ahead, Refusal>
         ensures { result ≡ Calls.ahead self arena.now }
     {
         if !state::engine_ok(self, arena.len()) {
-            let none = crate::publish::nothing_ahead(0);
-            return AheadRead {
-                answer: Known::Refused(12),
-                ahead: none,
-            };
+            return Err(Refusal::BadState);
         }
-        let f = self.follower;
-        let ahead = f.ahead;
-        AheadRead {
-            answer: Known::Is,
-            ahead,
-        }
+        Ok(self.follower.ahead)
     }
 
-    // The pack's header, once it was read; else an empty one stands beside the answer.
-    pub fn header(self, arena: &[u8]) -> HeaderRead
+    // The pack's header, once it was read.
+    #[tactic(auto, unfolding(crate::specs::Calls::header))]
+    pub fn header(self, arena: &[u8]) -> Result<Option<Header>, Refusal>
         ensures { result ≡ Calls.header self arena.now }
     {
-        let none = state::no_header();
         if !state::engine_ok(self, arena.len()) {
-            return HeaderRead {
-                answer: Known::Refused(12),
-                header: none,
-            };
+            return Err(Refusal::BadState);
         }
-        let s = self.shared;
-        let phase = s.phase;
-        if state::is_ready(phase) {
-            let header = s.header;
-            return HeaderRead {
-                answer: Known::Is,
-                header,
-            };
+        if state::is_ready(self.shared.phase) {
+            return Ok(Some(self.shared.header));
         }
-        HeaderRead {
-            answer: Known::Nothing,
-            header: none,
-        }
+        Ok(None)
     }
 
     // The bearing of travel, if the rider moved lately.
-    pub fn heading(self, arena: &[u8]) -> HeadingRead
+    #[tactic(auto, unfolding(crate::specs::Calls::heading))]
+    pub fn heading(self, arena: &[u8]) -> Result<Option<f32>, Refusal>
         ensures { result ≡ Calls.heading self arena.now }
     {
         if !state::engine_ok(self, arena.len()) {
-            return HeadingRead::Refused(12);
+            return Err(Refusal::BadState);
         }
         let f = self.follower;
         let sight = f.sight;
         let heading = sight.heading;
         match heading {
-            Heading::Nothing => HeadingRead::Nothing,
-            Heading::Degrees(d) => HeadingRead::Degrees(d),
+            Heading::Nothing => Ok(None),
+            Heading::Degrees(d) => Ok(Some(d)),
         }
     }
 
     // Tiles read since start.
-    pub fn loads(self, arena: &[u8]) -> Count
+    #[tactic(auto, unfolding(crate::specs::Calls::loads))]
+    pub fn loads(self, arena: &[u8]) -> Result<u32, Refusal>
         ensures { result ≡ Calls.loads self arena.now }
     {
         if !state::engine_ok(self, arena.len()) {
-            return Count::Refused(12);
+            return Err(Refusal::BadState);
         }
-        let s = self.shared;
-        let c = s.cache;
-        Count::Is(c.loads)
+        Ok(self.shared.cache.loads)
     }
 
     // Steps that did work since start.
-    pub fn steps(self, arena: &[u8]) -> Count
+    #[tactic(auto, unfolding(crate::specs::Calls::steps))]
+    pub fn steps(self, arena: &[u8]) -> Result<u32, Refusal>
         ensures { result ≡ Calls.steps self arena.now }
     {
         if !state::engine_ok(self, arena.len()) {
-            return Count::Refused(12);
+            return Err(Refusal::BadState);
         }
-        let f = self.follower;
-        Count::Is(f.steps)
+        Ok(self.follower.steps)
     }
 
     // One bounded unit of work.
@@ -375,6 +306,7 @@ impl Engine {
     }
 
     // One step over a pack that is lent whole: `step`, and where it fetches, `deliver` with the pack's bytes, or with 2 where they pass its end.
+    #[tactic(auto, unfolding(crate::specs::Calls::step_from))]
     pub fn step_from(self, arena: &mut [u8], pack: &[u8]) -> Stepped
         ensures value { result ≡ Calls.told (Calls.step_from self arena.old pack.now) }
         ensures arena_after { arena.new ≡ (Calls.step_from self arena.old pack.now).arena }
@@ -382,12 +314,12 @@ impl Engine {
         let s = self.step(&arena[..]);
         let answer = s.answer;
         match answer {
-            Status::Fetch(offset, len) => {
-                let e = s.engine;
-                answered_from(e, arena, offset, len, pack)
-            }
-            Status::Idle | Status::Working | Status::NoPack | Status::OffMap | Status::Refused(_) =>
-                s,
+            Ok(Status::Fetch(offset, len)) => answered_from(s.engine, arena, offset, len, pack),
+            Ok(Status::Idle) => s,
+            Ok(Status::Working) => s,
+            Ok(Status::NoPack) => s,
+            Ok(Status::OffMap) => s,
+            Err(_) => s,
         }
     }
 }

@@ -3,8 +3,8 @@ ghost use Rattle.std.specs.Prelude.{◌≡◌};
 ghost use Rattle.pack.specs.Grid.{key_of};
 ghost use Rattle.engine.specs.Plans as Plans;
 
-use crate::{Due, Fix, MaybeFix, Phase};
-use matcher::{Current, Matched};
+use crate::{Due, Fix, Phase};
+use matcher::Matched;
 use pack::{Header, TileKey};
 
 // Nothing; tell that there is no pack; fetch the header; go on towards a tile; match a fix; work out the road of a match; drop a road that is due without one; leave the map.
@@ -21,17 +21,17 @@ pub enum Plan {
 }
 
 // A road is due: of the current match, if there is one.
-fn of_road(current: Current, fix: Fix) -> Plan
+fn of_road(current: Option<Matched>, fix: Fix) -> Plan
     ensures { result ≡ Plans.of_road current fix }
 {
     match current {
-        Current::Is(found) => Plan::Road(fix, found),
-        Current::Nothing => Plan::Roadless,
+        Some(found) => Plan::Road(fix, found),
+        None => Plan::Roadless,
     }
 }
 
 // What is due at a fix in the grid.
-fn of_due(fix: Fix, due: Due, current: Current) -> Plan
+fn of_due(fix: Fix, due: Due, current: Option<Matched>) -> Plan
     ensures { result ≡ Plans.of_due fix due current }
 {
     if due.matching {
@@ -44,7 +44,7 @@ fn of_due(fix: Fix, due: Due, current: Current) -> Plan
 }
 
 // What is to be done at a fix.
-fn of_fix(header: Header, fix: Fix, due: Due, current: Current) -> Plan
+fn of_fix(header: Header, fix: Fix, due: Due, current: Option<Matched>) -> Plan
     ensures { result ≡ Plans.of_fix (key_of header fix.lat fix.lon) fix due current }
 {
     match pack::grid::key_of(header, fix.lat, fix.lon) {
@@ -54,17 +54,17 @@ fn of_fix(header: Header, fix: Fix, due: Due, current: Current) -> Plan
 }
 
 // What is to be done without a tile.
-fn of_sight(header: Header, fix: MaybeFix, due: Due, current: Current) -> Plan
+fn of_sight(header: Header, fix: Option<Fix>, due: Due, current: Option<Matched>) -> Plan
     ensures { result ≡ Plans.of_sight fix header due current }
 {
     match fix {
-        MaybeFix::Nothing => Plan::Rest,
-        MaybeFix::Is(at) => of_fix(header, at, due, current),
+        None => Plan::Rest,
+        Some(at) => of_fix(header, at, due, current),
     }
 }
 
 // What is to be done with a pack that is read.
-fn of_need(header: Header, fix: MaybeFix, due: Due, current: Current) -> Plan
+fn of_need(header: Header, fix: Option<Fix>, due: Due, current: Option<Matched>) -> Plan
     ensures { result ≡ Plans.of_need due.need header fix due current }
 {
     let need = due.need;
@@ -77,9 +77,9 @@ fn of_need(header: Header, fix: MaybeFix, due: Due, current: Current) -> Plan
 pub(crate) fn of_state(
     phase: Phase,
     header: Header,
-    fix: MaybeFix,
+    fix: Option<Fix>,
     due: Due,
-    current: Current,
+    current: Option<Matched>,
 ) -> Plan
     ensures { result ≡ Plans.of_state phase header fix due current }
 {

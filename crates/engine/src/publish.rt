@@ -3,7 +3,6 @@ ghost use Rattle.std.specs.Prelude.{◌≡◌};
 ghost use Rattle.engine.specs.Publish as Publish;
 
 use crate::Ahead;
-use matcher::Current;
 use predict::{BEHIND_SAMPLES, End, MAX_SAMPLES, Prediction};
 
 // Nothing published, with the generation given.
@@ -15,7 +14,7 @@ pub(crate) fn nothing_ahead(generation: u32) -> Ahead
     Ahead {
         generation,
         at_ms: 0,
-        matched: Current::Nothing,
+        matched: None,
         start_z_dm: 0,
         samples,
         len: 0,
@@ -44,7 +43,7 @@ pub(crate) fn without_match(a: Ahead, at_ms: u64, end: End) -> Ahead
     Ahead {
         generation: std::num::wrapping_add_u32(a.generation, 1),
         at_ms,
-        matched: Current::Nothing,
+        matched: None,
         start_z_dm: 0,
         samples,
         len: 0,
@@ -67,7 +66,7 @@ pub(crate) fn with_match(a: Ahead, at_ms: u64, found: matcher::Matched, p: Predi
     Ahead {
         generation: std::num::wrapping_add_u32(a.generation, 1),
         at_ms,
-        matched: Current::Is(found),
+        matched: Some(found),
         start_z_dm: found.z_dm,
         samples,
         len: p.len,

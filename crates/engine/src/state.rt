@@ -2,9 +2,10 @@
 ghost use Rattle.std.specs.Prelude.{◌≡◌};
 ghost use Rattle.engine.specs.State as State;
 
-use crate::{Changed, Engine, Follower, Phase, Shared, Status, Stepped, Taken};
+use crate::{Changed, Engine, Follower, Phase, Shared, Status, Stepped};
 use cache::Cache;
 use pack::Header;
+use refusal::Refusal;
 
 pub(crate) fn no_header() -> Header
     ensures { result ≡ State.no_header }
@@ -37,20 +38,20 @@ pub(crate) fn unread(c: Cache) -> Shared
     }
 }
 
-pub(crate) fn refused(e: Engine, number: u32) -> Stepped
-    ensures { result ≡ State.refused e number }
+pub(crate) fn refused(e: Engine, refusal: Refusal) -> Stepped
+    ensures { result ≡ State.refused e refusal }
 {
     Stepped {
-        answer: Status::Refused(number),
+        answer: Err(refusal),
         engine: e,
     }
 }
 
-pub(crate) fn unchanged(e: Engine, number: u32) -> Changed
-    ensures { result ≡ State.unchanged e number }
+pub(crate) fn unchanged(e: Engine, refusal: Refusal) -> Changed
+    ensures { result ≡ State.unchanged e refusal }
 {
     Changed {
-        answer: Taken::Refused(number),
+        answer: Err(refusal),
         engine: e,
     }
 }
@@ -62,7 +63,7 @@ pub(crate) fn followed(e: Engine, f: Follower) -> Changed
     let mut d = e;
     d.follower = f;
     Changed {
-        answer: Taken::Done,
+        answer: Ok(()),
         engine: d,
     }
 }
@@ -79,7 +80,7 @@ pub(crate) fn forgotten(e: Engine) -> Changed
     let follower = crate::follow::reset(f);
     let engine = Engine { shared, follower };
     Changed {
-        answer: Taken::Done,
+        answer: Ok(()),
         engine,
     }
 }

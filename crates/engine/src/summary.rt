@@ -5,9 +5,9 @@ ghost use Rattle.engine.specs.State as State;
 ghost use Rattle.engine.specs.Summaries as Summaries;
 
 use crate::plan::Plan;
-use crate::{Due, Engine, MaybeFix, Phase, Places, Sight};
+use crate::{Due, Engine, Fix, Phase, Places, Sight};
 use cache::{Loading, Pending};
-use matcher::{Current, Matcher};
+use matcher::{Matched, Matcher};
 use pack::{Header, TileKey};
 
 // Phase and header; how many pages, the load, the open fetch; fixes, match, what is due; the published road's match and its two counts; failures.
@@ -21,7 +21,7 @@ pub struct Summary {
     pub sight: Sight,
     pub matcher: Matcher,
     pub due: Due,
-    pub published: Current,
+    pub published: Option<Matched>,
     pub len: usize,
     pub behind_len: usize,
     pub failures: u8,
@@ -98,12 +98,12 @@ fn need_ok(phase: Phase, header: Header, need: Option<TileKey>) -> bool
     }
 }
 
-fn matched_ok(phase: Phase, header: Header, current: Current) -> bool
+fn matched_ok(phase: Phase, header: Header, current: Option<Matched>) -> bool
     ensures { result ≡ State.matched_by phase header current }
 {
     match current {
-        Current::Nothing => true,
-        Current::Is(m) => {
+        None => true,
+        Some(m) => {
             let id = m.tile;
             held_ok(phase, header, id.key)
         }
@@ -160,12 +160,12 @@ fn pending_ok(
     }
 }
 
-fn fix_ok(fix: MaybeFix) -> bool
+fn fix_ok(fix: Option<Fix>) -> bool
     ensures { result ≡ State.fix_ok fix }
 {
     match fix {
-        MaybeFix::Nothing => true,
-        MaybeFix::Is(f) => pack::grid::is_point(f.lat, f.lon),
+        None => true,
+        Some(f) => pack::grid::is_point(f.lat, f.lon),
     }
 }
 
@@ -225,7 +225,13 @@ fn matcher_ok(phase: Phase, header: Header, m: Matcher) -> bool
 }
 
 // The counts of the published road, and its match.
-fn ahead_ok(phase: Phase, header: Header, len: usize, behind_len: usize, published: Current) -> bool
+fn ahead_ok(
+    phase: Phase,
+    header: Header,
+    len: usize,
+    behind_len: usize,
+    published: Option<Matched>,
+) -> bool
     ensures { result ≡ State.ahead_by phase header len behind_len published }
 {
     if 501 < len {

@@ -5,11 +5,12 @@ ghost use Rattle.pack.specs.Grid.{in_grid};
 ghost use Rattle.engine.specs.Plans as Plans;
 ghost use Rattle.engine.specs.Work as Work;
 
-use crate::{Ahead, Due, Engine, Fix, Follower, MaybeTime, Status, Stepped};
+use crate::{Ahead, Due, Engine, Fix, Follower, Status, Stepped};
 use geo::Point;
-use matcher::{Current, Made, Matched, Matcher};
+use matcher::{Made, Matched, Matcher};
 use pack::TileKey;
 use predict::{End, Outcome, Prediction};
+use refusal::Refusal;
 
 // One step more was counted, and nothing else.
 pub(crate) fn counted(f: Follower) -> Follower
@@ -20,12 +21,12 @@ pub(crate) fn counted(f: Follower) -> Follower
     d
 }
 
-pub fn is_matched(c: Current) -> bool
+pub fn is_matched(c: Option<Matched>) -> bool
     ensures { result ≡ Work.is_matched c }
 {
     match c {
-        Current::Nothing => false,
-        Current::Is(_) => true,
+        None => false,
+        Some(_) => true,
     }
 }
 
@@ -85,22 +86,22 @@ pub fn may_ask(d: Due, pages: usize) -> bool
 // ---- a match
 
 // Whether a match is on another edge than the one published.
-fn is_other(found: Matched, published: Current) -> bool
+fn is_other(found: Matched, published: Option<Matched>) -> bool
     ensures { result ≡ Work.is_other found published }
 {
     match published {
-        Current::Nothing => true,
-        Current::Is(m) => !matcher::score::is_on(m, found.tile, found.edge),
+        None => true,
+        Some(m) => !matcher::score::is_on(m, found.tile, found.edge),
     }
 }
 
 // Whether two seconds have passed since the last road.
-fn is_time(last: MaybeTime, now_ms: u64) -> bool
+fn is_time(last: Option<u64>, now_ms: u64) -> bool
     ensures { result ≡ Work.is_time last now_ms }
 {
     match last {
-        MaybeTime::Nothing => true,
-        MaybeTime::At(at) => {
+        None => true,
+        Some(at) => {
             if now_ms < at {
                 return false;
             }
@@ -110,15 +111,20 @@ fn is_time(last: MaybeTime, now_ms: u64) -> bool
 }
 
 // What is due once a match is made: a road where it is on another edge, or it is time.
-pub fn matched_due(due: Due, current: Current, published: Current, at_ms: u64) -> Due
+pub fn matched_due(
+    due: Due,
+    current: Option<Matched>,
+    published: Option<Matched>,
+    at_ms: u64,
+) -> Due
     ensures { result ≡ Plans.matched_due due current published at_ms }
 {
     let mut d = due;
     d.reloads = 0;
     d.matching = false;
     match current {
-        Current::Nothing => d,
-        Current::Is(found) => {
+        None => d,
+        Some(found) => {
             let last = d.last_road;
             if is_other(found, published) || is_time(last, at_ms) {
                 d.road = true;
@@ -196,30 +202,32 @@ fn match_leaves(
     m: Matcher,
     fix: Fix,
     pages: usize,
-    answer: matcher::Outcome,
+    answer: Result<matcher::Outcome, Refusal>,
 ) -> Follower
     ensures { result ≡ Plans.match_leaves answer f m fix pages }
 {
     match answer {
-        matcher::Outcome::Found(_) | matcher::Outcome::Nothing | matcher::Outcome::Refused(_) =>
-            matched(f, m, fix),
-        matcher::Outcome::Need(key) => match_asks(f, pages, key),
+        Ok(matcher::Outcome::Found(_)) => matched(f, m, fix),
+        Ok(matcher::Outcome::Nothing) => matched(f, m, fix),
+        Ok(matcher::Outcome::Need(key)) => match_asks(f, pages, key),
+        Err(_) => matched(f, m, fix),
     }
 }
 
 // How a step that matched ends, where the match is not refused.
-pub fn match_tells(due: Due, pages: usize, answer: matcher::Outcome) -> Status
+pub fn match_tells(due: Due, pages: usize, answer: Result<matcher::Outcome, Refusal>) -> Status
     ensures { result ≡ Plans.match_tells answer due pages }
 {
     match answer {
-        matcher::Outcome::Found(_) | matcher::Outcome::Nothing | matcher::Outcome::Refused(_) =>
-            Status::Working,
-        matcher::Outcome::Need(_) => {
+        Ok(matcher::Outcome::Found(_)) => Status::Working,
+        Ok(matcher::Outcome::Nothing) => Status::Working,
+        Ok(matcher::Outcome::Need(_)) => {
             if may_ask(due, pages) {
                 return Status::Working;
             }
             Status::Idle
         }
+        Err(_) => Status::Working,
     }
 }
 
@@ -228,8 +236,8 @@ fn match_ended(mut e: Engine, fix: Fix, u: Made) -> Stepped
     ensures { result ≡ Plans.match_made e fix u }
 {
     let answer = u.answer;
-    if let matcher::Outcome::Refused(number) = answer {
-        return crate::state::refused(e, number);
+    if let Err(refusal) = answer {
+        return crate::state::refused(e, refusal);
     }
     let mut s = e.shared;
     let old = s.cache;
@@ -246,7 +254,7 @@ fn match_ended(mut e: Engine, fix: Fix, u: Made) -> Stepped
     e.follower = after;
     let told = match_tells(due, pages.count, answer);
     Stepped {
-        answer: told,
+        answer: Ok(told),
         engine: e,
     }
 }
@@ -274,7 +282,7 @@ pub fn road_done(d: Due, at_ms: u64) -> Due
     Due {
         matching: d.matching,
         road: false,
-        last_road: MaybeTime::At(at_ms),
+        last_road: Some(at_ms),
         need,
         reloads: 0,
     }
@@ -329,34 +337,50 @@ fn road_leaves(
     pages: usize,
     fix: Fix,
     found: Matched,
-    answer: Outcome,
+    answer: Result<Outcome, Refusal>,
 ) -> Follower
     ensures { result ≡ Plans.road_leaves answer f a pages fix found }
 {
     match answer {
-        Outcome::Road(r) => published(f, a, fix, found, r),
-        Outcome::Need(key) => road_asks(f, pages, fix, found, key),
-        Outcome::Rematch | Outcome::Refused(_) => rematch(f),
+        Ok(Outcome::Road(r)) => published(f, a, fix, found, r),
+        Ok(Outcome::Need(key)) => road_asks(f, pages, fix, found, key),
+        Ok(Outcome::Rematch) => rematch(f),
+        Err(_) => rematch(f),
     }
 }
 
-// Whether a road refuses the step: after 10 the fix is matched again.
-pub fn road_fails(answer: Outcome) -> bool
+// The refusal of a step that worked out a road: after 10 the fix is matched again.
+pub fn road_refusal(answer: Result<Outcome, Refusal>) -> Option<Refusal>
+    ensures { result ≡ Plans.road_refusal answer }
+{
+    match answer {
+        Ok(_) => None,
+        Err(refusal) => {
+            if refusal.number() == 10 {
+                return None;
+            }
+            Some(refusal)
+        }
+    }
+}
+
+// Whether there is one.
+pub fn road_fails(answer: Result<Outcome, Refusal>) -> bool
     ensures { result ≡ Plans.road_fails answer }
 {
     match answer {
-        Outcome::Road(_) | Outcome::Need(_) | Outcome::Rematch => false,
-        Outcome::Refused(number) => number != 10,
+        Ok(_) => false,
+        Err(refusal) => refusal.number() != 10,
     }
 }
 
-// The number that it is refused with, 0 where it is not.
-pub fn road_number(answer: Outcome) -> u32
+// The number that a road is refused with, 0 where it is not.
+pub fn road_number(answer: Result<Outcome, Refusal>) -> u32
     ensures { result ≡ Plans.road_number answer }
 {
     match answer {
-        Outcome::Road(_) | Outcome::Need(_) | Outcome::Rematch => 0,
-        Outcome::Refused(number) => number,
+        Ok(_) => 0,
+        Err(refusal) => refusal.number(),
     }
 }
 
@@ -380,8 +404,8 @@ pub(crate) fn road_step(mut e: Engine, arena: &[u8], fix: Fix, found: Matched) -
         &mut behind,
     );
     let answer = p.answer;
-    if road_fails(answer) {
-        return crate::state::refused(e, road_number(answer));
+    if let Some(refusal) = road_refusal(answer) {
+        return crate::state::refused(e, refusal);
     }
     let c = p.cache;
     s.cache = c;
@@ -395,7 +419,7 @@ pub(crate) fn road_step(mut e: Engine, arena: &[u8], fix: Fix, found: Matched) -
     let after = road_leaves(f, a, pages.count, fix, found, answer);
     e.follower = after;
     Stepped {
-        answer: Status::Working,
+        answer: Ok(Status::Working),
         engine: e,
     }
 }
@@ -411,7 +435,7 @@ pub(crate) fn road_dropped(mut e: Engine) -> Stepped
     f.due = due;
     e.follower = f;
     Stepped {
-        answer: Status::Idle,
+        answer: Ok(Status::Idle),
         engine: e,
     }
 }
@@ -425,7 +449,7 @@ pub(crate) fn left_map(mut e: Engine, fix: Fix) -> Stepped
     let f = off_map(counted, fix);
     e.follower = f;
     Stepped {
-        answer: Status::OffMap,
+        answer: Ok(Status::OffMap),
         engine: e,
     }
 }

@@ -33,11 +33,9 @@ use Rattle.cache.specs.declared.look.Landing.{Landing}
 use Rattle.cache.specs.declared.next.Next.{Next}
 use Rattle.cache.proofs.LookLaws.{looked_aged}
 use Rattle.cache.specs.Loads as Loads
-use Rattle.cache.specs.Loads.{fetched, takes, withdrawn, moved, forgot, dropped, chunk_len, began_at, began, located, entry_step, readied, further}
-use Rattle.cache.specs.Loads.{chunk_step}
+use Rattle.cache.specs.Loads.{fetched, takes, withdrawn, moved, forgot, dropped, chunk_len, began_at, began, located, entry_step, readied, further, chunk_step}
 use Rattle.cache.specs.declared.Loaded.{Loaded}
 use Rattle.cache.specs.declared.Progress.{Progress}
-use Rattle.matcher.specs.declared.Current.{Current}
 use Rattle.matcher.specs.declared.Matched.{Matched}
 use Rattle.matcher.specs.Gather as Gather
 use Rattle.matcher.specs.Gather.{Run, run_over, updated}
@@ -59,24 +57,18 @@ use Rattle.engine.specs.Follow as Followers
 use Rattle.engine.specs.declared.Ahead.{Ahead}
 use Rattle.engine.specs.declared.Fix.{Fix}
 use Rattle.engine.specs.declared.Follower.{Follower}
-use Rattle.engine.specs.declared.MaybeFix.{MaybeFix}
 use Rattle.engine.specs.Calls as Calls
-use Rattle.engine.specs.Deliver.{After, failing, with_pending, with_phase, with_failures, sector_of, header_failed, header_parsed, header_came, arrived}
-use Rattle.engine.specs.Deliver.{load_failed, loaded_by, part_came, fits_header, need_came_by, delivered_by, delivered}
-use Rattle.engine.specs.State.{unchanged, followed, forgotten, is_ready, is_unread, header_ok, shared_ok, held_ok, need_ok, matched_ok, loads_needed}
-use Rattle.engine.specs.State.{pending_ok, places_ok, ahead_ok, failures_ok, reload_limit, engine_ok}
+use Rattle.engine.specs.Deliver.{After, failing, with_pending, with_phase, with_failures, sector_of, header_failed, header_parsed, header_came, arrived, load_failed, loaded_by, part_came, fits_header, need_came_by, delivered_by, delivered}
+use Rattle.engine.specs.State.{unchanged, followed, forgotten, is_ready, is_unread, header_ok, shared_ok, held_ok, need_ok, matched_ok, loads_needed, pending_ok, places_ok, ahead_ok, failures_ok, reload_limit, engine_ok}
 use Rattle.engine.specs.Steps.{opened, ready_by, started_by, started, stepped_by, stepped}
-use Rattle.engine.specs.Work.{counted, ended, off_map, match_ended_by, match_step, road_ended_by, road_step, road_due_by, at_fix_by, at_fix, worked_by}
-use Rattle.engine.specs.Work.{worked}
+use Rattle.engine.specs.Work.{counted, ended, off_map, match_ended_by, match_step, road_ended_by, road_step, road_due_by, at_fix_by, at_fix, worked_by, worked}
 use Rattle.engine.specs.declared.Changed.{Changed}
 use Rattle.engine.specs.declared.Engine.{Engine}
 use Rattle.engine.specs.declared.Phase.{Phase}
 use Rattle.engine.specs.declared.Shared.{Shared}
 use Rattle.engine.specs.declared.Status.TheVariants as Status
 use Rattle.engine.specs.declared.Stepped.{Stepped}
-use Rattle.engine_states.proofs.KeptParts.{published_ok, Holds, EngineOk, same_fetch, no_fetch, apart, together, with_cache, cache_ok, none_pending, off_map_ok, road_off_ok}
-use Rattle.engine_states.proofs.KeptParts.{counted_ok, rematch_ok, standing_of, standing_ok, matched_ok_lem, match_asks_ok, road_asks_ok, needless_ok}
-use Rattle.engine_states.proofs.KeptParts.{failing_ok, failed_ok}
+use Rattle.engine_states.proofs.KeptParts.{published_ok, Holds, EngineOk, same_fetch, no_fetch, apart, together, with_cache, cache_ok, none_pending, off_map_ok, road_off_ok, counted_ok, rematch_ok, standing_of, standing_ok, matched_ok_lem, match_asks_ok, road_asks_ok, needless_ok, failing_ok, failed_ok}
 use Rattle.engine.proofs.NeedLaws.{need_by, need_is, part_is}
 use Rattle.engine.proofs.TestedLaws.{need_in}
 use Rattle.engine_states.proofs.MatcherKept as Matchers
@@ -126,7 +118,7 @@ fix_kept e arena f n ok =
     either_ok (engine_ok e (length arena)) _ _ n (by (is_point f.lat f.lon) refl) ok
   where
     by : (t : Bool) → is_point f.lat f.lon ≡ t
-        → engine_ok (cond t (followed e (Followers.fixed e.follower f)) (unchanged e 8)).engine n ≡ true
+        → engine_ok (cond t (followed e (Followers.fixed e.follower f)) (unchanged e Refusal.OutOfRange)).engine n ≡ true
     by true here =
         let o : EngineOk e.shared e.follower n = apart e n ok in
         together (followed e (Followers.fixed e.follower f)).engine n
@@ -194,18 +186,18 @@ counted_in e n ok =
     same_fetch e.shared e.follower (counted e.follower) n o refl (counted_ok e.shared e.follower o.holds)
 
 pub off_map_kept : (e : Engine) (fix : Fix) (n : ℕ) → engine_ok e n ≡ true
-    → engine_ok (ended e e.shared.cache (off_map (counted e.follower) fix) Status.OffMap).engine n ≡ true
+    → engine_ok (ended e e.shared.cache (off_map (counted e.follower) fix) (Ok Status.OffMap)).engine n ≡ true
 unfolding off_map
 off_map_kept e fix n ok =
     let o : EngineOk e.shared (counted e.follower) n = counted_in e n ok in
-    together (ended e e.shared.cache (off_map (counted e.follower) fix) Status.OffMap).engine n
+    together (ended e e.shared.cache (off_map (counted e.follower) fix) (Ok Status.OffMap)).engine n
     (same_fetch e.shared (counted e.follower) (off_map (counted e.follower) fix) n o refl
     (off_map_ok e.shared (counted e.follower) o.holds fix))
 
 pub idle_kept : (e : Engine) (n : ℕ) → engine_ok e n ≡ true
-    → engine_ok (ended e e.shared.cache (counted e.follower) Status.Idle).engine n ≡ true
+    → engine_ok (ended e e.shared.cache (counted e.follower) (Ok Status.Idle)).engine n ≡ true
 idle_kept e n ok =
-    together (ended e e.shared.cache (counted e.follower) Status.Idle).engine n (counted_in e n ok)
+    together (ended e e.shared.cache (counted e.follower) (Ok Status.Idle)).engine n (counted_in e n ok)
 
 -- ---- a match and a road, in phase Ready with no fetch open
 
@@ -223,11 +215,11 @@ module _ (c : Cache) (arena : List ℕ) (size : ℕ) (found : List TileKey) wher
   updated_aged (Ending.Need key) = looked_aged arena size found c
   updated_aged Ending.Stale = aged_same c
 
-  pub predicted_aged : (x : RoadOutcome.Outcome) → Aged c (Predict.cache_after x c (looked c arena size found))
-  predicted_aged (Road.Road r) = looked_aged arena size found c
-  predicted_aged (Road.Need key) = looked_aged arena size found c
-  predicted_aged Road.Rematch = looked_aged arena size found c
-  predicted_aged (Road.Refused number) = by (eqb number 12)
+  pub predicted_aged : (x : Result RoadOutcome.Outcome Refusal) → Aged c (Predict.cache_after x c (looked c arena size found))
+  predicted_aged (Ok (Road.Road r)) = looked_aged arena size found c
+  predicted_aged (Ok (Road.Need key)) = looked_aged arena size found c
+  predicted_aged (Ok Road.Rematch) = looked_aged arena size found c
+  predicted_aged (Err refusal) = by (eqb (number_of refusal) 12)
     where
       by : (t : Bool) → Aged c (cond t c (looked c arena size found))
       by true = aged_same c
@@ -253,17 +245,17 @@ module _ (aged : (c d : Cache) → Aged c d → state_ok c ≡ true → state_ok
 
   -- ---- a match
 
-  match_by : (x : MatchOutcome.Outcome) (fix : Fix) (u : Updated) → Aged e.shared.cache u.cache → Standing e.shared.header u.matcher
+  match_by : (x : Result MatchOutcome.Outcome Refusal) (fix : Fix) (u : Updated) → Aged e.shared.cache u.cache → Standing e.shared.header u.matcher
       → Matchers.NeedIn e.shared.header x → engine_ok (match_ended_by x e (counted e.follower) fix u).engine n ≡ true
-  match_by (Found.Found m) fix u a p need =
+  match_by (Ok (Found.Found m)) fix u a p need =
       works u.cache a _ (matched_ok_lem (with_cache e.shared u.cache) (counted e.follower) (looked_ok u.cache a).holds u.matcher fix
       (standing_ok (with_cache e.shared u.cache) u.matcher ready p))
-  match_by Found.Nothing fix u a p need =
+  match_by (Ok Found.Nothing) fix u a p need =
       works u.cache a _ (matched_ok_lem (with_cache e.shared u.cache) (counted e.follower) (looked_ok u.cache a).holds u.matcher fix
       (standing_ok (with_cache e.shared u.cache) u.matcher ready p))
-  match_by (Found.Need key) fix u a p need =
+  match_by (Ok (Found.Need key)) fix u a p need =
       works u.cache a _ (match_asks_ok (with_cache e.shared u.cache) (counted e.follower) (looked_ok u.cache a).holds ready key need)
-  match_by (Found.Refused number) fix u a p need = ok
+  match_by (Err number) fix u a p need = ok
 
   pub match_kept : (fix : Fix) → engine_ok (match_step e arena (counted e.follower) fix).engine n ≡ true
   unfolding match_step updated
@@ -281,31 +273,31 @@ module _ (aged : (c d : Cache) → Aged c d → state_ok c ≡ true → state_ok
 
   -- ---- a road
 
-  road_by : (x : RoadOutcome.Outcome) (fix : Fix) (found : Matched) (p : Predict.After) → Aged e.shared.cache p.predicted.cache
+  road_by : (x : Result RoadOutcome.Outcome Refusal) (fix : Fix) (found : Matched) (p : Predict.After) → Aged e.shared.cache p.predicted.cache
       → held_ok e.shared found.tile.key ≡ true → RoadIn e.shared.header 501 11 x
       → engine_ok (road_ended_by x e (counted e.follower) fix found p).engine n ≡ true
-  road_by (Road.Road r) fix found p a key most =
+  road_by (Ok (Road.Road r)) fix found p a key most =
       works p.predicted.cache a _
       (published_ok (with_cache e.shared p.predicted.cache) (counted e.follower) (looked_ok p.predicted.cache a).holds _ fix found r key
       most.0 most.1)
-  road_by (Road.Need needed) fix found p a key is_in_grid =
+  road_by (Ok (Road.Need needed)) fix found p a key is_in_grid =
       works p.predicted.cache a _
       (road_asks_ok (with_cache e.shared p.predicted.cache) (counted e.follower) (looked_ok p.predicted.cache a).holds ready needed is_in_grid fix
       found key)
-  road_by Road.Rematch fix found p a key most =
+  road_by (Ok Road.Rematch) fix found p a key most =
       works p.predicted.cache a _
       (rematch_ok (with_cache e.shared p.predicted.cache) (counted e.follower) (looked_ok p.predicted.cache a).holds)
-  road_by (Road.Refused number) fix found p a key most =
-      either_stepped (eqb number 10) _ _ n
+  road_by (Err refusal) fix found p a key most =
+      either_stepped (eqb (number_of refusal) 10) _ _ n
       (works p.predicted.cache a _
       (rematch_ok (with_cache e.shared p.predicted.cache) (counted e.follower) (looked_ok p.predicted.cache a).holds))
       ok
 
   -- the matcher's match lies in the grid
-  current_held : (found : Matched) → e.follower.matcher.current ≡ Current.Is found → held_ok e.shared found.tile.key ≡ true
+  current_held : (found : Matched) → e.follower.matcher.current ≡ Some found → held_ok e.shared found.tile.key ≡ true
   current_held found is = rw is at (and_right (counts_ok e.follower.matcher) (matched_ok e.shared e.follower.matcher.current) (apart e n ok).holds.matcher)
 
-  pub road_kept : (fix : Fix) (found : Matched) → e.follower.matcher.current ≡ Current.Is found
+  pub road_kept : (fix : Fix) (found : Matched) → e.follower.matcher.current ≡ Some found
       → engine_ok (road_step e arena (counted e.follower) fix found).engine n ≡ true
   unfolding road_step predicted_in
   road_kept fix found is =
@@ -323,10 +315,10 @@ module _ (aged : (c d : Cache) → Aged c d → state_ok c ≡ true → state_ok
 
   -- ---- the work of a step
 
-  road_due_by_lem : (x : Current) (fix : Fix) → e.follower.matcher.current ≡ x
+  road_due_by_lem : (x : Option Matched) (fix : Fix) → e.follower.matcher.current ≡ x
       → engine_ok (road_due_by x e arena (counted e.follower) fix).engine n ≡ true
-  road_due_by_lem (Current.Is found) fix is = road_kept fix found is
-  road_due_by_lem Current.Nothing fix is =
+  road_due_by_lem (Some found) fix is = road_kept fix found is
+  road_due_by_lem None fix is =
       let o : EngineOk e.shared (counted e.follower) n = counted_in e n ok in
       together _ n (same_fetch e.shared (counted e.follower) _ n o refl (road_off_ok e.shared (counted e.follower) o.holds))
 
@@ -336,10 +328,10 @@ module _ (aged : (c d : Cache) → Aged c d → state_ok c ≡ true → state_ok
       (either_stepped e.follower.due.road _ _ n (road_due_by_lem e.follower.matcher.current fix refl) (idle_kept e n ok))
   at_fix_by_lem None fix = off_map_kept e fix n ok
 
-  worked_by_lem : (x : MaybeFix) → engine_ok (worked_by x e arena (counted e.follower)).engine n ≡ true
+  worked_by_lem : (x : Option Fix) → engine_ok (worked_by x e arena (counted e.follower)).engine n ≡ true
   unfolding at_fix
-  worked_by_lem MaybeFix.Nothing = idle_kept e n ok
-  worked_by_lem (MaybeFix.Is fix) = at_fix_by_lem (key_of e.shared.header fix.lat fix.lon) fix
+  worked_by_lem None = idle_kept e n ok
+  worked_by_lem (Some fix) = at_fix_by_lem (key_of e.shared.header fix.lat fix.lon) fix
 
   pub worked_kept : engine_ok (worked e arena).engine n ≡ true
   unfolding worked
@@ -479,9 +471,9 @@ need_unread : (s x : Shared) (need : Option TileKey) → s.phase ≡ Phase.Unrea
 need_unread s x None unread ok = refl
 need_unread s x (Some key) unread ok = absurd (true≢false (sym (rw unread at ok)))
 
-matched_unread : (s x : Shared) (m : Current) → s.phase ≡ Phase.Unread → matched_ok s m ≡ true → matched_ok x m ≡ true
-matched_unread s x Current.Nothing unread ok = refl
-matched_unread s x (Current.Is m) unread ok = absurd (true≢false (sym (rw unread at ok)))
+matched_unread : (s x : Shared) (m : Option Matched) → s.phase ≡ Phase.Unread → matched_ok s m ≡ true → matched_ok x m ≡ true
+matched_unread s x None unread ok = refl
+matched_unread s x (Some m) unread ok = absurd (true≢false (sym (rw unread at ok)))
 
 failures_few : (k : ℕ) → failures_ok Phase.Unread k ≡ true → ltb k 8 ≡ true
 failures_few k ok = by (ltb k 8) ok
@@ -524,7 +516,7 @@ renewed_holds s x h f k unread few o =
 module _ (opens_nothing : (c : Cache) → state_ok c ≡ true → state_ok (with_pending c Pending.Nothing) ≡ true)
     (e : Engine) (n : ℕ) (ok : engine_ok e n ≡ true) (unread : e.shared.phase ≡ Phase.Unread) where
   renewed_ok : (x : Phase) (h : Header) (k : ℕ) → header_ok (with_phase e.shared x h) ≡ true → failures_ok x k ≡ true
-      → engine_ok (with_failures e (with_phase e.shared x h) k Status.Working).engine n ≡ true
+      → engine_ok (with_failures e (with_phase e.shared x h) k (Ok Status.Working)).engine n ≡ true
   unfolding shared_ok
   renewed_ok x h k good few =
       let s : Shared = e.shared in

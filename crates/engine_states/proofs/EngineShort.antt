@@ -27,7 +27,6 @@ use Rattle.cache.specs.Loads.{moved, dropped, began, entry_step}
 use Rattle.matcher.specs.Calls as Matching
 use Rattle.engine.specs.Fixes.{nothing_seen}
 use Rattle.engine.specs.Publish.{nothing_ahead}
-use Rattle.engine.specs.declared.MaybeTime.TheVariants as MaybeTime
 use Rattle.engine.specs.Calls as Calls
 use Rattle.engine.specs.Deliver.{part_came, delivered}
 use Rattle.engine.specs.State.{shared_ok, places_ok, engine_ok}
@@ -70,7 +69,7 @@ short = record {
   follower = record {
     sight = nothing_seen;
     matcher = Matching.reset;
-    due = record { matching = false; road = false; last_road = MaybeTime.Nothing; need = Some first; reloads = 0 };
+    due = record { matching = false; road = false; last_road = None; need = Some first; reloads = 0 };
     ahead = nothing_ahead 0;
     failures = 0;
     horizon_m = whole 0;

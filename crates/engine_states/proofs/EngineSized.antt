@@ -32,7 +32,6 @@ use Rattle.cache.specs.declared.next.Next.{Next}
 use Rattle.cache.specs.Loads as Loads
 use Rattle.cache.specs.Loads.{fetched, takes, forgot, chunk_len, put, chunk_step, pack_bytes}
 use Rattle.cache.specs.declared.Progress.{Progress}
-use Rattle.matcher.specs.declared.Current.{Current}
 use Rattle.matcher.specs.declared.Matched.{Matched}
 use Rattle.matcher.specs.Gather.{Run, run_over, updated}
 use Rattle.matcher.specs.declared.Outcome as MatchOutcome
@@ -45,12 +44,10 @@ use Rattle.predict.specs.declared.Outcome.TheVariants as Road
 use Rattle.engine.specs.Fixes.{place_of}
 use Rattle.engine.specs.declared.Fix.{Fix}
 use Rattle.engine.specs.declared.Follower.{Follower}
-use Rattle.engine.specs.declared.MaybeFix.{MaybeFix}
 use Rattle.engine.specs.Calls as Calls
-use Rattle.engine.specs.Deliver.{After, with_pending, sector_of, header_failed, header_parsed, header_came, arrived, load_failed, loaded_by}
 use Rattle.engine.proofs.NeedLaws.{need_by, need_is, part_cases}
 use Rattle.engine.proofs.TestedLaws.{need_in}
-use Rattle.engine.specs.Deliver.{fits_header, need_came_by, delivered_by, delivered}
+use Rattle.engine.specs.Deliver.{After, with_pending, sector_of, header_failed, header_parsed, header_came, arrived, load_failed, loaded_by, fits_header, need_came_by, delivered_by, delivered}
 use Rattle.engine.specs.State.{refused, forgotten, engine_ok}
 use Rattle.engine.specs.Steps.{ready_by, started_by, started, stepped_by, stepped}
 use Rattle.engine.specs.Work.{counted, match_ended_by, match_step, road_ended_by, road_step, road_due_by, at_fix_by, at_fix, worked_by, worked}
@@ -100,11 +97,11 @@ module _ (e : Engine) (arena : List ℕ) where
   either_kept true a b p q = p
   either_kept false a b p q = q
 
-  match_by : (x : MatchOutcome.Outcome) (f : Follower) (fix : Fix) (u : Updated) → Aged e.shared.cache u.cache → Kept (match_ended_by x e f fix u)
-  match_by (Found.Found m) f fix u a = a.slots
-  match_by Found.Nothing f fix u a = a.slots
-  match_by (Found.Need key) f fix u a = a.slots
-  match_by (Found.Refused number) f fix u a = refl
+  match_by : (x : Result MatchOutcome.Outcome Refusal) (f : Follower) (fix : Fix) (u : Updated) → Aged e.shared.cache u.cache → Kept (match_ended_by x e f fix u)
+  match_by (Ok (Found.Found m)) f fix u a = a.slots
+  match_by (Ok Found.Nothing) f fix u a = a.slots
+  match_by (Ok (Found.Need key)) f fix u a = a.slots
+  match_by (Err number) f fix u a = refl
 
   match_slots : (f : Follower) (fix : Fix) → Kept (match_step e arena f fix)
   unfolding match_step updated
@@ -115,16 +112,16 @@ module _ (e : Engine) (arena : List ℕ) where
       let u : Updated = updated f.matcher c arena h (place_of fix) f.sight.heading in
       match_by u.answer f fix u (updated_aged c arena h.tile r.found r.end)
 
-  road_by : (x : RoadOutcome.Outcome) (f : Follower) (fix : Fix) (found : Matched) (p : Predict.After) → Aged e.shared.cache p.predicted.cache
+  road_by : (x : Result RoadOutcome.Outcome Refusal) (f : Follower) (fix : Fix) (found : Matched) (p : Predict.After) → Aged e.shared.cache p.predicted.cache
       → Kept (road_ended_by x e f fix found p)
-  road_by (Road.Road r) f fix found p a = a.slots
-  road_by (Road.Need key) f fix found p a = a.slots
-  road_by Road.Rematch f fix found p a = a.slots
-  road_by (Road.Refused number) f fix found p a = either_kept (eqb number 10) _ _ a.slots refl
+  road_by (Ok (Road.Road r)) f fix found p a = a.slots
+  road_by (Ok (Road.Need key)) f fix found p a = a.slots
+  road_by (Ok Road.Rematch) f fix found p a = a.slots
+  road_by (Err refusal) f fix found p a = either_kept (eqb (number_of refusal) 10) _ _ a.slots refl
 
-  road_slots : (x : Current) (f : Follower) (fix : Fix) → Kept (road_due_by x e arena f fix)
+  road_slots : (x : Option Matched) (f : Follower) (fix : Fix) → Kept (road_due_by x e arena f fix)
   unfolding road_step predicted_in
-  road_slots (Current.Is found) f fix =
+  road_slots (Some found) f fix =
       let c : Cache = e.shared.cache in
       let h : Header = e.shared.header in
       let p : Predict.After = predicted_in c arena h found f.horizon_m (replicate 501 (pos 0)) (replicate 11 (pos 0)) in
@@ -132,17 +129,17 @@ module _ (e : Engine) (arena : List ℕ) where
       (predicted_aged c arena h.tile
       (predict_over (look c arena h.tile) c.pages.count h found f.horizon_m (replicate 501 (pos 0)) (replicate 11 (pos 0))).carried
       p.predicted.answer)
-  road_slots Current.Nothing f fix = refl
+  road_slots None f fix = refl
 
   fix_slots : (x : Option TileKey) (f : Follower) (fix : Fix) → Kept (at_fix_by x e arena f fix)
   fix_slots (Some key) f fix =
       either_kept f.due.matching _ _ (match_slots f fix) (either_kept f.due.road _ _ (road_slots f.matcher.current f fix) refl)
   fix_slots None f fix = refl
 
-  work_slots : (x : MaybeFix) (f : Follower) → Kept (worked_by x e arena f)
+  work_slots : (x : Option Fix) (f : Follower) → Kept (worked_by x e arena f)
   unfolding at_fix
-  work_slots MaybeFix.Nothing f = refl
-  work_slots (MaybeFix.Is fix) f = fix_slots (key_of e.shared.header fix.lat fix.lon) f fix
+  work_slots None f = refl
+  work_slots (Some fix) f = fix_slots (key_of e.shared.header fix.lat fix.lon) f fix
 
   need_slots : (x : Next) (key : TileKey) → Kept (need_by (fetched e.shared.cache x arena e.shared.header key) x e key)
   unfolding arrived forgot
@@ -181,7 +178,7 @@ module _ (e : Engine) (arena : List ℕ) where
   unfolding Calls.step stepped
   step_slots = by (engine_ok e (length arena)) refl
     where
-      by : (t : Bool) → engine_ok e (length arena) ≡ t → Kept (cond t (stepped_by e.shared.cache.pending e arena) (refused e 12))
+      by : (t : Bool) → engine_ok e (length arena) ≡ t → Kept (cond t (stepped_by e.shared.cache.pending e arena) (refused e Refusal.BadState))
       by true ok = stepped_slots ok e.shared.cache.pending
       by false ok = refl
 
@@ -319,14 +316,14 @@ module _ (aged : (c d : Cache) → Aged c d → state_ok c ≡ true → state_ok
     unfolding Calls.answered_from
     answered_kept e arena offset len pack size ok = answered_by_lem (read pack offset len) e arena len pack size ok
 
-    from_by : (x : Status) (s : Stepped) (arena pack : List ℕ) → Sized s.engine → engine_ok s.engine n ≡ true
+    from_by : (x : Result Status Refusal) (s : Stepped) (arena pack : List ℕ) → Sized s.engine → engine_ok s.engine n ≡ true
         → engine_ok (Calls.step_from_by x s arena pack).engine n ≡ true
-    from_by (Status.Fetch offset len) s arena pack size ok = answered_kept s.engine arena offset len pack size ok
-    from_by Status.Idle s arena pack size ok = ok
-    from_by Status.Working s arena pack size ok = ok
-    from_by Status.NoPack s arena pack size ok = ok
-    from_by Status.OffMap s arena pack size ok = ok
-    from_by (Status.Refused number) s arena pack size ok = ok
+    from_by (Ok (Status.Fetch offset len)) s arena pack size ok = answered_kept s.engine arena offset len pack size ok
+    from_by (Ok Status.Idle) s arena pack size ok = ok
+    from_by (Ok Status.Working) s arena pack size ok = ok
+    from_by (Ok Status.NoPack) s arena pack size ok = ok
+    from_by (Ok Status.OffMap) s arena pack size ok = ok
+    from_by (Err number) s arena pack size ok = ok
 
     pub step_from_kept : (e : Engine) (arena pack : List ℕ) → Sized e → engine_ok e n ≡ true → engine_ok (Calls.step_from e arena pack).engine n ≡ true
     unfolding Calls.step_from

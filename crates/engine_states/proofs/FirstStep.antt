@@ -1,4 +1,5 @@
 -- The first step of a new engine asks for the header (`new_steps`): no state that 12 names, in phase Unread, with no read open.
+use Rattle.refusal.specs.declared.Refusal.{Refusal}
 use Prim.Native.Nat.{ℕ}
 use mathlib.Core.Path.{◌≡◌, refl, ap}
 use mathlib.Core.Bool.{Bool, cond}
@@ -16,7 +17,7 @@ use Rattle.engine_states.specs.First.{FirstStep}
 new_opens : (arena : List ℕ) (horizon : Float) → step (new arena horizon) arena ≡ opened (new arena horizon) Pending.Header
 unfolding new Caches.fresh step stepped started
 new_opens arena horizon =
-    ap (λ (t : Bool). cond t (stepped (new arena horizon) arena) (refused (new arena horizon) 12)) (new_ok arena horizon)
+    ap (λ (t : Bool). cond t (stepped (new arena horizon) arena) (refused (new arena horizon) Refusal.BadState)) (new_ok arena horizon)
 
 pub new_steps : (arena : List ℕ) (horizon : Float) → FirstStep arena horizon
 unfolding new Caches.fresh

@@ -16,7 +16,6 @@ use Rattle.pack.proofs.Laws.{and_left, and_right, clause}
 use Rattle.cache.specs.State.{state_ok, arena_ok}
 use Rattle.cache.specs.declared.Cache.{Cache}
 use Rattle.cache.specs.declared.Pending.{Pending}
-use Rattle.matcher.specs.declared.Current.{Current}
 use Rattle.matcher.specs.declared.Matched.{Matched}
 use Rattle.matcher.specs.Calls as Matching
 use Rattle.matcher.specs.State.{counts_ok, edge_ok}
@@ -28,10 +27,8 @@ use Rattle.engine.specs.declared.Ahead.{Ahead}
 use Rattle.engine.specs.declared.Fix.{Fix}
 use Rattle.engine.specs.declared.Follower.{Follower}
 use Rattle.engine.specs.Deliver.{failing, needless}
-use Rattle.engine.specs.State.{header_ok, shared_ok, held_ok, need_ok, matched_ok, pending_ok, sight_ok, ahead_ok, failures_ok, matcher_ok, reload_limit}
-use Rattle.engine.specs.State.{due_ok, engine_ok}
-use Rattle.engine.specs.Work.{with_due, counted, is_matched, emptied, off_map, asking, may_ask, match_done, matched_by, matched, match_asks, no_road}
-use Rattle.engine.specs.Work.{published, road_asks, road_off, rematch}
+use Rattle.engine.specs.State.{header_ok, shared_ok, held_ok, need_ok, matched_ok, pending_ok, sight_ok, ahead_ok, failures_ok, matcher_ok, reload_limit, due_ok, engine_ok}
+use Rattle.engine.specs.Work.{with_due, counted, is_matched, emptied, off_map, asking, may_ask, match_done, matched_by, matched, match_asks, no_road, published, road_asks, road_off, rematch}
 use Rattle.engine.specs.declared.Engine.{Engine}
 use Rattle.engine.specs.declared.Phase.{Phase}
 use Rattle.engine.specs.declared.Shared.{Shared}
@@ -98,9 +95,9 @@ need_cache : (s : Shared) (c : Cache) (need : Option TileKey) → need_ok s need
 need_cache s c None ok = refl
 need_cache s c (Some key) ok = ok
 
-matched_cache : (s : Shared) (c : Cache) (m : Current) → matched_ok s m ≡ true → matched_ok (with_cache s c) m ≡ true
-matched_cache s c Current.Nothing ok = refl
-matched_cache s c (Current.Is m) ok = ok
+matched_cache : (s : Shared) (c : Cache) (m : Option Matched) → matched_ok s m ≡ true → matched_ok (with_cache s c) m ≡ true
+matched_cache s c None ok = refl
+matched_cache s c (Some m) ok = ok
 
 -- what a follower holds, over another cache of as many pages
 module _ (s : Shared) (c : Cache) (f : Follower) (h : Holds s f) where
@@ -178,17 +175,17 @@ module _ (s : Shared) (f : Follower) (ok : Holds s f) where
 
 -- ---- a match and a road
 
-placed_of : (s : Shared) (x : Current) → s.phase ≡ Phase.Ready → edge_ok x ≡ true → matched_ok s x ≡ true → PlacedIn s.header x
-placed_of s Current.Nothing ready edge key = tt
-placed_of s (Current.Is m) ready edge key = record { grid = rw ready at key; edge = edge }
+placed_of : (s : Shared) (x : Option Matched) → s.phase ≡ Phase.Ready → edge_ok x ≡ true → matched_ok s x ≡ true → PlacedIn s.header x
+placed_of s None ready edge key = tt
+placed_of s (Some m) ready edge key = record { grid = rw ready at key; edge = edge }
 
-placed_edge : (h : Header) (x : Current) → PlacedIn h x → edge_ok x ≡ true
-placed_edge h Current.Nothing p = refl
-placed_edge h (Current.Is m) p = p.edge
+placed_edge : (h : Header) (x : Option Matched) → PlacedIn h x → edge_ok x ≡ true
+placed_edge h None p = refl
+placed_edge h (Some m) p = p.edge
 
-placed_key : (s : Shared) (x : Current) → s.phase ≡ Phase.Ready → PlacedIn s.header x → matched_ok s x ≡ true
-placed_key s Current.Nothing ready p = refl
-placed_key s (Current.Is m) ready p = rw ready p.grid
+placed_key : (s : Shared) (x : Option Matched) → s.phase ≡ Phase.Ready → PlacedIn s.header x → matched_ok s x ≡ true
+placed_key s None ready p = refl
+placed_key s (Some m) ready p = rw ready p.grid
 
 module _ (s : Shared) (m : Matcher) (ready : s.phase ≡ Phase.Ready) where
   pub standing_of : matcher_ok s m ≡ true → Standing s.header m
@@ -215,15 +212,15 @@ module _ (s : Shared) (f : Follower) (ok : Holds s f) where
       both (leb 0 (reload_limit s.cache.pages.count)) _ (le-leb 0 (reload_limit s.cache.pages.count) (omega arith))
       (and_right (leb f.due.reloads (reload_limit s.cache.pages.count)) _ ok.due)
 
-  matched_by_ok : (x : Current) (m : Matcher) (fix : Fix) → matcher_ok s m ≡ true → Holds s (matched_by x f m fix)
-  matched_by_ok Current.Nothing m fix good = record {
+  matched_by_ok : (x : Option Matched) (m : Matcher) (fix : Fix) → matcher_ok s m ≡ true → Holds s (matched_by x f m fix)
+  matched_by_ok None m fix good = record {
     due = done_due;
     sight = ok.sight;
     matcher = good;
     ahead = emptied_ok s f.ahead _ _ ok.ahead;
     failures = ok.failures;
   }
-  matched_by_ok (Current.Is found) m fix good =
+  matched_by_ok (Some found) m fix good =
       record { due = done_due; sight = ok.sight; matcher = good; ahead = ok.ahead; failures = ok.failures }
 
   pub matched_ok_lem : (m : Matcher) (fix : Fix) → matcher_ok s m ≡ true → Holds s (matched f m fix)
@@ -285,9 +282,9 @@ need_failed : (s : Shared) (c : Cache) (need : Option TileKey) → need_ok (fail
 need_failed s c None = refl
 need_failed s c (Some key) = refl
 
-matched_failed : (s : Shared) (c : Cache) (m : Current) → matched_ok (failed_with s c) m ≡ true
-matched_failed s c Current.Nothing = refl
-matched_failed s c (Current.Is m) = refl
+matched_failed : (s : Shared) (c : Cache) (m : Option Matched) → matched_ok (failed_with s c) m ≡ true
+matched_failed s c None = refl
+matched_failed s c (Some m) = refl
 
 pub failing_ok : (s : Shared) (f : Follower) (k : ℕ) → failures_ok s.phase k ≡ true → Holds s f → Holds s (failing f k)
 failing_ok s f k few ok =

@@ -1,7 +1,9 @@
 -- A matcher that number 12 doesn't name stays one after a match (`update_kept`), and a tile that the match needs lies in the grid
 -- (`update_needs`). The idea: each candidate kept lies in a tile of the grid, on one of its edges; the match is made of one of them, and so is a
 -- challenger that is new.
-use Rattle.std.specs.Prelude.{Option, Some, None}
+use Rattle.refusal.specs.declared.Refusal.{Refusal}
+use Rattle.tile.specs.declared.TileId.{TileId}
+use Rattle.std.specs.Prelude.{Result, Ok, Err, Option, Some, None}
 use Prim.Native.Nat.{ℕ, ◌<◌}
 use mathlib.Core.Path.{◌≡◌, refl, ap, ◌∙◌}
 use mathlib.Core.Bool.{Bool, true, false, ◌&&◌, ◌||◌, not, cond}
@@ -27,7 +29,6 @@ use Rattle.cache.proofs.LookLaws.{passes_accepted}
 use Rattle.matcher.specs.Keeping.{candidate_in}
 use Rattle.matcher.specs.Within.{Within, AllKept}
 use Rattle.matcher.specs.declared.Candidate.{Candidate}
-use Rattle.matcher.specs.declared.Current.{Current}
 use Rattle.matcher.specs.declared.Heading.{Heading}
 use Rattle.matcher.specs.declared.Kept.{Kept}
 use Rattle.matcher.specs.declared.Matched.{Matched}
@@ -39,7 +40,6 @@ use Rattle.matcher.specs.Near.{key_at, near_of}
 use Rattle.matcher.specs.Relied.{Accepted}
 use Rattle.matcher.specs.Settle.{settled, more, missed, matched_by, matched}
 use Rattle.matcher.specs.State.{challenger_ok}
-use Rattle.matcher.specs.declared.Challenger.{Challenger}
 use Rattle.matcher.specs.declared.Matcher.{Matcher}
 use Rattle.matcher.specs.declared.NearKeys.{NearKeys}
 use Rattle.matcher.specs.declared.Outcome.{Outcome}
@@ -71,9 +71,9 @@ pub record Placed (h : Header) (m : Matched) : Type 0 where
   pub grid : in_grid h m.tile.key ≡ true
   pub edge : ltb m.edge m.tile.edges ≡ true
 
-abbrev pub PlacedIn : Header → Current → Type 0
-PlacedIn h Current.Nothing = Unit
-PlacedIn h (Current.Is m) = Placed h m
+abbrev pub PlacedIn : Header → Option Matched → Type 0
+PlacedIn h None = Unit
+PlacedIn h (Some m) = Placed h m
 
 -- of a matcher: its match, and its challenger's count and edge
 pub record Standing (h : Header) (m : Matcher) : Type 0 where
@@ -92,13 +92,13 @@ contested_challenger : (n : ℕ) (top kept : Candidate) → ltb top.found.edge t
 contested_challenger n top kept edge = by (ltb n 2) refl
   where
     by : (t : Bool) → ltb n 2 ≡ t
-        → challenger_ok (cond {A = Choice} t (record { chosen = kept; challenger = Challenger.Is top.found.tile top.found.edge n })
-        (record { chosen = top; challenger = Challenger.Nothing })).challenger ≡ true
+        → challenger_ok (cond {A = Choice} t (record { chosen = kept; challenger = Some (top.found.tile, top.found.edge, n) })
+        (record { chosen = top; challenger = None })).challenger ≡ true
     by true e = rw (le-leb n 1 (omega (arith, ltb-true n 2 e)), edge)
     by false e = refl
 
 module _ (k : Kept) (top : Candidate) (edge : ltb top.found.edge top.found.tile.edges ≡ true)
-    (was : Challenger) (ok : challenger_ok was ≡ true) where
+    (was : Option (TileId × ℕ × ℕ)) (ok : challenger_ok was ≡ true) where
   kept_challenger : (x : Option ℕ) (m : Matched) → challenger_ok (kept_by x k top m was).challenger ≡ true
   unfolding held contested
   kept_challenger None m = ok
@@ -107,9 +107,9 @@ module _ (k : Kept) (top : Candidate) (edge : ltb top.found.edge top.found.tile.
       (either_challenger (same_edge top m || le (candidate_in k i).cost (add binary32 top.cost (whole 1))) _ _ refl
       (contested_challenger (beaten was top) top (candidate_in k i) edge))
 
-  chosen_challenger : (current : Current) → challenger_ok (chosen_by current k top was).challenger ≡ true
-  chosen_challenger Current.Nothing = ok
-  chosen_challenger (Current.Is m) = kept_challenger (kept_at k m) m
+  chosen_challenger : (current : Option Matched) → challenger_ok (chosen_by current k top was).challenger ≡ true
+  chosen_challenger None = ok
+  chosen_challenger (Some m) = kept_challenger (kept_at k m) m
 
 past_challenger : (x : Option ℕ) (choice : Choice) (k : Kept) → challenger_ok choice.challenger ≡ true
     → challenger_ok (past_by x choice k).challenger ≡ true
@@ -134,7 +134,7 @@ module _ (h : Header) where
   unfolding missed
   missed_kept m ok = record { current = by (ltb (more m.misses) 3) m.current ok.current; challenger = refl }
     where
-      by : (t : Bool) (current : Current) → PlacedIn h current → PlacedIn h (cond t current Current.Nothing)
+      by : (t : Bool) (current : Option Matched) → PlacedIn h current → PlacedIn h (cond t current None)
       by true current p = p
       by false current p = tt
 
@@ -193,15 +193,15 @@ module _ (h : Header) where
   -- ---- the match
 
   -- a needed key lies in the grid
-  abbrev pub NeedIn : Outcome → Type 0
-  NeedIn (Outcome.Found m) = Unit
-  NeedIn Outcome.Nothing = Unit
-  NeedIn (Outcome.Need key) = in_grid h key ≡ true
-  NeedIn (Outcome.Refused number) = Unit
+  abbrev pub NeedIn : Result Outcome Refusal → Type 0
+  NeedIn (Ok (Outcome.Found m)) = Unit
+  NeedIn (Ok Outcome.Nothing) = Unit
+  NeedIn (Ok (Outcome.Need key)) = in_grid h key ≡ true
+  NeedIn (Err number) = Unit
 
-  outcome_in : (current : Current) → NeedIn (outcome current)
-  outcome_in Current.Nothing = tt
-  outcome_in (Current.Is m) = tt
+  outcome_in : (current : Option Matched) → NeedIn (outcome current)
+  outcome_in None = tt
+  outcome_in (Some m) = tt
 
   matching_kept : (end : Ending) (k : Kept) (m : Matcher) (heading : Heading) → AllKept (Placed h) k → Standing h m
       → Standing h (matching_by end k m heading).matcher

@@ -1,4 +1,5 @@
 -- The open fetch, of the public calls: what FetchLaws of crate engine says of the cores holds with number 12's test before each.
+use Rattle.std.specs.Prelude.{Ok}
 use Prim.Native.Nat.{ℕ}
 use mathlib.Core.Path.{◌≡◌}
 use mathlib.Core.Bool.{true}
@@ -33,12 +34,12 @@ module _ (e : Engine) (arena : List ℕ) (ok : engine_ok e (length arena) ≡ tr
       let kept : engine_ok (follows Followers.lost e) (length arena) ≡ true = rw ok at (lost_kept e arena (length arena) ok) in
       rw (ok, kept) (lost_commutes e arena failure bs)
 
-  module _ {offset len : ℕ} (none : e.shared.cache.pending ≡ Pending.Nothing) (asked : (Calls.step e arena).answer ≡ Status.Fetch offset len) where
+  module _ {offset len : ℕ} (none : e.shared.cache.pending ≡ Pending.Nothing) (asked : (Calls.step e arena).answer ≡ Ok (Status.Fetch offset len)) where
     -- a reset after the step is the reset before it
     pub reset_between : Calls.reset (Calls.step e arena).engine arena ≡ Calls.reset e arena
     unfolding Calls.step Calls.reset
     reset_between =
-        let asks : (stepped e arena).answer ≡ Status.Fetch offset len = rw ok at asked in
+        let asks : (stepped e arena).answer ≡ Ok (Status.Fetch offset len) = rw ok at asked in
         let kept : engine_ok (stepped e arena).engine (length arena) ≡ true = rw ok at (step_ok e arena (length arena) ok) in
         rw (ok, kept) (reset_withdraws e arena none asks)
 
@@ -46,6 +47,6 @@ module _ (e : Engine) (arena : List ℕ) (ok : engine_ok e (length arena) ≡ tr
     pub step_again : Calls.step (Calls.step e arena).engine arena ≡ Calls.step e arena
     unfolding Calls.step
     step_again =
-        let asks : (stepped e arena).answer ≡ Status.Fetch offset len = rw ok at asked in
+        let asks : (stepped e arena).answer ≡ Ok (Status.Fetch offset len) = rw ok at asked in
         let kept : engine_ok (stepped e arena).engine (length arena) ≡ true = rw ok at (step_ok e arena (length arena) ok) in
         rw (ok, kept) (fetch_repeats e arena none asks arena)

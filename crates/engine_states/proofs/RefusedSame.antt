@@ -35,7 +35,6 @@ use Rattle.cache.specs.declared.next.Next.{Next}
 use Rattle.cache.specs.Loads as Loads
 use Rattle.cache.specs.Loads.{pack_bytes}
 use Rattle.cache.specs.Calls.{load_tested}
-use Rattle.matcher.specs.declared.Current.{Current}
 use Rattle.matcher.specs.declared.Matched.{Matched}
 use Rattle.matcher.specs.Gather.{updated}
 use Rattle.matcher.specs.declared.Outcome as MatchOutcome
@@ -48,7 +47,6 @@ use Rattle.predict.specs.declared.Outcome.TheVariants as Road
 use Rattle.engine.specs.Fixes.{place_of}
 use Rattle.engine.specs.declared.Fix.{Fix}
 use Rattle.engine.specs.declared.Follower.{Follower}
-use Rattle.engine.specs.declared.MaybeFix.{MaybeFix}
 use Rattle.engine.specs.Calls as Calls
 use Rattle.engine.specs.State.{refused, forgotten, is_ready, need_ok, pending_ok, reload_limit, engine_ok}
 use Rattle.engine.specs.Deliver.{After, over, arrived, header_failed, header_parsed, header_came, sector_of, fits_header, load_failed, loaded_by, loaded, part_came, need_came_by, delivered_by, delivered}
@@ -77,29 +75,29 @@ either : (e : Engine) (t : Bool) (x y : Stepped) → Leaves e x → Leaves e y �
 either e true x y p q = p
 either e false x y p q = q
 
-asks_not : (t : Bool) → is_refused (cond t Status.Working Status.Idle) ≡ false
+asks_not : (t : Bool) → is_refused (cond t (Ok Status.Working) (Ok Status.Idle)) ≡ false
 asks_not true = refl
 asks_not false = refl
 
 module _ (e : Engine) (arena : List ℕ) (f : Follower) (fix : Fix) where
-  match_leaves : (x : MatchOutcome.Outcome) (u : Updated) → Leaves e (match_ended_by x e f fix u)
-  match_leaves (Found.Found m) u r = absurd (true≢false (sym r))
-  match_leaves Found.Nothing u r = absurd (true≢false (sym r))
-  match_leaves (Found.Need key) u r = absurd (true≢false (sym r ∙ asks_not (may_ask f.due u.cache.pages.count)))
-  match_leaves (Found.Refused number) u r = refl
+  match_leaves : (x : Result MatchOutcome.Outcome Refusal) (u : Updated) → Leaves e (match_ended_by x e f fix u)
+  match_leaves (Ok (Found.Found m)) u r = absurd (true≢false (sym r))
+  match_leaves (Ok Found.Nothing) u r = absurd (true≢false (sym r))
+  match_leaves (Ok (Found.Need key)) u r = absurd (true≢false (sym r ∙ asks_not (may_ask f.due u.cache.pages.count)))
+  match_leaves (Err number) u r = refl
 
-  road_leaves : (x : RoadOutcome.Outcome) (found : Matched) (y : Predict.After) → Leaves e (road_ended_by x e f fix found y)
-  road_leaves (Road.Road p) found y r = absurd (true≢false (sym r))
-  road_leaves (Road.Need key) found y r = absurd (true≢false (sym r))
-  road_leaves Road.Rematch found y r = absurd (true≢false (sym r))
-  road_leaves (Road.Refused number) found y r = either e (eqb number 10) _ _ (λ z. absurd (true≢false (sym z))) (λ z. refl) r
+  road_leaves : (x : Result RoadOutcome.Outcome Refusal) (found : Matched) (y : Predict.After) → Leaves e (road_ended_by x e f fix found y)
+  road_leaves (Ok (Road.Road p)) found y r = absurd (true≢false (sym r))
+  road_leaves (Ok (Road.Need key)) found y r = absurd (true≢false (sym r))
+  road_leaves (Ok Road.Rematch) found y r = absurd (true≢false (sym r))
+  road_leaves (Err refusal) found y r = either e (eqb (number_of refusal) 10) _ _ (λ z. absurd (true≢false (sym z))) (λ z. refl) r
 
-  due_leaves : (m : Current) → Leaves e (road_due_by m e arena f fix)
+  due_leaves : (m : Option Matched) → Leaves e (road_due_by m e arena f fix)
   unfolding road_step
-  due_leaves (Current.Is found) r =
+  due_leaves (Some found) r =
       let x = predicted_in e.shared.cache arena e.shared.header found f.horizon_m (replicate 501 (pos 0)) (replicate 11 (pos 0)) in
       road_leaves x.predicted.answer found x r
-  due_leaves Current.Nothing r = absurd (true≢false (sym r))
+  due_leaves None r = absurd (true≢false (sym r))
 
   grid_leaves : Leaves e (in_grid_step e arena f fix)
   unfolding match_step
@@ -112,10 +110,10 @@ module _ (e : Engine) (arena : List ℕ) (f : Follower) (fix : Fix) where
   fix_leaves (Some key) r = grid_leaves r
   fix_leaves None r = absurd (true≢false (sym r))
 
-work_leaves : (m : MaybeFix) (e : Engine) (arena : List ℕ) (f : Follower) → Leaves e (worked_by m e arena f)
+work_leaves : (m : Option Fix) (e : Engine) (arena : List ℕ) (f : Follower) → Leaves e (worked_by m e arena f)
 unfolding at_fix
-work_leaves MaybeFix.Nothing e arena f r = absurd (true≢false (sym r))
-work_leaves (MaybeFix.Is fix) e arena f r = fix_leaves e arena f fix (key_of e.shared.header fix.lat fix.lon) r
+work_leaves None e arena f r = absurd (true≢false (sym r))
+work_leaves (Some fix) e arena f r = fix_leaves e arena f fix (key_of e.shared.header fix.lat fix.lon) r
 
 -- a tile that is settled
 settled_leaves : (p : Result Progress Refusal) (e : Engine) (c : Cache) → Leaves e (loaded_by p e c)
@@ -380,12 +378,12 @@ module _ (e : Engine) (arena : List ℕ) (ok : engine_ok e (length arena) ≡ tr
       let some : 0 < Loads.chunk_len l = chunk_some l (load_left c₁ l (state_is e (length arena) ok) q) in
       part_taken k (Next.Chunk l) (and_left (is_ready e.shared.phase) _ fits) need next refl size (omega (arith, size, some))
 
-  chunk_open : (x : Option Loading) → c₁.pending ≡ Pending.Chunk → c₁.loading ≡ x → chunk_request x ≡ Status.Fetch offset len
+  chunk_open : (x : Option Loading) → c₁.pending ≡ Pending.Chunk → c₁.loading ≡ x → chunk_request x ≡ Ok (Status.Fetch offset len)
       → is_refused (need_came_by e.follower.due.need e arena failure bs).answer ≡ false
   chunk_open None p q asks = let z : ◌≡◌ {A = ℕ} 0 1 = cc in absurd (omega arith)
   chunk_open (Some l) p q asks = chunk_taken l p q (cc) e.follower.due.need refl
 
-  open_taken : (x : Pending) → c₁.pending ≡ x → request_of e.shared x ≡ Status.Fetch offset len → is_refused (delivered_by x e arena failure bs).answer ≡ false
+  open_taken : (x : Pending) → c₁.pending ≡ x → request_of e.shared x ≡ Ok (Status.Fetch offset len) → is_refused (delivered_by x e arena failure bs).answer ≡ false
   open_taken Pending.Nothing p asks = let z : ◌≡◌ {A = ℕ} 0 1 = cc in absurd (omega arith)
   open_taken Pending.Header p asks =
       let size : len ≡ 512 = cc in
@@ -394,26 +392,26 @@ module _ (e : Engine) (arena : List ℕ) (ok : engine_ok e (length arena) ≡ tr
   open_taken Pending.Chunk p asks = chunk_open c₁.loading p refl asks
 
   -- a delivery of what the open fetch asks for, or that it lies past the pack
-  answer_taken : request_of e.shared c₁.pending ≡ Status.Fetch offset len → is_refused (Calls.deliver e arena failure bs).answer ≡ false
+  answer_taken : request_of e.shared c₁.pending ≡ Ok (Status.Fetch offset len) → is_refused (Calls.deliver e arena failure bs).answer ≡ false
   unfolding Calls.deliver delivered
   answer_taken asks = rw ok (open_taken c₁.pending refl asks)
 
 -- the fetch that a step answers is open after it
-pub step_open : (e : Engine) (arena : List ℕ) {offset len : ℕ} → (Calls.step e arena).answer ≡ Status.Fetch offset len
-    → let n = (Calls.step e arena).engine in request_of n.shared n.shared.cache.pending ≡ Status.Fetch offset len
+pub step_open : (e : Engine) (arena : List ℕ) {offset len : ℕ} → (Calls.step e arena).answer ≡ Ok (Status.Fetch offset len)
+    → let n = (Calls.step e arena).engine in request_of n.shared n.shared.cache.pending ≡ Ok (Status.Fetch offset len)
 unfolding Calls.step stepped
 step_open e arena {offset} {len} = by (engine_ok e (length arena)) e.shared.cache.pending refl
   where
-    open_of : Engine → Status
+    open_of : Engine → Result Status Refusal
     open_of n = request_of n.shared n.shared.cache.pending
 
-    again : is_open e.shared.cache.pending ≡ true → (stepped e arena).answer ≡ Status.Fetch offset len
-        → open_of (stepped e arena).engine ≡ Status.Fetch offset len
+    again : is_open e.shared.cache.pending ≡ true → (stepped e arena).answer ≡ Ok (Status.Fetch offset len)
+        → open_of (stepped e arena).engine ≡ Ok (Status.Fetch offset len)
     again o a = let r = open_repeats e arena o in ap (λ (s : Stepped). open_of s.engine) r ∙ (sym (ap (λ (s : Stepped). s.answer) r) ∙ a)
 
     by : (t : Bool) (p : Pending) → e.shared.cache.pending ≡ p
-        → (cond t (stepped_by e.shared.cache.pending e arena) (refused e 12)).answer ≡ Status.Fetch offset len
-        → open_of (cond t (stepped_by e.shared.cache.pending e arena) (refused e 12)).engine ≡ Status.Fetch offset len
+        → (cond t (stepped_by e.shared.cache.pending e arena) (refused e Refusal.BadState)).answer ≡ Ok (Status.Fetch offset len)
+        → open_of (cond t (stepped_by e.shared.cache.pending e arena) (refused e Refusal.BadState)).engine ≡ Ok (Status.Fetch offset len)
     by true Pending.Nothing q a =
         let o : Opening e (stepped e arena) = opening_is_pending e arena q a in ap open_of o.engine ∙ sym o.asks ∙ a
     by true Pending.Header q a = again (rw q) a
@@ -422,11 +420,11 @@ step_open e arena {offset} {len} = by (engine_ok e (length arena)) e.shared.cach
     by false p q a = let z : ◌≡◌ {A = ℕ} 0 1 = cc in absurd (omega arith)
 
 -- a step that fetches was not refused
-step_runs : (e : Engine) (arena : List ℕ) {offset len : ℕ} → (Calls.step e arena).answer ≡ Status.Fetch offset len → engine_ok e (length arena) ≡ true
+step_runs : (e : Engine) (arena : List ℕ) {offset len : ℕ} → (Calls.step e arena).answer ≡ Ok (Status.Fetch offset len) → engine_ok e (length arena) ≡ true
 unfolding Calls.step
 step_runs e arena {offset} {len} a = by (engine_ok e (length arena)) refl a
   where
-    by : (t : Bool) → engine_ok e (length arena) ≡ t → (cond t (stepped e arena) (refused e 12)).answer ≡ Status.Fetch offset len
+    by : (t : Bool) → engine_ok e (length arena) ≡ t → (cond t (stepped e arena) (refused e Refusal.BadState)).answer ≡ Ok (Status.Fetch offset len)
         → engine_ok e (length arena) ≡ true
     by true ok a = ok
     by false bad a = let z : ◌≡◌ {A = ℕ} 0 1 = cc in absurd (omega arith)
@@ -435,7 +433,7 @@ module _ (e : Engine) (arena pack : List ℕ) where
   abbrev n₁ : Engine
   n₁ = (Calls.step e arena).engine
 
-  range_taken : (offset len : ℕ) (x : Result ℕ Refusal) → read pack offset len ≡ x → (Calls.step e arena).answer ≡ Status.Fetch offset len
+  range_taken : (offset len : ℕ) (x : Result ℕ Refusal) → read pack offset len ≡ x → (Calls.step e arena).answer ≡ Ok (Status.Fetch offset len)
       → is_refused (Calls.answered_by x n₁ arena len pack).answer ≡ false
   range_taken offset len (Ok at) r a =
       let there : (at ≡ offset) × (offset + len ≤ length pack) = read_at pack offset len r in
@@ -444,14 +442,14 @@ module _ (e : Engine) (arena pack : List ℕ) where
   range_taken offset len (Err number) r a =
       answer_taken n₁ arena (step_ok e arena (length arena) (step_runs e arena a)) offset len 2 [] (short refl) (step_open e arena a)
 
-  from_refused : (a : Status) → (Calls.step e arena).answer ≡ a → Kept e arena 0 [] (Calls.step_from_by a (Calls.step e arena) arena pack)
+  from_refused : (a : Result Status Refusal) → (Calls.step e arena).answer ≡ a → Kept e arena 0 [] (Calls.step_from_by a (Calls.step e arena) arena pack)
   unfolding Calls.answered_from
-  from_refused (Status.Fetch offset len) q r = absurd (true≢false (sym r ∙ range_taken offset len (read pack offset len) refl q))
-  from_refused Status.Idle q r = (step_refused e arena r, refl)
-  from_refused Status.Working q r = (step_refused e arena r, refl)
-  from_refused Status.NoPack q r = (step_refused e arena r, refl)
-  from_refused Status.OffMap q r = (step_refused e arena r, refl)
-  from_refused (Status.Refused number) q r = (step_refused e arena r, refl)
+  from_refused (Ok (Status.Fetch offset len)) q r = absurd (true≢false (sym r ∙ range_taken offset len (read pack offset len) refl q))
+  from_refused (Ok Status.Idle) q r = (step_refused e arena r, refl)
+  from_refused (Ok Status.Working) q r = (step_refused e arena r, refl)
+  from_refused (Ok Status.NoPack) q r = (step_refused e arena r, refl)
+  from_refused (Ok Status.OffMap) q r = (step_refused e arena r, refl)
+  from_refused (Err number) q r = (step_refused e arena r, refl)
 
 -- ---- every call
 

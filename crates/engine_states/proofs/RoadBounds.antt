@@ -3,6 +3,9 @@
 -- a tile of the grid, since a tile beside it is checked before it is looked up and every choice is of a tile looked up; a sample is counted only
 -- where it is written; and only a stale lookup ends a walk with 12. One pass shows all three (`forecast_in`), of any property of keys in the
 -- grid's place.
+use Rattle.refusal.specs.Refusal.{number_of}
+use Rattle.refusal.specs.declared.Refusal.{Refusal}
+use Rattle.std.specs.Prelude.{Result, Ok, Err}
 use Rattle.std.proofs.Common.{Option, Some, None}
 use Prim.Native.Nat.{ℕ, zero, suc, ◌+◌, ◌-◌, ◌<◌, ◌≤◌}
 use mathlib.Core.Path.{◌≡◌, refl, subst, ◌∙◌}
@@ -61,12 +64,9 @@ use Rattle.predict.specs.declared.Arrival.{Arrival}
 use Rattle.predict.specs.declared.Decision.{Decision}
 use Rattle.predict.specs.declared.End.TheVariants as End
 use Rattle.predict.specs.declared.Ending.{Ending}
-use Rattle.predict.specs.Walk.{with_ending, reached, taken, on_road, with_entry, Onto, entered, is_round, turned, incoming_of, node_of}
-use Rattle.predict.specs.Walk.{arrival_of, next_look, Run, taken_by, decided_over, onward_by, onward_over, ways_over, crossed_over, goes_on, leg_of, along}
-use Rattle.predict.specs.Walk.{stopped, run_of, begun, driven, edge_look, edge_step, walk_to}
+use Rattle.predict.specs.Walk.{with_ending, reached, taken, on_road, with_entry, Onto, entered, is_round, turned, incoming_of, node_of, arrival_of, next_look, Run, taken_by, decided_over, onward_by, onward_over, ways_over, crossed_over, goes_on, leg_of, along, stopped, run_of, begun, driven, edge_look, edge_step, walk_to}
 use Rattle.predict.specs.declared.Walk.{Walk}
-use Rattle.predict.specs.Predict.{track_from, walk_from, prediction, outcome_by, outcome, Forecast, trip_of, road_over, start_look, directed_over, forecast_over}
-use Rattle.predict.specs.Predict.{predict_over}
+use Rattle.predict.specs.Predict.{track_from, walk_from, prediction, outcome_by, outcome, Forecast, trip_of, road_over, start_look, directed_over, forecast_over, predict_over}
 use Rattle.predict.specs.declared.Outcome.{Outcome}
 use Rattle.predict.specs.declared.Prediction.{Prediction}
 
@@ -160,11 +160,11 @@ module _ (n : ℕ) where
 -- ---- how a road ends
 
 -- a road of at most a samples ahead and b behind; a needed key that has the property In; 12 only where Never holds
-abbrev Ends : (TileKey → Type 0) → Type 0 → ℕ → ℕ → Outcome → Type 0
-Ends In Never a b (Outcome.Road p) = (p.len ≤ a) × (p.behind ≤ b)
-Ends In Never a b (Outcome.Need key) = In key
-Ends In Never a b Outcome.Rematch = Unit
-Ends In Never a b (Outcome.Refused number) = number ≡ 12 → Never
+abbrev Ends : (TileKey → Type 0) → Type 0 → ℕ → ℕ → Result Outcome Refusal → Type 0
+Ends In Never a b (Ok (Outcome.Road p)) = (p.len ≤ a) × (p.behind ≤ b)
+Ends In Never a b (Ok (Outcome.Need key)) = In key
+Ends In Never a b (Ok Outcome.Rematch) = Unit
+Ends In Never a b (Err refusal) = number_of refusal ≡ 12 → Never
 
 -- ---- the choices of a junction
 
@@ -485,7 +485,7 @@ grid_origin : (h : Header) (k : TileKey) → InGrid h k → InGrid h no_choice.w
 grid_origin h k e = rw (lt-ltb 0 h.rows (omega (arith, row_below h k e)), lt-ltb 0 h.cols (omega (arith, col_below h k e)))
 
 -- a needed key of the grid, or lengths of at most a ahead and b behind
-abbrev pub RoadIn : Header → ℕ → ℕ → Outcome → Type 0
+abbrev pub RoadIn : Header → ℕ → ℕ → Result Outcome Refusal → Type 0
 RoadIn h a b x = Ends (InGrid h) Unit a b x
 
 module _ (at : TileKey → Look) (n : ℕ) (h : Header) (m : Matched) (horizon : Float) (samples behind : List ℤ)
@@ -495,10 +495,10 @@ module _ (at : TileKey → Look) (n : ℕ) (h : Header) (m : Matched) (horizon :
       forecast_in (InGrid h) Unit (grid_origin h) (plain at) (λ keys key e. tt) n 501 11 samples behind ahead_long behind_long
       h (λ row col key e. checked_in_grid h row col e) m horizon [] is_in_grid
 
-  pub road_need : (key : TileKey) → (predict_over at n h m horizon samples behind).answer ≡ Outcome.Need key → in_grid h key ≡ true
+  pub road_need : (key : TileKey) → (predict_over at n h m horizon samples behind).answer ≡ Ok (Outcome.Need key) → in_grid h key ≡ true
   road_need key e = subst (RoadIn h 501 11) e predict_in
 
-  pub road_lengths : (p : Prediction) → (predict_over at n h m horizon samples behind).answer ≡ Outcome.Road p → (p.len ≤ 501) × (p.behind ≤ 11)
+  pub road_lengths : (p : Prediction) → (predict_over at n h m horizon samples behind).answer ≡ Ok (Outcome.Road p) → (p.len ≤ 501) × (p.behind ≤ 11)
   road_lengths p e = subst (RoadIn h 501 11) e predict_in
 
 -- ---- with no stale lookup
@@ -509,7 +509,7 @@ Anywhere key = Unit
 
 pub road_not_stale : (at : TileKey → Look) → ((key : TileKey) → at key ≡ stale → ⊥)
     → (n : ℕ) (h : Header) (m : Matched) (horizon : Float) (samples behind : List ℤ)
-    → (predict_over at n h m horizon samples behind).answer ≡ Outcome.Refused 12 → ⊥
+    → (predict_over at n h m horizon samples behind).answer ≡ Err Refusal.BadState → ⊥
 road_not_stale at never n h m horizon samples behind e =
     let ends : Ends Anywhere ⊥ (length samples) (length behind) (predict_over at n h m horizon samples behind).answer
     = forecast_in Anywhere ⊥ (λ key x. tt) (plain at) (λ keys key. never key) n (length samples) (length behind) samples behind refl refl

@@ -1,8 +1,6 @@
 -- A fix that is a point keeps the sight within what number 12 allows (`seen_kept`): at most sixteen places, each a point, and a heading between
 -- -360 and 360. The idea: every place afterwards is one from before or the new one, and a bearing is rounded from at most 360 degrees.
 use Rattle.refusal.specs.declared.Refusal.{Refusal}
-use Rattle.std.specs.Prelude.{Option, Some, None}
-use Rattle.std.specs.Prelude.{is_some}
 use Prim.Native.Nat.{ℕ, zero, suc, ◌+◌, ◌-◌, ◌*◌, ◌<◌, ◌≤◌}
 use mathlib.Core.Path.{◌≡◌, refl, sym, ap}
 use mathlib.Core.Bool.{Bool, true, false, ◌&&◌, ◌||◌, not, cond, true≢false}
@@ -16,7 +14,7 @@ use lib.Ieee.Fits.{down_pos}
 use lib.ListN.{length, get_or, set, take, drop, length-append, length-take, length-drop, get_or-eq_default, get_or-append}
 use lib.Seq.{set_out, get_or-set_same, get_or-set_other, get_or-take, get_or-drop}
 use borrow.Author.Tests.{ltb-true, ltb-false, eqb-true, eqb-false, lt-ltb, le-leb}
-use Rattle.std.specs.Prelude.{Ok, Err}
+use Rattle.std.specs.Prelude.{Option, Some, None, is_some, Ok, Err}
 use Rattle.num.specs.Order.{is_finite, is_sign_negative}
 use Rattle.angle.specs.Bearing as Bearing
 use Rattle.angle.specs.Cosine.{lon_scale_um}

@@ -28,11 +28,9 @@ use Rattle.cache.specs.Loads as Loads
 use Rattle.cache.specs.Loads.{pack_bytes, fetched, read_len, takes, told, chunk_offset, chunk_len}
 use Rattle.cache.specs.Calls as Loaded
 use Rattle.cache.proofs.FromLaws.{next_chunk}
-use Rattle.matcher.specs.declared.Current.{Current}
 use Rattle.matcher.specs.declared.Matched.{Matched}
 use Rattle.engine.specs.declared.Fix.{Fix}
 use Rattle.engine.specs.declared.Follower.{Follower}
-use Rattle.engine.specs.declared.MaybeFix.{MaybeFix}
 use Rattle.engine.specs.State.{refused, is_ready, header_ok, shared_ok, need_ok, pending_by, reload_limit, engine_ok}
 use Rattle.engine.specs.Work as Work
 use Rattle.engine.specs.Work.{counted, ended, match_ended, match_step, road_ended_by, road_step, road_due_by, at_fix, at_fix_by, worked_by, worked, with_due, road_off}
@@ -62,7 +60,7 @@ OffGrid None = Unit
 pub record Works (e : Engine) (f : Fix) : Type 0 where
   pub idle : e.shared.cache.pending ≡ Pending.Nothing
   pub ready : e.shared.phase ≡ Phase.Ready
-  pub fix : e.follower.sight.fix ≡ MaybeFix.Is f
+  pub fix : e.follower.sight.fix ≡ Some f
 
 -- a follower that sees, matches and publishes what it did
 pub record Same (f g : Follower) : Type 0 where
@@ -74,31 +72,31 @@ pub record Same (f g : Follower) : Type 0 where
 -- what is due of a follower that rests: a match as it was, and a road as it was, or none where there is no match to follow
 pub record Rests (f g : Follower) : Type 0 where
   pub matching : g.due.matching ≡ f.due.matching
-  pub road : (g.due.road ≡ f.due.road) ⊎ ((g.due.road ≡ false) × (f.matcher.current ≡ Current.Nothing))
+  pub road : (g.due.road ≡ f.due.road) ⊎ ((g.due.road ≡ false) × (f.matcher.current ≡ None))
 
 -- with the task that it works at, in a state that 12 does not name
 pub data Steps (e : Engine) (arena : List ℕ) : Task → Stepped → Type 0 where
   -- an open fetch repeated; the pack has failed; a fetch opened
   repeats : is_open e.shared.cache.pending ≡ true → Steps e arena none (record { answer = open_read e; engine = e })
-  fails : e.shared.phase ≡ Phase.Failed → Steps e arena none (record { answer = Status.NoPack; engine = e })
+  fails : e.shared.phase ≡ Phase.Failed → Steps e arena none (record { answer = Ok Status.NoPack; engine = e })
   opens : (p : Pending) (offset len : ℕ) → is_open p ≡ true → pending_fits p e.shared.cache ≡ true
-      → request_of (with_open e p).shared p ≡ Status.Fetch offset len → Steps e arena none (opened_at e p offset len)
+      → request_of (with_open e p).shared p ≡ Ok (Status.Fetch offset len) → Steps e arena none (opened_at e p offset len)
   -- the tile needed is ready and no longer passes; it is settled without a read
   spoils : (key : TileKey) (i : ℕ) → e.shared.phase ≡ Phase.Ready → next_step e.shared.cache key ≡ Next.Ready i
-      → passes arena i (len_at e.shared.cache i) key e.shared.header.tile ≡ false → Steps e arena none (refused e 12)
+      → passes arena i (len_at e.shared.cache i) key e.shared.header.tile ≡ false → Steps e arena none (refused e Refusal.BadState)
   arrives : (key : TileKey) (n : Next) → e.shared.phase ≡ Phase.Ready → next_step e.shared.cache key ≡ n
       → fetched e.shared.cache n arena e.shared.header key ≡ Ok None → Steps e arena none (arrived e (settled e.shared.cache n key))
   -- nothing to do
   rests : (f : Follower) → Same e.follower f → Rests e.follower f
-      → (e.follower.sight.fix ≡ MaybeFix.Nothing) ⊎ ((f.due.matching ≡ false) × (f.due.road ≡ false))
-      → Steps e arena none (ended e e.shared.cache f Status.Idle)
+      → (e.follower.sight.fix ≡ None) ⊎ ((f.due.matching ≡ false) × (f.due.road ≡ false))
+      → Steps e arena none (ended e e.shared.cache f (Ok Status.Idle))
   -- off the map; a match; a road
   leaves : (f : Fix) → Works e f → OffGrid (key_of e.shared.header f.lat f.lon)
-      → Steps e arena (off_map f) (ended e e.shared.cache (Work.off_map (counted e.follower) f) Status.OffMap)
+      → Steps e arena (off_map f) (ended e e.shared.cache (Work.off_map (counted e.follower) f) (Ok Status.OffMap))
   matches : (f : Fix) (key : TileKey) → Works e f → key_of e.shared.header f.lat f.lon ≡ Some key → e.follower.due.matching ≡ true
       → Steps e arena (match f) (match_ended e (counted e.follower) f (match_of e arena f))
   follows : (f : Fix) (key : TileKey) (found : Matched) → Works e f → key_of e.shared.header f.lat f.lon ≡ Some key
-      → e.follower.matcher.current ≡ Current.Is found
+      → e.follower.matcher.current ≡ Some found
       → Steps e arena (road f found)
       (road_ended_by (road_at e arena found).predicted.answer e (counted e.follower) f found (road_at e arena found))
 
@@ -123,17 +121,17 @@ module _ (e : Engine) (arena : List ℕ) where
   -- ---- the work of a step
 
   module _ (f : Fix) (w : Works e f) where
-    road_is : (key : TileKey) (x : Current) → key_of e.shared.header f.lat f.lon ≡ Some key → e.follower.matcher.current ≡ x
+    road_is : (key : TileKey) (x : Option Matched) → key_of e.shared.header f.lat f.lon ≡ Some key → e.follower.matcher.current ≡ x
         → e.follower.due.matching ≡ false → Goes (road_task x f) (road_due_by x e arena f₁ f)
     unfolding road_step
-    road_is key Current.Nothing k q m =
+    road_is key None k q m =
         rests (with_due f₁ (road_off f₁.due)) (record { sight = refl; matcher = refl; horizon = refl; ahead = refl })
         (record { matching = refl; road = inr (refl, q) }) (inr (m, refl))
-    road_is key (Current.Is found) k q m = follows f key found w k q
+    road_is key (Some found) k q m = follows f key found w k q
 
     due_is : (key : TileKey) (s t : Bool) → e.follower.due.matching ≡ s → e.follower.due.road ≡ t → key_of e.shared.header f.lat f.lon ≡ Some key
         → Goes (cond s (match f) (cond t (road_task e.follower.matcher.current f) none))
-        (cond s (match_step e arena f₁ f) (cond t (road_due_by e.follower.matcher.current e arena f₁ f) (ended e e.shared.cache f₁ Status.Idle)))
+        (cond s (match_step e arena f₁ f) (cond t (road_due_by e.follower.matcher.current e arena f₁ f) (ended e e.shared.cache f₁ (Ok Status.Idle))))
     unfolding match_step
     due_is key true t m r k = matches f key w k m
     due_is key false true m r k = road_is key e.follower.matcher.current k refl m
@@ -144,10 +142,10 @@ module _ (e : Engine) (arena : List ℕ) where
     grid_is None k = leaves f w (rw k tt)
 
   module _ (idle : e.shared.cache.pending ≡ Pending.Nothing) (ready : e.shared.phase ≡ Phase.Ready) where
-    work_is : (x : MaybeFix) → e.follower.sight.fix ≡ x → Goes (fix_task x e) (worked_by x e arena f₁)
+    work_is : (x : Option Fix) → e.follower.sight.fix ≡ x → Goes (fix_task x e) (worked_by x e arena f₁)
     unfolding at_fix
-    work_is MaybeFix.Nothing q = rests f₁ counted_same counted_rests (inl q)
-    work_is (MaybeFix.Is f) q =
+    work_is None q = rests f₁ counted_same counted_rests (inl q)
+    work_is (Some f) q =
         grid_is f (record { idle = idle; ready = ready; fix = q }) (key_of e.shared.header f.lat f.lon) refl
 
     -- ---- the tile that is needed
@@ -203,7 +201,7 @@ pub record Brings (e : Engine) (arena : List ℕ) (key : TileKey) (failure : ℕ
   pub offset : ℕ
   pub len : ℕ
   pub fetches : Loaded.fetch e.shared.cache arena e.shared.header key ≡ Ok (Some (offset, len))
-  pub asks : open_read e ≡ Status.Fetch offset len
+  pub asks : open_read e ≡ Ok (Status.Fetch offset len)
   pub size : failure ≡ 0 → length bs ≡ len
 
 abbrev pub brought : Engine → List ℕ → TileKey → ℕ → List ℕ → Loads.After
@@ -212,11 +210,11 @@ brought e arena key failure bs = Loaded.load e.shared.cache arena e.shared.heade
 -- in a state that 12 does not name
 pub data Delivers (e : Engine) (arena : List ℕ) (failure : ℕ) (bs : List ℕ) : After → Type 0 where
   -- no fetch is open, or the answer doesn't fit it
-  refuses : Delivers e arena failure bs (over (refused e 11) arena)
+  refuses : Delivers e arena failure bs (over (refused e Refusal.NotAsked) arena)
   -- the header's: 1, 2, 3 or 4; it came
-  loses : (number : ℕ) → open_read e ≡ Status.Fetch 0 512 → (failure ≡ 0 → length bs ≡ 512) → Delivers e arena failure bs (over (header_failed e number) arena)
-  parses : {h : Header} → open_read e ≡ Status.Fetch 0 512 → failure ≡ 0 → length bs ≡ 512 → parse (sector_of bs) ≡ Ok h
-      → Delivers e arena failure bs (over (with_failures e (with_phase e.shared Phase.Ready h) 0 Status.Working) arena)
+  loses : (number : ℕ) → open_read e ≡ Ok (Status.Fetch 0 512) → (failure ≡ 0 → length bs ≡ 512) → Delivers e arena failure bs (over (header_failed e number) arena)
+  parses : {h : Header} → open_read e ≡ Ok (Status.Fetch 0 512) → failure ≡ 0 → length bs ≡ 512 → parse (sector_of bs) ≡ Ok h
+      → Delivers e arena failure bs (over (with_failures e (with_phase e.shared Phase.Ready h) 0 (Ok Status.Working)) arena)
   -- a part of the tile needed
   brings : (key : TileKey) → Brings e arena key failure bs
       → Delivers e arena failure bs (over (loaded e (told (brought e arena key failure bs))) (brought e arena key failure bs).arena)
@@ -285,7 +283,7 @@ module _ (e : Engine) (arena : List ℕ) (ok : engine_ok e (length arena) ≡ tr
 
       module _ (failure : ℕ) (bs : List ℕ) (fits : takes (next_step c₁ key) h₁ key failure (length bs) ≡ true) where
         brings_by : (n : Next) (offset len : ℕ) → next_step c₁ key ≡ n → fetched c₁ n arena h₁ key ≡ Ok (Some (offset, len))
-            → open_read e ≡ Status.Fetch offset len
+            → open_read e ≡ Ok (Status.Fetch offset len)
             → read_len n ≡ len → Brings e arena key failure bs
         unfolding Loaded.fetch
         brings_by n offset len q r a same = record {
@@ -336,19 +334,19 @@ module _ (e : Engine) (arena : List ℕ) (ok : engine_ok e (length arena) ≡ tr
 
     -- ---- the header
 
-    parsed_is : (x : Result Header Refusal) → open_read e ≡ Status.Fetch 0 512 → failure ≡ 0 → length bs ≡ 512 → parse (sector_of bs) ≡ x
+    parsed_is : (x : Result Header Refusal) → open_read e ≡ Ok (Status.Fetch 0 512) → failure ≡ 0 → length bs ≡ 512 → parse (sector_of bs) ≡ x
         → Comes (over (header_parsed x e) arena)
     parsed_is (Ok h) o z s q = parses o z s q
     parsed_is (Err refusal) o z s q = loses (number_of refusal) o (λ z. s)
 
-    header_is : (t : Bool) → open_read e ≡ Status.Fetch 0 512 → eqb failure 0 ≡ t → fits_header failure (length bs) ≡ true
+    header_is : (t : Bool) → open_read e ≡ Ok (Status.Fetch 0 512) → eqb failure 0 ≡ t → fits_header failure (length bs) ≡ true
         → Comes (over (cond t (header_parsed (parse (sector_of bs)) e) (header_failed e failure)) arena)
     header_is true o z f =
         parsed_is (parse (sector_of bs)) o (eqb-true failure 0 z) (eqb-true (length bs) 512 (rw z at f)) refl
     header_is false o z f = loses failure o (λ x. absurd (eqb-false failure 0 z x))
 
-    fits_is : (t : Bool) → open_read e ≡ Status.Fetch 0 512 → fits_header failure (length bs) ≡ t
-        → Comes (cond t (over (header_came e failure bs) arena) (over (refused e 11) arena))
+    fits_is : (t : Bool) → open_read e ≡ Ok (Status.Fetch 0 512) → fits_header failure (length bs) ≡ t
+        → Comes (cond t (over (header_came e failure bs) arena) (over (refused e Refusal.NotAsked) arena))
     unfolding header_came
     fits_is true o f = header_is (eqb failure 0) o refl f
     fits_is false o f = refuses
@@ -361,7 +359,7 @@ module _ (e : Engine) (arena : List ℕ) (ok : engine_ok e (length arena) ≡ tr
           → (t : Bool) → takes (next_step c₁ key) h₁ key failure (length bs) ≡ t
           → Comes (cond t (over (loaded e (told (Loads.stepped c₁ (next_step c₁ key) arena h₁ key failure bs)))
           (Loads.stepped c₁ (next_step c₁ key) arena h₁ key failure bs).arena)
-          (over (refused e 11) arena))
+          (over (refused e Refusal.NotAsked) arena))
       unfolding Loaded.load
       part_by key need b true f = rw (← load_steps) (brings key (b f))
         where
@@ -410,13 +408,13 @@ module _ (e : Engine) (arena : List ℕ) (ok : engine_ok e (length arena) ≡ tr
 
 -- ---- the lent-pack form
 
-abbrev pub is_fetch : Status → Bool
-is_fetch (Status.Fetch offset len) = true
-is_fetch Status.Idle = false
-is_fetch Status.Working = false
-is_fetch Status.NoPack = false
-is_fetch Status.OffMap = false
-is_fetch (Status.Refused number) = false
+abbrev pub is_fetch : Result Status Refusal → Bool
+is_fetch (Ok (Status.Fetch offset len)) = true
+is_fetch (Ok Status.Idle) = false
+is_fetch (Ok Status.Working) = false
+is_fetch (Ok Status.NoPack) = false
+is_fetch (Ok Status.OffMap) = false
+is_fetch (Err number) = false
 
 -- what the lent pack yields for a read: its bytes there, or that it ends before
 pub data Yields (Q : List ℕ) (offset len : ℕ) : ℕ → List ℕ → Type 0 where
@@ -426,26 +424,26 @@ pub data Yields (Q : List ℕ) (offset len : ℕ) : ℕ → List ℕ → Type 0 
 -- its step, where that asks for nothing; else the delivery of what the lent pack yields
 pub data Lends (e : Engine) (arena Q : List ℕ) : After → Type 0 where
   plain : is_fetch (Engines.step e arena).answer ≡ false → Lends e arena Q (over (Engines.step e arena) arena)
-  asks : (offset len failure : ℕ) (bs : List ℕ) → (Engines.step e arena).answer ≡ Status.Fetch offset len
+  asks : (offset len failure : ℕ) (bs : List ℕ) → (Engines.step e arena).answer ≡ Ok (Status.Fetch offset len)
       → Yields Q offset len failure bs
       → Lends e arena Q (Engines.deliver (Engines.step e arena).engine arena failure bs)
 
 module _ (e : Engine) (arena Q : List ℕ) where
-  range_is : (offset len : ℕ) (x : Result ℕ Refusal) → read Q offset len ≡ x → (Engines.step e arena).answer ≡ Status.Fetch offset len
+  range_is : (offset len : ℕ) (x : Result ℕ Refusal) → read Q offset len ≡ x → (Engines.step e arena).answer ≡ Ok (Status.Fetch offset len)
       → Lends e arena Q (Engines.answered_by x (Engines.step e arena).engine arena len Q)
   range_is offset len (Ok at) r q =
       let there : (at ≡ offset) × (offset + len ≤ length Q) = read_at Q offset len r in
       asks offset len 0 (pack_bytes Q at len) q (rw there.0 (bytes there.1))
   range_is offset len (Err number) r q = asks offset len 2 [] q past
 
-  lends_by : (a : Status) → (Engines.step e arena).answer ≡ a → Lends e arena Q (Engines.step_from_by a (Engines.step e arena) arena Q)
+  lends_by : (a : Result Status Refusal) → (Engines.step e arena).answer ≡ a → Lends e arena Q (Engines.step_from_by a (Engines.step e arena) arena Q)
   unfolding Engines.answered_from
-  lends_by (Status.Fetch offset len) q = range_is offset len (read Q offset len) refl q
-  lends_by Status.Idle q = plain (rw q)
-  lends_by Status.Working q = plain (rw q)
-  lends_by Status.NoPack q = plain (rw q)
-  lends_by Status.OffMap q = plain (rw q)
-  lends_by (Status.Refused number) q = plain (rw q)
+  lends_by (Ok (Status.Fetch offset len)) q = range_is offset len (read Q offset len) refl q
+  lends_by (Ok Status.Idle) q = plain (rw q)
+  lends_by (Ok Status.Working) q = plain (rw q)
+  lends_by (Ok Status.NoPack) q = plain (rw q)
+  lends_by (Ok Status.OffMap) q = plain (rw q)
+  lends_by (Err number) q = plain (rw q)
 
   pub lends_is : Lends e arena Q (Engines.step_from e arena Q)
   unfolding Engines.step_from

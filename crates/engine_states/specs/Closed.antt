@@ -1,6 +1,6 @@
 -- The claims of this crate about the public calls, each of every engine and arena. Closed: no call makes a state that 12 names out of one that it does
 -- not. Sizes: the cache keeps the 96 slots that its array has, which some of Closed ask for. Between: an open fetch.
-use Rattle.std.specs.Prelude.{ℕ, ◌≡◌, true, List, Float, length}
+use Rattle.std.specs.Prelude.{Ok, ℕ, ◌≡◌, true, List, Float, length}
 use Rattle.pack.specs.Grid.{is_point}
 use Rattle.cache.specs.declared.Pending.TheVariants as Pending
 use Rattle.engine.specs.Calls as Calls
@@ -56,6 +56,6 @@ pub record Between : Type 0 where
   pub lost : (e : Engine) (arena : List ℕ) (failure : ℕ) (bs : List ℕ) → engine_ok e (length arena) ≡ true
       → Calls.deliver (Calls.lost e arena).engine arena failure bs ≡ followed_by Followers.lost (Calls.deliver e arena failure bs)
   pub reset : (e : Engine) (arena : List ℕ) (offset len : ℕ) → engine_ok e (length arena) ≡ true → e.shared.cache.pending ≡ Pending.Nothing
-      → (Calls.step e arena).answer ≡ Status.Fetch offset len → Calls.reset (Calls.step e arena).engine arena ≡ Calls.reset e arena
+      → (Calls.step e arena).answer ≡ Ok (Status.Fetch offset len) → Calls.reset (Calls.step e arena).engine arena ≡ Calls.reset e arena
   pub step : (e : Engine) (arena : List ℕ) (offset len : ℕ) → engine_ok e (length arena) ≡ true → e.shared.cache.pending ≡ Pending.Nothing
-      → (Calls.step e arena).answer ≡ Status.Fetch offset len → Calls.step (Calls.step e arena).engine arena ≡ Calls.step e arena
+      → (Calls.step e arena).answer ≡ Ok (Status.Fetch offset len) → Calls.step (Calls.step e arena).engine arena ≡ Calls.step e arena

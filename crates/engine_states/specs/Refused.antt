@@ -1,23 +1,23 @@
 -- "As it was: all" of the refusals that an engine's call can answer, 8, 11 and 12 (document 01, "Refused"): a refused call leaves engine and arena as they
 -- were. The accessors hand no engine back. `fix`, `lost`, `reset` and `step` are lent an arena that they can't write.
-use Rattle.std.specs.Prelude.{ℕ, ◌≡◌, Bool, true, false, List}
+use Rattle.refusal.specs.declared.Refusal.{Refusal}
+use Rattle.std.specs.Prelude.{Result, Ok, Err, ℕ, ◌≡◌, Bool, true, false, List}
 use Rattle.engine.specs.Calls as Calls
 use Rattle.engine.specs.declared.Engine.{Engine}
 use Rattle.engine.specs.declared.Fix.{Fix}
 use Rattle.engine.specs.declared.Status.{Status}
-use Rattle.engine.specs.declared.Taken.{Taken}
 
-abbrev pub is_refused : Status → Bool
-is_refused (Status.Refused number) = true
-is_refused Status.Idle = false
-is_refused Status.Working = false
-is_refused Status.NoPack = false
-is_refused Status.OffMap = false
-is_refused (Status.Fetch offset len) = false
+abbrev pub is_refused : Result Status Refusal → Bool
+is_refused (Err e) = true
+is_refused (Ok Status.Idle) = false
+is_refused (Ok Status.Working) = false
+is_refused (Ok Status.NoPack) = false
+is_refused (Ok Status.OffMap) = false
+is_refused (Ok (Status.Fetch offset len)) = false
 
-abbrev pub is_taken : Taken → Bool
-is_taken Taken.Done = true
-is_taken (Taken.Refused number) = false
+abbrev pub is_taken : Result Unit Refusal → Bool
+is_taken (Ok tt) = true
+is_taken (Err e) = false
 
 -- of any engine and arena, whether or not 12 names them
 pub record RefusedSame (e : Engine) (arena : List ℕ) : Type 0 where

@@ -1,11 +1,10 @@
 -- What a step works at (`task_of`): `engine.rs`, `step`, in its order, where it needs no read; with the match that it then makes (`match_of`) and the road
 -- that it works out (`road_at`). And whether a fetch is open (`is_open`), and which (`open_read`). Demand 3 (crate direct) is stated in these.
-use Rattle.std.specs.Prelude.{Option, Some, None}
-use Rattle.std.specs.Prelude.{Bool, true, false, cond, List, ℕ, pos, replicate}
+use Rattle.refusal.specs.declared.Refusal.{Refusal}
+use Rattle.std.specs.Prelude.{Result, Option, Some, None, Bool, true, false, cond, List, ℕ, pos, replicate}
 use Rattle.pack.specs.declared.TileKey.{TileKey}
 use Rattle.pack.specs.Grid.{key_of}
 use Rattle.cache.specs.declared.Pending.{Pending}
-use Rattle.matcher.specs.declared.Current.{Current}
 use Rattle.matcher.specs.declared.Matched.{Matched}
 use Rattle.matcher.specs.Gather as Gather
 use Rattle.matcher.specs.declared.Updated.{Updated}
@@ -15,7 +14,6 @@ use Rattle.engine.specs.Steps.{request_of}
 use Rattle.engine.specs.declared.Engine.{Engine}
 use Rattle.engine.specs.declared.Fix.{Fix}
 use Rattle.engine.specs.declared.Follower.{Follower}
-use Rattle.engine.specs.declared.MaybeFix.{MaybeFix}
 use Rattle.engine.specs.declared.Phase.{Phase}
 use Rattle.engine.specs.declared.Status.{Status}
 
@@ -28,7 +26,7 @@ is_open (Pending.Entry key) = true
 is_open Pending.Chunk = true
 
 -- the read that an open fetch asks for, as a step repeats it
-abbrev pub open_read : Engine → Status
+abbrev pub open_read : Engine → Result Status Refusal
 open_read e = request_of e.shared e.shared.cache.pending
 
 -- ---- the task of a step
@@ -39,9 +37,9 @@ pub data Task : Type 0 where
   match : Fix → Task
   road : Fix → Matched → Task
 
-abbrev pub road_task : Current → Fix → Task
-road_task Current.Nothing f = none
-road_task (Current.Is found) f = road f found
+abbrev pub road_task : Option Matched → Fix → Task
+road_task None f = none
+road_task (Some found) f = road f found
 
 abbrev pub due_task : Follower → Fix → Task
 due_task w f = cond w.due.matching (match f) (cond w.due.road (road_task w.matcher.current f) none)
@@ -50,9 +48,9 @@ abbrev pub grid_task : Option TileKey → Follower → Fix → Task
 grid_task (Some key) w f = due_task w f
 grid_task None w f = off_map f
 
-abbrev pub fix_task : MaybeFix → Engine → Task
-fix_task MaybeFix.Nothing e = none
-fix_task (MaybeFix.Is f) e = grid_task (key_of e.shared.header f.lat f.lon) e.follower f
+abbrev pub fix_task : Option Fix → Engine → Task
+fix_task None e = none
+fix_task (Some f) e = grid_task (key_of e.shared.header f.lat f.lon) e.follower f
 
 abbrev pub need_task : Option TileKey → Engine → Task
 need_task None e = fix_task e.follower.sight.fix e

@@ -2,7 +2,6 @@
 ghost use Rattle.std.specs.Prelude.{◌≤◌};
 
 use crate::svg;
-use engine::Ahead;
 use std::io;
 
 // The left edge, the width, the lowest line and the height of the drawing.
@@ -41,13 +40,10 @@ fn widened(r: Heights, z: i16) -> Heights {
 }
 
 // The heights' range, which holds 0.
-fn range(a: Ahead, count: usize) -> Heights {
+fn range(heights: &[i16]) -> Heights {
     let mut r = Heights { low: 0, high: 0 };
-    for i in 0..501 {
-        if count <= i {
-            return r;
-        }
-        r = widened(r, a.samples[i]);
+    for &z in heights {
+        r = widened(r, z);
     }
     r
 }
@@ -77,16 +73,13 @@ fn up(r: Heights, z: i16) -> u64 {
 }
 
 // The line.
-fn line(rt: &impl Print, a: Ahead, r: Heights, count: usize) -> io::Result<()> {
+fn line(rt: &impl Print, heights: &[i16], r: Heights) -> io::Result<()> {
     svg::put(
         rt,
         b"<polyline class=\"line profile\" stroke-width=\"40\" points=\"",
     )?;
-    for i in 0..501 {
-        if count <= i {
-            break;
-        }
-        svg::point(rt, across(i, count), up(r, a.samples[i]))?;
+    for (i, &z) in heights.iter().enumerate() {
+        svg::point(rt, across(i, heights.len()), up(r, z))?;
     }
     svg::put(rt, b"\"/>\n")
 }
@@ -102,28 +95,25 @@ fn tick(rt: &impl Print, x: u64, metres: u64, z: i16) -> io::Result<()> {
 }
 
 // Some nine heights in figures.
-fn ticks(rt: &impl Print, a: Ahead, count: usize) -> io::Result<()> {
+fn ticks(rt: &impl Print, heights: &[i16]) -> io::Result<()> {
+    let count = heights.len();
     let step = count / 9 + 1;
-    for i in 0..501 {
-        if count <= i {
-            return Ok(());
-        }
+    for i in 0..count.min(MOST + 1) {
         if i % step == 0 {
-            tick(rt, across(i, count), (i as u64) * 20, a.samples[i])?;
+            tick(rt, across(i, count), (i as u64) * 20, heights[i])?;
         }
     }
     Ok(())
 }
 
-pub fn show(rt: &impl Print, a: Ahead) -> io::Result<()> {
-    let count = a.len;
-    let r = range(a, count);
+pub fn show(rt: &impl Print, heights: &[i16]) -> io::Result<()> {
+    let r = range(heights);
     svg::put(
         rt,
         b"<text x=\"2000\" y=\"21200\">Road ahead of the last fix: metres ahead, and rise in metres</text>\n<path class=\"line\" stroke-width=\"12\" d=\"M2000 25200h17000M2000 21600v3600\"/>\n",
     )?;
-    line(rt, a, r, count)?;
-    ticks(rt, a, count)?;
+    line(rt, heights, r)?;
+    ticks(rt, heights)?;
     svg::put(
         rt,
         b"<text class=\"tick\" x=\"1300\" y=\"25650\">ahead</text><text class=\"tick\" x=\"1300\" y=\"26050\">rise</text>\n",

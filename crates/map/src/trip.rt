@@ -2,7 +2,7 @@
 use crate::page::Frame;
 use crate::tiles::Got;
 use crate::{page, profile, svg, tiles};
-use engine::{Current, Engine, Fix, Matched};
+use engine::{Engine, Fix, Matched};
 use pack::{Header, TileKey};
 use ride::fixes::Line;
 use ride::host::{Card, Ride};
@@ -40,18 +40,19 @@ fn spot_of(h: Header, f: Frame, fix: Fix) -> Spot {
     }
 }
 
-fn match_of(r: Ride, arena: &[u8]) -> Current {
+fn match_of(r: Ride, arena: &[u8]) -> Option<Matched> {
     let e = r.engine;
-    let read = e.ahead(arena);
-    let a = read.ahead;
-    a.matched
+    match e.ahead(arena) {
+        Ok(a) => a.matched,
+        Err(_) => None,
+    }
 }
 
 // What a fix was matched to, in words.
-fn put_match(rt: &impl Print, m: Current) -> io::Result<()> {
+fn put_match(rt: &impl Print, m: Option<Matched>) -> io::Result<()> {
     match m {
-        Current::Nothing => svg::put(rt, b": no road"),
-        Current::Is(n) => {
+        None => svg::put(rt, b": no road"),
+        Some(n) => {
             let id = n.tile;
             let key = id.key;
             svg::field(rt, b": row ", key.row as u64)?;
@@ -62,7 +63,7 @@ fn put_match(rt: &impl Print, m: Current) -> io::Result<()> {
 }
 
 // A fix: a dot, its number where there is room, and its match for who points at it.
-fn put_fix(rt: &impl Print, number: u16, s: Spot, m: Current) -> io::Result<()> {
+fn put_fix(rt: &impl Print, number: u16, s: Spot, m: Option<Matched>) -> io::Result<()> {
     if !s.is {
         return Ok(());
     }
@@ -90,12 +91,12 @@ fn put_leg(
     card: Card<'_>,
     h: Header,
     f: Frame,
-    m: Current,
+    m: Option<Matched>,
     room: &mut [u8],
 ) -> io::Result<()> {
     match m {
-        Current::Nothing => Ok(()),
-        Current::Is(n) => {
+        None => Ok(()),
+        Some(n) => {
             let id = n.tile;
             let key = id.key;
             match tiles::get(card.file, h, key, room) {
@@ -183,15 +184,15 @@ fn ahead(
     h: Header,
     f: Frame,
     s: Spot,
-    m: Current,
+    m: Option<Matched>,
     room: &mut [u8],
 ) -> io::Result<()> {
     if !s.is {
         return Ok(());
     }
     match m {
-        Current::Nothing => Ok(()),
-        Current::Is(n) => {
+        None => Ok(()),
+        Some(n) => {
             let forward = n.forward;
             match forward {
                 None => Ok(()),
@@ -214,8 +215,10 @@ fn end(
 ) -> io::Result<()> {
     ahead(rt, card, h, f, s, match_of(r, arena), room)?;
     let e = r.engine;
-    let read = e.ahead(arena);
-    profile::show(rt, read.ahead)
+    match e.ahead(arena) {
+        Ok(a) => profile::show(rt, &a.samples[..tiles::lesser(a.len, predict::MAX_SAMPLES)]),
+        Err(_) => profile::show(rt, &[]),
+    }
 }
 
 // A fix's leg, or itself.
@@ -226,7 +229,7 @@ fn mark(
     f: Frame,
     number: u16,
     fix: Fix,
-    m: Current,
+    m: Option<Matched>,
     room: &mut [u8],
     legs: bool,
 ) -> io::Result<()> {

@@ -1,5 +1,6 @@
 -- The candidate that the match goes to is one of those kept (`chosen_kept`): what holds of all of them holds of it. The idea: the cheapest
 -- and the first on the matched edge are found below the count of those kept, and every choice is between such.
+use Rattle.tile.specs.declared.TileId.{TileId}
 use Rattle.std.specs.Prelude.{Option, Some, None}
 use Prim.Native.Nat.{ℕ, ◌<◌}
 use mathlib.Core.Path.{◌≡◌, refl}
@@ -14,9 +15,7 @@ use Rattle.matcher.specs.Keeping.{candidate_in}
 use Rattle.matcher.specs.declared.Candidate.{Candidate}
 use Rattle.matcher.specs.declared.Kept.{Kept}
 use Rattle.matcher.specs.declared.Matched.{Matched}
-use Rattle.matcher.specs.declared.Current.{Current}
 use Rattle.num.proofs.FoldLaws.{up_keeps}
-use Rattle.matcher.specs.declared.Challenger.{Challenger}
 use Rattle.matcher.specs.declared.choose.Which.{Which}
 use Rattle.matcher.specs.declared.choose.Least.{Least}
 use Rattle.matcher.specs.declared.choose.Choice.{Choice}
@@ -66,21 +65,21 @@ module _ (P : Candidate → Type 0) where
   cond_of true a b p q = p
   cond_of false a b p q = q
 
-  held_of : (top kept : Candidate) (m : Matched) (challenger : Challenger) → P top → P kept → P (held top kept m challenger).chosen
+  held_of : (top kept : Candidate) (m : Matched) (challenger : Option (TileId × ℕ × ℕ)) → P top → P kept → P (held top kept m challenger).chosen
   unfolding held contested
   held_of top kept m challenger p q =
       cond_of (top.joined && not (same_edge top m)) _ _ p
       (cond_of (same_edge top m || le kept.cost (add binary32 top.cost (whole 1))) _ _ q (cond_of (ltb (beaten challenger top) 2) _ _ q p))
 
   module _ (k : Kept) (all : (i : ℕ) → i < k.len → P (candidate_in k i)) where
-    kept_of : (x : Option ℕ) (top : Candidate) (m : Matched) (challenger : Challenger) → IsBelow k.len x → P top
+    kept_of : (x : Option ℕ) (top : Candidate) (m : Matched) (challenger : Option (TileId × ℕ × ℕ)) → IsBelow k.len x → P top
         → P (kept_by x k top m challenger).chosen
     kept_of None top m challenger h p = p
     kept_of (Some i) top m challenger h p = held_of top (candidate_in k i) m challenger p (all i h)
 
-    chosen_of : (current : Current) (top : Candidate) (challenger : Challenger) → P top → P (chosen_by current k top challenger).chosen
-    chosen_of Current.Nothing top challenger p = p
-    chosen_of (Current.Is m) top challenger p = kept_of (kept_at k m) top m challenger (kept_below k m) p
+    chosen_of : (current : Option Matched) (top : Candidate) (challenger : Option (TileId × ℕ × ℕ)) → P top → P (chosen_by current k top challenger).chosen
+    chosen_of None top challenger p = p
+    chosen_of (Some m) top challenger p = kept_of (kept_at k m) top m challenger (kept_below k m) p
 
     past_of : (x : Option ℕ) (choice : Choice) → IsBelow k.len x → P choice.chosen → P (past_by x choice k).chosen
     past_of None choice h p = p
@@ -93,7 +92,7 @@ module _ (P : Candidate → Type 0) where
         (past_of (least_of k (Which.Past (add binary32 choice.chosen.cost (whole 2)))) choice (least_below k _) p) p
 
     -- from the cheapest, number i
-    pub chosen_kept : (current : Current) (challenger : Challenger) (i : ℕ) → i < k.len
+    pub chosen_kept : (current : Option Matched) (challenger : Option (TileId × ℕ × ℕ)) (i : ℕ) → i < k.len
         → P (past_node (chosen_by current k (candidate_in k i) challenger) k).chosen
     chosen_kept current challenger i h =
         past_node_of (chosen_by current k (candidate_in k i) challenger) (chosen_of current (candidate_in k i) challenger (all i h))

@@ -1,5 +1,7 @@
 -- The candidates kept stay as many places, of which at most eight are taken: inserting either takes a free place or changes one, and a
 -- search inserts alone. A place that is there reads the same whatever stands past the last one.
+use Rattle.std.specs.Prelude.{Option, Some, None}
+use Rattle.matcher.specs.declared.Nearest.{Nearest}
 use Prim.Native.Nat.{ℕ, zero, suc, ◌+◌, ◌<◌, ◌≤◌}
 use mathlib.Core.Path.{◌≡◌, refl, ◌∙◌}
 use mathlib.Core.Bool.{Bool, true, false, cond}
@@ -14,7 +16,6 @@ use Rattle.tile.specs.declared.TileId.{TileId}
 use Rattle.matcher.specs.declared.Candidate.{Candidate}
 use Rattle.matcher.specs.declared.Kept.{Kept}
 use Rattle.matcher.specs.declared.Query.{Query}
-use Rattle.matcher.specs.declared.scan.MaybeNearest.{MaybeNearest}
 use Rattle.matcher.specs.Scan.{scan}
 use Rattle.matcher.specs.Score.{candidate_at}
 use Rattle.matcher.specs.Keeping.{dearest_of, insert}
@@ -63,9 +64,9 @@ module _ (P : Kept → Type 0) (kept : (k : Kept) (c : Candidate) → P k → P 
   unfolding Tile.edge_step
   step_keeps k id lon_um number h = go (scan q.header bs id.key (Layout.edge_of bs number) q.fix lon_um)
     where
-      go : (m : MaybeNearest) → P (Tile.kept_with m k q id lon_um bs number)
-      go MaybeNearest.Nothing = h
-      go (MaybeNearest.At n) = kept k (candidate_at q id lon_um bs number n) h
+      go : (m : Option Nearest) → P (Tile.kept_with m k q id lon_um bs number)
+      go None = h
+      go (Some n) = kept k (candidate_at q id lon_um bs number n) h
 
   pub search_keeps : (k : Kept) → P k → P (Tile.search k q bs)
   unfolding Tile.search

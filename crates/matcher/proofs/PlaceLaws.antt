@@ -1,6 +1,6 @@
 -- A candidate that is written into its place, or dropped where it has none, is kept as `Keeping.insert` keeps it (`insert-written`, `insert_dropped`);
 -- and the cheapest place by place is `Choose.least_of` (`least_next`), the cheapest rival `Settle.runner_up` (`runner_next`).
-use Rattle.std.specs.Prelude.{None}
+use Rattle.std.specs.Prelude.{Option, None}
 use Prim.Native.Nat.{ℕ, ◌+◌, ◌<◌, ◌≤◌}
 use mathlib.Core.Path.{◌≡◌, refl, sym, ◌∙◌}
 use mathlib.Core.Bool.{Bool, true, false, cond}
@@ -13,7 +13,6 @@ use borrow.Author.Tests.{ltb-true}
 use Rattle.geo.specs.Flat.{whole}
 use Rattle.num.proofs.FoldLaws.{up_start, up_turn}
 use Rattle.matcher.specs.declared.Candidate.{Candidate}
-use Rattle.matcher.specs.declared.Current.{Current}
 use Rattle.matcher.specs.declared.Kept.{Kept}
 use Rattle.matcher.specs.declared.Matched.{Matched}
 use Rattle.matcher.specs.declared.choose.Which.{Which}
@@ -65,7 +64,7 @@ module _ (k : Kept) (which : Which) where
 
 -- ---- the cheapest rival, place by place
 
-module _ (k : Kept) (chosen : Matched) (left : Current) where
+module _ (k : Kept) (chosen : Matched) (left : Option Matched) where
   pub runner_start : (infinite : Float) → infinite ≡ inf false → infinite ≡ runner_to k chosen left 0
   unfolding runner_to
   runner_start infinite e = e ∙ sym (up_start _ _)

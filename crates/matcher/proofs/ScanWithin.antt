@@ -1,6 +1,7 @@
 -- Every candidate that a tile's search keeps lies within the tile (`candidate_within`), so that what holds of all matches within it holds of all
 -- that are kept (`search_all`). The idea: a segment is taken only below their count and in reach, and a candidate enters the eight by `insert`
 -- alone.
+use Rattle.std.specs.Prelude.{Option, Some, None}
 use Prim.Native.Nat.{ℕ, ◌+◌, ◌<◌, ◌≤◌}
 use mathlib.Core.Path.{◌≡◌, refl, ◌∙◌}
 use mathlib.Core.Bool.{Bool, true, false, cond}
@@ -31,7 +32,6 @@ use Rattle.matcher.specs.declared.Matched.{Matched}
 use Rattle.matcher.specs.declared.Nearest.{Nearest}
 use Rattle.matcher.specs.declared.Query.{Query}
 use Rattle.matcher.specs.declared.keep.Dearest.{Dearest}
-use Rattle.matcher.specs.declared.scan.MaybeNearest.{MaybeNearest}
 use Rattle.matcher.specs.declared.scan.Scanned.{Scanned}
 use Rattle.matcher.specs.Scan.{radius, origin, rejected, beats, is_closer, nearest_after, segment_step, scanned, scan, point_of}
 use Rattle.matcher.specs.Score.{held_height, height, candidate_at}
@@ -49,9 +49,9 @@ pub record NearGood (vertices : ℕ) (n : Nearest) : Type 0 where
   pub fraction : IsFraction n.fraction
 
 -- of what was found, if anything
-abbrev pub MaybeGood : ℕ → MaybeNearest → Type 0
-MaybeGood vertices MaybeNearest.Nothing = Unit
-MaybeGood vertices (MaybeNearest.At n) = NearGood vertices n
+abbrev pub MaybeGood : ℕ → Option Nearest → Type 0
+MaybeGood vertices None = Unit
+MaybeGood vertices (Some n) = NearGood vertices n
 
 module _ (vertices : ℕ) where
   after_good : (s : Scanned) (b : Metres) (i : ℕ) → i ≤ vertices → MaybeGood vertices s.nearest
@@ -64,7 +64,7 @@ module _ (vertices : ℕ) where
       found : Nearest
       found = record { segment = i; fraction = p.fraction; distance = p.distance; a = s.at; b = b }
 
-      by : (t : Bool) → is_closer s.nearest p.distance ≡ t → MaybeGood vertices (cond t (MaybeNearest.At found) s.nearest)
+      by : (t : Bool) → is_closer s.nearest p.distance ≡ t → MaybeGood vertices (cond t (Some found) s.nearest)
       by true e = record {
         segment = h;
         fraction = fraction_within origin s.at b radius (and_left (le p.distance radius) (beats s.nearest p.distance) e);
@@ -86,7 +86,7 @@ pub scan_good : (h : Header) (bs : List ℕ) (key : TileKey) (e : Edge) (fix : P
 unfolding scanned
 scan_good h bs key e fix lon_um =
     up_keeps (λ (s : Scanned) (i : ℕ). segment_step s (metres_of (point_of h bs key e (i + 1)) fix lon_um) i)
-    (record { at = metres_of (point_of h bs key e 0) fix lon_um; nearest = MaybeNearest.Nothing })
+    (record { at = metres_of (point_of h bs key e 0) fix lon_um; nearest = None })
     (λ (s : Scanned). MaybeGood e.vertices s.nearest) (e.vertices + 1) tt
     (λ (i : ℕ) (below : i < e.vertices + 1) (s : Scanned) (good : MaybeGood e.vertices s.nearest).
     segment_good e.vertices s (metres_of (point_of h bs key e (i + 1)) fix lon_um) i (omega arith) good)
@@ -169,10 +169,10 @@ module _ (Q : Matched → Type 0) where
   -- ---- the tile
 
   module _ (q : Query) (bs : List ℕ) (within : (m : Matched) → Within bs m → Q m) where
-    with_good : (found : MaybeNearest) (k : Kept) (lon_um number : ℕ) → number < Layout.edges_of bs
+    with_good : (found : Option Nearest) (k : Kept) (lon_um number : ℕ) → number < Layout.edges_of bs
         → MaybeGood (Layout.edge_of bs number).vertices found → KeptGood Q k → KeptGood Q (kept_with found k q (Layout.id_of bs) lon_um bs number)
-    with_good MaybeNearest.Nothing k lon_um number below near good = good
-    with_good (MaybeNearest.At n) k lon_um number below near good =
+    with_good None k lon_um number below near good = good
+    with_good (Some n) k lon_um number below near good =
         insert_good k (candidate_at q (Layout.id_of bs) lon_um bs number n) good
         (within (candidate_at q (Layout.id_of bs) lon_um bs number n).found (candidate_within q lon_um bs number n below near))
 

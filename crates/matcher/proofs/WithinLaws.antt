@@ -1,6 +1,7 @@
 -- A match found lies within a tile that was looked up, in the grid; or it is the one that was there before (`update_within`). The idea: whatever
 -- a tile's search keeps lies within the tile, the match is made of one of those, and a miss makes none.
-use Rattle.std.specs.Prelude.{Some, None}
+use Rattle.refusal.specs.declared.Refusal.{Refusal}
+use Rattle.std.specs.Prelude.{Result, Ok, Some, None}
 use Rattle.std.proofs.Common.{Option}
 use Prim.Native.Nat.{ℕ, ◌<◌}
 use mathlib.Core.Path.{◌≡◌, refl, ap, subst, ◌∙◌}
@@ -21,7 +22,6 @@ use Rattle.matcher.specs.declared.Candidate.{Candidate}
 use Rattle.matcher.specs.declared.Kept.{Kept}
 use Rattle.matcher.specs.declared.Matched.{Matched}
 use Rattle.matcher.specs.declared.Query.{Query}
-use Rattle.matcher.specs.declared.Current.{Current}
 use Rattle.matcher.specs.declared.Heading.{Heading}
 use Rattle.num.proofs.FoldLaws.{up_keeps}
 use Rattle.matcher.proofs.ScanWithin.{KeptGood, none_good, search_all}
@@ -39,7 +39,7 @@ use Rattle.matcher.specs.Relied.{Accepted, FoundIn, UpdateWithin}
 use Rattle.matcher.proofs.NearGrid.{InGrid, AllIn, near_in_grid}
 use Rattle.matcher.proofs.Chosen.{IsBelow, least_below, chosen_kept}
 
-found_same : {x y : Matched} → Outcome.Found x ≡ Outcome.Found y → x ≡ y
+found_same : {x y : Matched} → ◌≡◌ {A = Result Outcome Refusal} (Ok (Outcome.Found x)) (Ok (Outcome.Found y)) → x ≡ y
 found_same e = cc
 
 module _ (at : TileKey → Look) (h : Header) where
@@ -97,22 +97,22 @@ module _ (at : TileKey → Look) (h : Header) where
   }
 
   settled_in : (m : Matcher) (k : Kept) (choice : Choice) (heading : Heading) (f : Matched) → FoundIn at h choice.chosen.found
-      → outcome (settled m k choice heading).current ≡ Outcome.Found f → FoundIn at h f
+      → outcome (settled m k choice heading).current ≡ Ok (Outcome.Found f) → FoundIn at h f
   unfolding settled
   settled_in m k choice heading f good e =
       subst (FoundIn at h) (found_same e) (figures_in choice.chosen.found _ _ _ good)
 
-  missed_held : (m : Matcher) (f : Matched) → outcome (missed m).current ≡ Outcome.Found f → m.current ≡ Current.Is f
+  missed_held : (m : Matcher) (f : Matched) → outcome (missed m).current ≡ Ok (Outcome.Found f) → m.current ≡ Some f
   unfolding missed
   missed_held m f e = by (ltb (more m.misses) 3) m.current e
     where
-      by : (t : Bool) (current : Current) → outcome (cond t current Current.Nothing) ≡ Outcome.Found f → current ≡ Current.Is f
-      by true Current.Nothing e = let z : ◌≡◌ {A = ℕ} 0 1 = cc in absurd (omega arith)
-      by true (Current.Is p) e = cc
+      by : (t : Bool) (current : Option Matched) → outcome (cond t current None) ≡ Ok (Outcome.Found f) → current ≡ Some f
+      by true None e = let z : ◌≡◌ {A = ℕ} 0 1 = cc in absurd (omega arith)
+      by true (Some p) e = cc
       by false current e = let z : ◌≡◌ {A = ℕ} 0 1 = cc in absurd (omega arith)
 
   matched_in : (x : Option ℕ) (m : Matcher) (k : Kept) (heading : Heading) (f : Matched) → AllKept (FoundIn at h) k → IsBelow k.len x
-      → outcome (matched_by x m k heading).current ≡ Outcome.Found f → FoundIn at h f ⊎ (m.current ≡ Current.Is f)
+      → outcome (matched_by x m k heading).current ≡ Ok (Outcome.Found f) → FoundIn at h f ⊎ (m.current ≡ Some f)
   matched_in None m k heading f all below e = inr (missed_held m f e)
   matched_in (Some i) m k heading f all below e =
       inl
@@ -122,7 +122,7 @@ module _ (at : TileKey → Look) (h : Header) where
   -- ---- the match
 
   matching_in : (end : Ending) (k : Kept) (m : Matcher) (heading : Heading) (f : Matched) → AllKept (FoundIn at h) k
-      → (matching_by end k m heading).answer ≡ Outcome.Found f → FoundIn at h f ⊎ (m.current ≡ Current.Is f)
+      → (matching_by end k m heading).answer ≡ Ok (Outcome.Found f) → FoundIn at h f ⊎ (m.current ≡ Some f)
   unfolding matched
   matching_in Ending.All k m heading f all e = matched_in (least_of k Which.All) m k heading f all (least_below k Which.All) e
   matching_in (Ending.Need key) k m heading f all e = let z : ◌≡◌ {A = ℕ} 0 1 = cc in absurd (omega arith)

@@ -1,6 +1,6 @@
 -- Which candidate the match goes to: `matcher.rs`, `update`, from the cheapest on.
-use Rattle.std.specs.Prelude.{Option, Some, None}
-use Rattle.std.specs.Prelude.{ℕ, ◌+◌, Bool, true, ◌&&◌, ◌||◌, not, cond, eqb, ltb, Float}
+use Rattle.tile.specs.declared.TileId.{TileId}
+use Rattle.std.specs.Prelude.{Option, Some, None, ℕ, ◌+◌, Bool, true, ◌&&◌, ◌||◌, not, cond, eqb, ltb, Float}
 use Rattle.std.specs.Float.{binary32}
 use Rattle.std.specs.Float.Ieee.{add, le}
 use Rattle.num.specs.Order.{total_cmp}
@@ -12,8 +12,6 @@ use Rattle.matcher.specs.Score.{same_id, is_on}
 use Rattle.matcher.specs.declared.Candidate.{Candidate}
 use Rattle.matcher.specs.declared.Kept.{Kept}
 use Rattle.matcher.specs.declared.Matched.{Matched}
-use Rattle.matcher.specs.declared.Current.{Current}
-use Rattle.matcher.specs.declared.Challenger.{Challenger}
 use Rattle.matcher.specs.declared.choose.Which.{Which}
 use Rattle.matcher.specs.declared.choose.Least.{Least}
 use Rattle.matcher.specs.declared.choose.Choice.{Choice}
@@ -64,40 +62,40 @@ abbrev pub beaten_by : Bool → ℕ → ℕ
 beaten_by again count = cond again (cond (ltb count 255) (count + 1) 255) 1
 
 -- on how many fixes in a row the candidate has beaten the match, with this one
-abbrev pub beaten : Challenger → Candidate → ℕ
-beaten Challenger.Nothing top = 1
-beaten (Challenger.Is tile edge count) top = beaten_by (same_id tile top.found.tile && eqb edge top.found.edge) count
+abbrev pub beaten : Option (TileId × ℕ × ℕ) → Candidate → ℕ
+beaten None top = 1
+beaten (Some (tile, edge, count)) top = beaten_by (same_id tile top.found.tile && eqb edge top.found.edge) count
 
 abbrev pub contested_by : ℕ → Candidate → Candidate → Choice
 contested_by n top kept =
-    cond (ltb n 2) (record { chosen = kept; challenger = Challenger.Is top.found.tile top.found.edge n })
-    (record { chosen = top; challenger = Challenger.Nothing })
+    cond (ltb n 2) (record { chosen = kept; challenger = Some (top.found.tile, top.found.edge, n) })
+    (record { chosen = top; challenger = None })
 
 -- another edge is clearly cheaper: SWITCH_FIXES is 2
-unfoldable pub contested : Candidate → Candidate → Challenger → Choice
+unfoldable pub contested : Candidate → Candidate → Option (TileId × ℕ × ℕ) → Choice
 contested top kept challenger = contested_by (beaten challenger top) top kept
 
 -- the current edge is in reach: an edge joined to it takes over at once; it stays unless the cheapest beats it by more than SWITCH, 1
-unfoldable pub held : Candidate → Candidate → Matched → Challenger → Choice
+unfoldable pub held : Candidate → Candidate → Matched → Option (TileId × ℕ × ℕ) → Choice
 held top kept m challenger =
-    cond (top.joined && not (same_edge top m)) (record { chosen = top; challenger = Challenger.Nothing })
-    (cond (same_edge top m || le kept.cost (add binary32 top.cost (whole 1))) (record { chosen = kept; challenger = Challenger.Nothing })
+    cond (top.joined && not (same_edge top m)) (record { chosen = top; challenger = None })
+    (cond (same_edge top m || le kept.cost (add binary32 top.cost (whole 1))) (record { chosen = kept; challenger = None })
     (contested top kept challenger))
 
-abbrev pub kept_by : Option ℕ → Kept → Candidate → Matched → Challenger → Choice
+abbrev pub kept_by : Option ℕ → Kept → Candidate → Matched → Option (TileId × ℕ × ℕ) → Choice
 kept_by None k top m challenger = record { chosen = top; challenger = challenger }
 kept_by (Some i) k top m challenger = held top (candidate_in k i) m challenger
 
 -- the cheapest, or the edge already matched
-abbrev pub chosen_by : Current → Kept → Candidate → Challenger → Choice
-chosen_by Current.Nothing k top challenger = record { chosen = top; challenger = challenger }
-chosen_by (Current.Is m) k top challenger = kept_by (kept_at k m) k top m challenger
+abbrev pub chosen_by : Option Matched → Kept → Candidate → Option (TileId × ℕ × ℕ) → Choice
+chosen_by None k top challenger = record { chosen = top; challenger = challenger }
+chosen_by (Some m) k top challenger = kept_by (kept_at k m) k top m challenger
 
 -- ---- past the end of the edge
 
 abbrev pub past_by : Option ℕ → Choice → Kept → Choice
 past_by None choice k = choice
-past_by (Some i) choice k = record { chosen = candidate_in k i; challenger = Challenger.Nothing }
+past_by (Some i) choice k = record { chosen = candidate_in k i; challenger = None }
 
 -- the road goes on along an edge joined to it, if the rider is beside one and riding along it: PAST_NODE is 2
 unfoldable pub past_node : Choice → Kept → Choice

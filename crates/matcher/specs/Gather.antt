@@ -1,9 +1,9 @@
 -- A match over a lookup: `matcher.rs`, `update`. The tiles around the fix are looked up in order; each that is found is searched; one that is
 -- not loaded ends the match with its key, and one that no longer passes with 12. `update_over` knows no cache: the direct engine shares it.
 -- `updated` is it at the cache's look, with what the lookups did to clock and ages.
+use Rattle.matcher.specs.declared.Matched.{Matched}
 use Rattle.refusal.specs.declared.Refusal.{Refusal}
-use Rattle.std.specs.Prelude.{Option, Some, None, Result, Ok, Err}
-use Rattle.std.specs.Prelude.{ℕ, ◌+◌, List, [], ◌∷◌, ◌++◌, get_or}
+use Rattle.std.specs.Prelude.{Option, Some, None, Result, Ok, Err, ℕ, ◌+◌, List, [], ◌∷◌, ◌++◌, get_or}
 use Rattle.pack.specs.declared.TileKey.{TileKey}
 use Rattle.pack.specs.declared.Header.{Header}
 use Rattle.geo.specs.declared.Point.{Point}
@@ -19,7 +19,6 @@ use Rattle.matcher.specs.Keeping.{none_kept}
 use Rattle.matcher.specs.Tile.{search}
 use Rattle.matcher.specs.declared.Kept.{Kept}
 use Rattle.matcher.specs.declared.Query.{Query}
-use Rattle.matcher.specs.declared.Current.{Current}
 use Rattle.matcher.specs.declared.Heading.{Heading}
 use Rattle.matcher.specs.declared.Landed.{Landed}
 use Rattle.matcher.specs.declared.Landings.{Landings}
@@ -64,19 +63,19 @@ no_run = record { kept = none_kept; found = []; end = Ending.All }
 unfoldable pub run_to : (TileKey → Look) → NearKeys → Query → ℕ → Run
 run_to at near q n = up_to (λ (r : Run) (i : ℕ). run_step r.end (key_at near i) at r q) no_run n
 
-abbrev pub outcome : Current → Outcome
-outcome Current.Nothing = Outcome.Nothing
-outcome (Current.Is m) = Outcome.Found m
+abbrev pub outcome : Option Matched → Result Outcome Refusal
+outcome None = Ok Outcome.Nothing
+outcome (Some m) = Ok (Outcome.Found m)
 
 -- an answer, and the matcher after it
 pub record Matching : Type 0 where
-  pub answer : Outcome
+  pub answer : Result Outcome Refusal
   pub matcher : Matcher
 
 abbrev pub matching_by : Ending → Kept → Matcher → Heading → Matching
 matching_by Ending.All k m heading = let next = matched m k heading in record { answer = outcome next.current; matcher = next }
-matching_by (Ending.Need key) k m heading = record { answer = Outcome.Need key; matcher = m }
-matching_by Ending.Stale k m heading = record { answer = Outcome.Refused 12; matcher = m }
+matching_by (Ending.Need key) k m heading = record { answer = Ok (Outcome.Need key); matcher = m }
+matching_by Ending.Stale k m heading = record { answer = Err Refusal.BadState; matcher = m }
 
 abbrev pub query_of : Matcher → Header → Point → Heading → Query
 query_of m h fix heading = record { header = h; fix = fix; heading = heading; current = m.current }
@@ -130,7 +129,7 @@ abbrev pub gathered_with : Gathered → Result Lookup Refusal → List ℕ → Q
 gathered_with g (Ok (Lookup.Ready first len)) arena q key = so_far (search g.kept q (bytes_of arena first len)) (g.tiles + 1)
 gathered_with g (Ok Lookup.Missing) arena q key = so_far g.kept (g.tiles + 1)
 gathered_with g (Ok Lookup.Absent) arena q key = record { kept = g.kept; tiles = g.tiles; end = Ending.Need key }
-gathered_with g (Err number) arena q key = record { kept = g.kept; tiles = g.tiles; end = Ending.Stale }
+gathered_with g (Err e) arena q key = record { kept = g.kept; tiles = g.tiles; end = Ending.Stale }
 
 abbrev pub gather_key : Option TileKey → Result Lookup Refusal → Gathered → List ℕ → Query → Gathered
 gather_key None l g arena q = so_far g.kept (g.tiles + 1)
@@ -153,8 +152,8 @@ finished m kept heading = let next = matched m kept heading in record { answer =
 -- of the tiles gone through those that were found are used: all four; those before the one that is not loaded; none on the late 12
 abbrev pub ended_by : Ending → Matcher → Heading → Gathered → Searched
 ended_by Ending.All m heading g = finished m g.kept heading
-ended_by (Ending.Need key) m heading g = record { answer = Outcome.Need key; matcher = m; tiles = g.tiles }
-ended_by Ending.Stale m heading g = record { answer = Outcome.Refused 12; matcher = m; tiles = 0 }
+ended_by (Ending.Need key) m heading g = record { answer = Ok (Outcome.Need key); matcher = m; tiles = g.tiles }
+ended_by Ending.Stale m heading g = record { answer = Err Refusal.BadState; matcher = m; tiles = 0 }
 
 -- what a match makes of what was gathered
 abbrev pub ended : Matcher → Heading → Gathered → Searched
@@ -170,7 +169,7 @@ abbrev pub used_by : Result Lookup Refusal → Aging → Aging
 used_by (Ok (Lookup.Ready first len)) a = used_at a first
 used_by (Ok Lookup.Missing) a = a
 used_by (Ok Lookup.Absent) a = a
-used_by (Err number) a = a
+used_by (Err e) a = a
 
 -- once the first n tiles were gone through; `from` has clock and ages before the first
 unfoldable pub uses_after : Landings → Aging → ℕ → Aging

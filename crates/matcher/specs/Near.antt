@@ -1,7 +1,5 @@
 -- The tiles that a search around a fix needs: `matcher.rs`, `nearby`.
-use Rattle.std.specs.Prelude.{is_some}
-use Rattle.std.specs.Prelude.{Option, Some, None}
-use Rattle.std.specs.Prelude.{ℕ, ◌+◌, Bool, cond, leb, ℤ, pos, negsuc, ◌+ℤ◌, ◌-ℤ◌, get_or, set, replicate}
+use Rattle.std.specs.Prelude.{is_some, Option, Some, None, ℕ, ◌+◌, Bool, cond, leb, ℤ, pos, negsuc, ◌+ℤ◌, ◌-ℤ◌, get_or, set, replicate}
 use Rattle.std.specs.Int.Signed.{lt_z}
 use Rattle.pack.specs.Grid.{corner_of, checked_of, key_of}
 use Rattle.pack.specs.declared.Header.{Header}

@@ -1,5 +1,6 @@
 -- What is claimed of a match over a lookup.
-use Rattle.std.specs.Prelude.{ℕ, ◌≡◌, Bool, true, false, List, ◌⊎◌}
+use Rattle.refusal.specs.declared.Refusal.{Refusal}
+use Rattle.std.specs.Prelude.{Some, Result, Ok, Err, ℕ, ◌≡◌, Bool, true, false, List, ◌⊎◌}
 use Rattle.pack.specs.Grid.{in_grid}
 use Rattle.pack.specs.declared.TileKey.{TileKey}
 use Rattle.pack.specs.declared.Header.{Header}
@@ -7,7 +8,6 @@ use Rattle.tile.specs.Parse.{accepts}
 use Rattle.geo.specs.declared.Point.{Point}
 use Rattle.cache.specs.Direct.{Look, ready, Agree}
 use Rattle.matcher.specs.Within.{Within}
-use Rattle.matcher.specs.declared.Current.{Current}
 use Rattle.matcher.specs.declared.Heading.{Heading}
 use Rattle.matcher.specs.declared.Matched.{Matched}
 use Rattle.matcher.specs.declared.Matcher.{Matcher}
@@ -15,11 +15,11 @@ use Rattle.matcher.specs.declared.Outcome.{Outcome}
 use Rattle.matcher.specs.Gather.{update_over}
 
 -- ended with a match or with none (document 01: "a match (or finding none) is finished where working it out ends other than by 5, 12")
-abbrev pub is_finished : Outcome → Bool
-is_finished (Outcome.Found m) = true
-is_finished Outcome.Nothing = true
-is_finished (Outcome.Need key) = false
-is_finished (Outcome.Refused number) = false
+abbrev pub is_finished : Result Outcome Refusal → Bool
+is_finished (Ok (Outcome.Found m)) = true
+is_finished (Ok Outcome.Nothing) = true
+is_finished (Ok (Outcome.Need key)) = false
+is_finished (Err e) = false
 
 -- where it finishes at one look, it gives the same answer and matcher at every look that agrees with it
 abbrev pub UpdateAgrees : Type 0
@@ -42,4 +42,4 @@ pub record FoundIn (at : TileKey → Look) (h : Header) (f : Matched) : Type 0 w
 abbrev pub UpdateWithin : Type 0
 UpdateWithin =
     (at : TileKey → Look) (m : Matcher) (h : Header) → Accepted at h → (fix : Point) (heading : Heading) (f : Matched) →
-    (update_over at m h fix heading).answer ≡ Outcome.Found f → FoundIn at h f ⊎ (m.current ≡ Current.Is f)
+    (update_over at m h fix heading).answer ≡ Ok (Outcome.Found f) → FoundIn at h f ⊎ (m.current ≡ Some f)

@@ -1,6 +1,6 @@
 -- The segment of an edge that is closest to a fix, and the way along the edge to it: `matcher.rs`, `search`, the loops over an edge's points.
 -- Each float operation is rounded once, in the Rust's order.
-use Rattle.std.specs.Prelude.{ℕ, ◌+◌, Bool, true, ◌&&◌, ◌||◌, cond, List, Float}
+use Rattle.std.specs.Prelude.{Option, Some, None, ℕ, ◌+◌, Bool, true, ◌&&◌, ◌||◌, cond, List, Float}
 use Rattle.std.specs.Float.{binary32}
 use Rattle.std.specs.Float.Ieee.{add, sub, mul, neg, lt, le}
 use Rattle.pack.specs.declared.Header.{Header}
@@ -12,7 +12,6 @@ use Rattle.geo.specs.declared.Metres.{Metres}
 use Rattle.geo.specs.Points as Points
 use Rattle.geo.specs.Flat.{whole, metres_of, length_of, project_of}
 use Rattle.matcher.specs.declared.Nearest.{Nearest}
-use Rattle.matcher.specs.declared.scan.MaybeNearest.{MaybeNearest}
 use Rattle.matcher.specs.declared.scan.Scanned.{Scanned}
 use Rattle.matcher.specs.declared.scan.Along.{Along}
 use Rattle.num.specs.Fold.{up_to}
@@ -35,19 +34,19 @@ rejected a b =
     || ((lt a.east (neg radius) && lt b.east (neg radius))
     || ((lt radius a.north && lt radius b.north) || (lt a.north (neg radius) && lt b.north (neg radius))))
 
-abbrev pub beats : MaybeNearest → Float → Bool
-beats MaybeNearest.Nothing d = true
-beats (MaybeNearest.At n) d = lt d n.distance
+abbrev pub beats : Option Nearest → Float → Bool
+beats None d = true
+beats (Some n) d = lt d n.distance
 
 -- in reach, and closer than the closest so far: of equals the first
-abbrev pub is_closer : MaybeNearest → Float → Bool
+abbrev pub is_closer : Option Nearest → Float → Bool
 is_closer nearest d = le d radius && beats nearest d
 
-abbrev pub nearest_after : Scanned → Metres → ℕ → MaybeNearest
+abbrev pub nearest_after : Scanned → Metres → ℕ → Option Nearest
 nearest_after s b i =
     let p = project_of origin s.at b in
     cond (is_closer s.nearest p.distance)
-    (MaybeNearest.At (record { segment = i; fraction = p.fraction; distance = p.distance; a = s.at; b = b }))
+    (Some (record { segment = i; fraction = p.fraction; distance = p.distance; a = s.at; b = b }))
     s.nearest
 
 -- one segment more: the one number i, from the last point to b
@@ -58,10 +57,10 @@ segment_step s b i = record { at = b; nearest = cond (rejected s.at b) s.nearest
 unfoldable pub scanned : Header → List ℕ → TileKey → Edge → Point → ℕ → ℕ → Scanned
 scanned h bs key e fix lon_um n =
     up_to (λ (s : Scanned) (i : ℕ). segment_step s (metres_of (point_of h bs key e (i + 1)) fix lon_um) i)
-    (record { at = metres_of (point_of h bs key e 0) fix lon_um; nearest = MaybeNearest.Nothing })
+    (record { at = metres_of (point_of h bs key e 0) fix lon_um; nearest = None })
     n
 
-abbrev pub scan : Header → List ℕ → TileKey → Edge → Point → ℕ → MaybeNearest
+abbrev pub scan : Header → List ℕ → TileKey → Edge → Point → ℕ → Option Nearest
 scan h bs key e fix lon_um = (scanned h bs key e fix lon_um (e.vertices + 1)).nearest
 
 -- ---- along the edge

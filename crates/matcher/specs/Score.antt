@@ -14,7 +14,6 @@ use Rattle.geo.specs.Flat.{whole, turn_of, bearing_of}
 use Rattle.cache.specs.Keys.{same_key}
 use Rattle.matcher.specs.declared.Heading.{Heading}
 use Rattle.matcher.specs.declared.Matched.{Matched}
-use Rattle.matcher.specs.declared.Current.{Current}
 use Rattle.matcher.specs.declared.Nearest.{Nearest}
 use Rattle.matcher.specs.declared.Candidate.{Candidate}
 use Rattle.matcher.specs.declared.Query.{Query}
@@ -33,9 +32,9 @@ is_on m id edge = same_id m.tile id && eqb m.edge edge
 -- ---- the heading
 
 -- the direction held on the edge already matched
-abbrev pub held_on : Current → TileId → ℕ → Option Bool
-held_on Current.Nothing id edge = None
-held_on (Current.Is m) id edge = cond (is_on m id edge) m.forward None
+abbrev pub held_on : Option Matched → TileId → ℕ → Option Bool
+held_on None id edge = None
+held_on (Some m) id edge = cond (is_on m id edge) m.forward None
 
 -- REVERSE_DEG is 135: near a hairpin a heading taken over the last 15 m cuts the corner by up to 90 degrees
 abbrev pub keeps_forward : Option Bool → Float → Float → Bool
@@ -88,9 +87,9 @@ bonus_of m id number bs e cost =
     (cond (shares_node (Layout.edge_of bs m.edge) e) (record { cost = sub binary32 cost half; joined = true }) (record { cost = cost; joined = false })))
     (record { cost = cost; joined = false })
 
-abbrev pub bonus : Current → TileId → ℕ → List ℕ → Edge → Float → BonusCost
-bonus Current.Nothing id number bs e cost = record { cost = cost; joined = false }
-bonus (Current.Is m) id number bs e cost = bonus_of m id number bs e cost
+abbrev pub bonus : Option Matched → TileId → ℕ → List ℕ → Edge → Float → BonusCost
+bonus None id number bs e cost = record { cost = cost; joined = false }
+bonus (Some m) id number bs e cost = bonus_of m id number bs e cost
 
 -- ---- the candidate
 

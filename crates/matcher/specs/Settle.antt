@@ -11,9 +11,7 @@ use Rattle.matcher.specs.Score.{is_on}
 use Rattle.matcher.specs.declared.Candidate.{Candidate}
 use Rattle.matcher.specs.declared.Kept.{Kept}
 use Rattle.matcher.specs.declared.Matched.{Matched}
-use Rattle.matcher.specs.declared.Current.{Current}
 use Rattle.matcher.specs.declared.Heading.{Heading}
-use Rattle.matcher.specs.declared.Challenger.TheVariants as Challenger
 use Rattle.matcher.specs.declared.Matcher.{Matcher}
 use Rattle.matcher.specs.declared.choose.Which.TheVariants as Which
 use Rattle.matcher.specs.declared.choose.Choice.{Choice}
@@ -22,26 +20,26 @@ use Rattle.matcher.specs.Choose.{least_of, same_edge, chosen_by, past_node}
 -- ---- confidence
 
 -- the edge just left, where the match goes over to one joined to it
-abbrev pub left_of : Current → Candidate → Current
-left_of Current.Nothing chosen = Current.Nothing
-left_of (Current.Is p) chosen = cond (chosen.joined && not (same_edge chosen p)) (Current.Is p) Current.Nothing
+abbrev pub left_of : Option Matched → Candidate → Option Matched
+left_of None chosen = None
+left_of (Some p) chosen = cond (chosen.joined && not (same_edge chosen p)) (Some p) None
 
-abbrev pub not_left : Current → Candidate → Bool
-not_left Current.Nothing c = true
-not_left (Current.Is p) c = not (same_edge c p)
+abbrev pub not_left : Option Matched → Candidate → Bool
+not_left None c = true
+not_left (Some p) c = not (same_edge c p)
 
 -- another road beside the rider, and not the one just left
-abbrev pub is_rival : Candidate → Matched → Current → Bool
+abbrev pub is_rival : Candidate → Matched → Option Matched → Bool
 is_rival c chosen left = not (same_edge c chosen) && (not c.at_node && not_left left c)
 
-abbrev pub rival_step : Float → ℕ → ℕ → Candidate → Matched → Current → Float
+abbrev pub rival_step : Float → ℕ → ℕ → Candidate → Matched → Option Matched → Float
 rival_step least n i c chosen left = cond (ltb i n && is_rival c chosen left) (Order.min least c.cost) least
 
-unfoldable pub runner_to : Kept → Matched → Current → ℕ → Float
+unfoldable pub runner_to : Kept → Matched → Option Matched → ℕ → Float
 runner_to k chosen left n = up_to (λ (least : Float) (i : ℕ). rival_step least k.len i (candidate_in k i) chosen left) (inf false) n
 
 -- the cost of the cheapest rival, infinite where there is none
-abbrev pub runner_up : Kept → Matched → Current → Float
+abbrev pub runner_up : Kept → Matched → Option Matched → Float
 runner_up k chosen left = runner_to k chosen left 8
 
 -- 0.3 and 0.7
@@ -64,16 +62,16 @@ confidence offset cost runner heading =
 
 -- ---- direction and ridden metres
 
-abbrev pub direction_from : Current → Matched → Option Bool
-direction_from Current.Nothing found = None
-direction_from (Current.Is p) found = cond (is_on p found.tile found.edge) p.forward None
+abbrev pub direction_from : Option Matched → Matched → Option Bool
+direction_from None found = None
+direction_from (Some p) found = cond (is_on p found.tile found.edge) p.forward None
 
-abbrev pub direction_by : Option Bool → Matched → Current → Option Bool
+abbrev pub direction_by : Option Bool → Matched → Option Matched → Option Bool
 direction_by (Some b) found previous = Some b
 direction_by None found previous = direction_from previous found
 
 -- the candidate's own, or without one that of the match so far on the same edge
-abbrev pub direction : Matched → Current → Option Bool
+abbrev pub direction : Matched → Option Matched → Option Bool
 direction found previous = direction_by found.forward found previous
 
 abbrev pub same_bool : Bool → Bool → Bool
@@ -86,9 +84,9 @@ goes_on None forward = true
 goes_on (Some a) None = false
 goes_on (Some a) (Some b) = same_bool a b
 
-abbrev pub same_run : Current → Matched → Option Bool → Bool
-same_run Current.Nothing found forward = false
-same_run (Current.Is p) found forward = is_on p found.tile found.edge && goes_on p.forward forward
+abbrev pub same_run : Option Matched → Matched → Option Bool → Bool
+same_run None found forward = false
+same_run (Some p) found forward = is_on p found.tile found.edge && goes_on p.forward forward
 
 -- where the run along the edge began: here, unless it goes on
 abbrev pub run_from : Matcher → Candidate → Option Bool → Float
@@ -118,7 +116,7 @@ with_figures m forward sure gone = record {
 abbrev pub settled_with : Matcher → Kept → Choice → Heading → Option Bool → Float → Matcher
 settled_with m k choice heading forward from =
     let chosen = choice.chosen in record {
-      current = Current.Is
+      current = Some
           (with_figures chosen.found forward
           (confidence chosen.found.offset_m chosen.cost (runner_up k chosen.found (left_of m.current chosen)) heading)
           (ridden forward chosen.along_m from));
@@ -137,8 +135,8 @@ more n = cond (ltb n 255) (n + 1) 255
 -- no road in reach: LOST_FIXES is 3
 unfoldable pub missed : Matcher → Matcher
 missed m = record {
-  current = cond (ltb (more m.misses) 3) m.current Current.Nothing;
-  challenger = Challenger.Nothing;
+  current = cond (ltb (more m.misses) 3) m.current None;
+  challenger = None;
   misses = more m.misses;
   run_from_m = m.run_from_m;
 }

@@ -1,33 +1,33 @@
 -- Number 12 for a matcher (document 01, "Refused": a challenger above 1, a matcher's edge past its tile's count, a matched key outside the
 -- grid), beside the cache's causes; and the headings that number 8 refuses.
-use Rattle.std.specs.Prelude.{ℕ, Bool, true, ◌&&◌, ltb, leb}
+use Rattle.refusal.specs.declared.Refusal.{Refusal}
+use Rattle.tile.specs.declared.TileId.{TileId}
+use Rattle.matcher.specs.declared.Matched.{Matched}
+use Rattle.std.specs.Prelude.{Option, Some, None, Err, ℕ, Bool, true, ◌&&◌, ltb, leb}
 use Rattle.pack.specs.Grid.{in_grid}
 use Rattle.pack.specs.declared.Header.{Header}
 use Rattle.geo.specs.Flat.{is_heading}
 use Rattle.cache.specs.State.{cache_ok}
 use Rattle.cache.specs.declared.Cache.{Cache}
-use Rattle.matcher.specs.declared.Current.{Current}
 use Rattle.matcher.specs.declared.Heading.{Heading}
-use Rattle.matcher.specs.declared.Challenger.{Challenger}
 use Rattle.matcher.specs.declared.Matcher.{Matcher}
-use Rattle.matcher.specs.declared.Outcome.TheVariants as Outcome
 use Rattle.matcher.specs.declared.Updated.{Updated}
 
-abbrev pub edge_ok : Current → Bool
-edge_ok Current.Nothing = true
-edge_ok (Current.Is m) = ltb m.edge m.tile.edges
+abbrev pub edge_ok : Option Matched → Bool
+edge_ok None = true
+edge_ok (Some m) = ltb m.edge m.tile.edges
 
-abbrev pub challenger_ok : Challenger → Bool
-challenger_ok Challenger.Nothing = true
-challenger_ok (Challenger.Is tile edge count) = leb count 1 && ltb edge tile.edges
+abbrev pub challenger_ok : Option (TileId × ℕ × ℕ) → Bool
+challenger_ok None = true
+challenger_ok (Some (tile, edge, count)) = leb count 1 && ltb edge tile.edges
 
 -- the matcher's own
 abbrev pub counts_ok : Matcher → Bool
 counts_ok m = edge_ok m.current && challenger_ok m.challenger
 
-abbrev pub key_ok : Current → Header → Bool
-key_ok Current.Nothing h = true
-key_ok (Current.Is m) h = in_grid h m.tile.key
+abbrev pub key_ok : Option Matched → Header → Bool
+key_ok None h = true
+key_ok (Some m) h = in_grid h m.tile.key
 
 -- and those of one beside a header
 abbrev pub matcher_ok : Matcher → Header → Bool
@@ -41,5 +41,5 @@ abbrev pub heading_ok : Heading → Bool
 heading_ok Heading.Nothing = true
 heading_ok (Heading.Degrees d) = is_heading d
 
-abbrev pub refused : Matcher → Cache → ℕ → Updated
-refused m c number = record { answer = Outcome.Refused number; matcher = m; cache = c }
+abbrev pub refused : Matcher → Cache → Refusal → Updated
+refused m c e = record { answer = Err e; matcher = m; cache = c }

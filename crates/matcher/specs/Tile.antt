@@ -1,18 +1,18 @@
 -- The candidates of a tile: `matcher.rs`, `search`.
-use Rattle.std.specs.Prelude.{ℕ, List}
+use Rattle.matcher.specs.declared.Nearest.{Nearest}
+use Rattle.std.specs.Prelude.{Option, Some, None, ℕ, List}
 use Rattle.tile.specs.Layout as Layout
 use Rattle.tile.specs.declared.TileId.{TileId}
 use Rattle.matcher.specs.declared.Kept.{Kept}
 use Rattle.matcher.specs.declared.Query.{Query}
-use Rattle.matcher.specs.declared.scan.MaybeNearest.{MaybeNearest}
 use Rattle.num.specs.Fold.{up_to}
 use Rattle.matcher.specs.Scan.{scan}
 use Rattle.matcher.specs.Score.{candidate_at}
 use Rattle.matcher.specs.Keeping.{insert}
 
-abbrev pub kept_with : MaybeNearest → Kept → Query → TileId → ℕ → List ℕ → ℕ → Kept
-kept_with MaybeNearest.Nothing k q id lon_um bs number = k
-kept_with (MaybeNearest.At n) k q id lon_um bs number = insert k (candidate_at q id lon_um bs number n)
+abbrev pub kept_with : Option Nearest → Kept → Query → TileId → ℕ → List ℕ → ℕ → Kept
+kept_with None k q id lon_um bs number = k
+kept_with (Some n) k q id lon_um bs number = insert k (candidate_at q id lon_um bs number n)
 
 -- one edge more: a candidate, if it is in reach
 unfoldable pub edge_step : Kept → Query → TileId → ℕ → List ℕ → ℕ → Kept

@@ -3,8 +3,9 @@ ghost use Rattle.std.specs.Prelude.{◌≡◌};
 ghost use Rattle.matcher.specs.Keeping as Keeping;
 ghost use Rattle.matcher.specs.Choose as Choose;
 
-use crate::{Candidate, Challenger, Current, Kept, Matched};
+use crate::{Candidate, Kept, Matched};
 use std::cmp::Ordering;
+use tile::TileId;
 
 // Which candidates are looked at: all, or those on which the road goes on past a node, up to a cost.
 #[derive(Clone, Copy)]
@@ -24,7 +25,7 @@ pub(crate) struct Least {
 #[derive(Clone, Copy)]
 pub struct Choice {
     pub chosen: Candidate,
-    pub challenger: Challenger,
+    pub challenger: Option<(TileId, u16, u8)>,
 }
 
 fn counts(which: Which, c: Candidate) -> bool
@@ -153,12 +154,12 @@ fn kept_at(k: Kept, m: Matched) -> Option<usize>
 }
 
 // On how many fixes in a row the candidate has now beaten the match.
-fn beaten(challenger: Challenger, top: Candidate) -> u8
+fn beaten(challenger: Option<(TileId, u16, u8)>, top: Candidate) -> u8
     ensures { result ≡ Choose.beaten challenger top }
 {
     match challenger {
-        Challenger::Nothing => 1,
-        Challenger::Is(tile, edge, count) => {
+        None => 1,
+        Some((tile, edge, count)) => {
             let found = top.found;
             if !crate::score::same_id(tile, found.tile) {
                 return 1;
@@ -175,7 +176,7 @@ fn beaten(challenger: Challenger, top: Candidate) -> u8
 }
 
 // Another edge is clearly cheaper: it takes over the second time in a row.
-fn contested(top: Candidate, kept: Candidate, challenger: Challenger) -> Choice
+fn contested(top: Candidate, kept: Candidate, challenger: Option<(TileId, u16, u8)>) -> Choice
     ensures { result ≡ Choose.contested top kept challenger }
 {
     let n = beaten(challenger, top);
@@ -184,51 +185,61 @@ fn contested(top: Candidate, kept: Candidate, challenger: Challenger) -> Choice
         let tile = found.tile;
         return Choice {
             chosen: kept,
-            challenger: Challenger::Is(tile, found.edge, n),
+            challenger: Some((tile, found.edge, n)),
         };
     }
     Choice {
         chosen: top,
-        challenger: Challenger::Nothing,
+        challenger: None,
     }
 }
 
 // The current edge is still in reach.
-fn held(top: Candidate, kept: Candidate, m: Matched, challenger: Challenger) -> Choice
+fn held(
+    top: Candidate,
+    kept: Candidate,
+    m: Matched,
+    challenger: Option<(TileId, u16, u8)>,
+) -> Choice
     ensures { result ≡ Choose.held top kept m challenger }
 {
     let same = same_edge(top, m);
     if same {
         return Choice {
             chosen: kept,
-            challenger: Challenger::Nothing,
+            challenger: None,
         };
     }
     if top.joined {
         return Choice {
             chosen: top,
-            challenger: Challenger::Nothing,
+            challenger: None,
         };
     }
     if top.cost + 1.0 >= kept.cost {
         return Choice {
             chosen: kept,
-            challenger: Challenger::Nothing,
+            challenger: None,
         };
     }
     contested(top, kept, challenger)
 }
 
 // The cheapest, or the edge already matched.
-pub(crate) fn chosen_by(current: Current, k: Kept, top: Candidate, challenger: Challenger) -> Choice
+pub(crate) fn chosen_by(
+    current: Option<Matched>,
+    k: Kept,
+    top: Candidate,
+    challenger: Option<(TileId, u16, u8)>,
+) -> Choice
     ensures { result ≡ Choose.chosen_by current k top challenger }
 {
     match current {
-        Current::Nothing => Choice {
+        None => Choice {
             chosen: top,
             challenger,
         },
-        Current::Is(m) => match kept_at(k, m) {
+        Some(m) => match kept_at(k, m) {
             None => Choice {
                 chosen: top,
                 challenger,
@@ -250,7 +261,7 @@ pub(crate) fn past_node(choice: Choice, k: Kept) -> Choice
         None => choice,
         Some(i) => Choice {
             chosen: candidate_in(k, i),
-            challenger: Challenger::Nothing,
+            challenger: None,
         },
     }
 }

@@ -4,7 +4,7 @@ ghost use Rattle.matcher.specs.Calls as Calls;
 ghost use Rattle.matcher.specs.Gather as Gather;
 
 use crate::{
-    Current, Heading, Kept, Landed, Landings, Made, Matcher, NearKey, NearKeys, Outcome, Query,
+    Heading, Kept, Landed, Landings, Made, Matched, Matcher, NearKey, NearKeys, Outcome, Query,
     Searched, Updated,
 };
 use cache::{Aging, Cache, Lookup};
@@ -21,12 +21,12 @@ pub enum Ending {
 }
 
 // What a match answers once it is finished.
-fn outcome(current: Current) -> Outcome
+fn outcome(current: Option<Matched>) -> Result<Outcome, Refusal>
     ensures { result ≡ Gather.outcome current }
 {
     match current {
-        Current::Nothing => Outcome::Nothing,
-        Current::Is(m) => Outcome::Found(m),
+        None => Ok(Outcome::Nothing),
+        Some(m) => Ok(Outcome::Found(m)),
     }
 }
 
@@ -85,14 +85,14 @@ fn gather(m: Matcher, at: Landings, arena: &[u8], q: Query, near: NearKeys) -> S
             Ok(Lookup::Missing) => continue,
             Ok(Lookup::Absent) => {
                 return Searched {
-                    answer: Outcome::Need(k),
+                    answer: Ok(Outcome::Need(k)),
                     matcher: m,
                     tiles,
                 };
             }
             Err(_) => {
                 return Searched {
-                    answer: Outcome::Refused(12),
+                    answer: Err(Refusal::BadState),
                     matcher: m,
                     tiles: 0,
                 };
@@ -213,10 +213,10 @@ pub(crate) fn updated(
     ensures { result ≡ Calls.update_tested m c arena.now header fix heading }
 {
     if !pack::grid::is_point(fix.lat, fix.lon) {
-        return crate::state::refused(m, c, 8);
+        return crate::state::refused(m, c, Refusal::OutOfRange);
     }
     if !crate::state::heading_ok(heading) {
-        return crate::state::refused(m, c, 8);
+        return crate::state::refused(m, c, Refusal::OutOfRange);
     }
     match_around(m, c, arena, header, fix, heading)
 }

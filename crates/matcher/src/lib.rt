@@ -23,7 +23,6 @@ ghost use Rattle.matcher.specs.Calls as Calls;
 ghost use Rattle.tile.specs.Layout as Layout;
 ghost use Rattle.matcher.specs.Scan as Scan;
 ghost use Rattle.matcher.specs.Tile as Tile;
-ghost use Rattle.matcher.specs.declared.scan.MaybeNearest.TheVariants as MaybeNearest;
 ghost use Rattle.std.specs.Prelude.{◌≡◌};
 
 use cache::{Aging, Cache, Lookup};
@@ -58,12 +57,6 @@ pub struct Matched {
     pub confidence: u8,
     // Distance ridden along this edge in direction `forward` since the match came onto it or its direction last reversed; 0 while unknown.
     pub ridden_m: f32,
-}
-
-#[derive(Clone, Copy)]
-pub enum Current {
-    Nothing,
-    Is(Matched),
 }
 
 // The closest segment of one edge: its points in metres from the fix.
@@ -101,11 +94,11 @@ pub struct Query {
     pub header: Header,
     pub fix: Point,
     pub heading: Heading,
-    pub current: Current,
+    pub current: Option<Matched>,
 }
 
 // The closest segment of an edge of a tile, if one is in reach.
-fn reached(q: Query, key: TileKey, lon_um: u32, bytes: &[u8], number: u16) -> scan::MaybeNearest
+fn reached(q: Query, key: TileKey, lon_um: u32, bytes: &[u8], number: u16) -> Option<Nearest>
     ensures { result ≡ Scan.scan q.header bytes.now key (Layout.edge_of bytes.now number) q.fix lon_um }
 {
     let edge = tile::raw::edge(bytes, number);
@@ -123,7 +116,7 @@ pub(crate) fn search(k: Kept, q: Query, bytes: &[u8]) -> Kept
     let lon_um = head.lon_um;
     let mut d = k;
     for number in 0..head.edges {
-        let scan::MaybeNearest::At(n) = reached(q, id.key, lon_um, bytes, number) else {
+        let Some(n) = reached(q, id.key, lon_um, bytes, number) else {
             continue;
         };
         let c = score::candidate_at(q, id, lon_um, bytes, number, n);
@@ -137,17 +130,11 @@ pub(crate) fn search(k: Kept, q: Query, bytes: &[u8]) -> Kept
     d
 }
 
-// An edge that beat the current match, on how many fixes in a row.
-#[derive(Clone, Copy)]
-pub enum Challenger {
-    Nothing,
-    Is(TileId, u16, u8),
-}
-
 #[derive(Clone, Copy)]
 pub struct Matcher {
-    pub current: Current,
-    pub challenger: Challenger,
+    pub current: Option<Matched>,
+    // An edge that beat the current match, on how many fixes in a row: its tile, its number, how many.
+    pub challenger: Option<(TileId, u16, u8)>,
     pub misses: u8,
     // Where along the matched edge the run in its direction began: `along_m` of the match onto the edge or of the reversal.
     pub run_from_m: f32,
@@ -178,40 +165,26 @@ pub struct Landings {
     pub v: [Landed; 4],
 }
 
-#[derive(Clone, Copy)]
-pub enum Answer {
-    Accepted,
-    Refused(u32),
-}
-
 // The keys stand beside the answer, none where it was refused.
 #[derive(Clone, Copy)]
 pub struct NearRead {
-    pub answer: Answer,
+    pub answer: Result<(), Refusal>,
     pub near: NearKeys,
 }
 
-#[derive(Clone, Copy)]
-pub enum CurrentRead {
-    Nothing,
-    Is(Matched),
-    Refused(u32),
-}
-
-// How a match ended: with a match, or none; with a tile that is needed first; refused.
+// How a match ended: with a match, or none; with a tile that is needed first.
 #[derive(Clone, Copy)]
 pub enum Outcome {
     Found(Matched),
     Nothing,
     Need(TileKey),
-    Refused(u32),
 }
 
 // A match, and how many of the tiles around the fix count as gone through, none on the late 12: those of them that were found are the most recently used
 // now.
 #[derive(Clone, Copy)]
 pub struct Searched {
-    pub answer: Outcome,
+    pub answer: Result<Outcome, Refusal>,
     pub matcher: Matcher,
     pub tiles: usize,
 }
@@ -219,14 +192,14 @@ pub struct Searched {
 // A match with what it does to clock and ages beside the cache.
 #[derive(Clone, Copy)]
 pub struct Made {
-    pub answer: Outcome,
+    pub answer: Result<Outcome, Refusal>,
     pub matcher: Matcher,
     pub uses: Aging,
 }
 
 #[derive(Clone, Copy)]
 pub struct Updated {
-    pub answer: Outcome,
+    pub answer: Result<Outcome, Refusal>,
     pub matcher: Matcher,
     pub cache: Cache,
 }
@@ -237,18 +210,18 @@ pub fn nearby(header: Header, fix: Point) -> NearRead
 {
     if !header.rules() {
         return NearRead {
-            answer: Answer::Refused(12),
+            answer: Err(Refusal::BadState),
             near: near::no_keys(),
         };
     }
     if !pack::grid::is_point(fix.lat, fix.lon) {
         return NearRead {
-            answer: Answer::Refused(8),
+            answer: Err(Refusal::OutOfRange),
             near: near::no_keys(),
         };
     }
     NearRead {
-        answer: Answer::Accepted,
+        answer: Ok(()),
         near: near::near_of(header, fix),
     }
 }
@@ -259,25 +232,22 @@ impl Matcher {
         ensures { result ≡ Calls.reset }
     {
         Matcher {
-            current: Current::Nothing,
-            challenger: Challenger::Nothing,
+            current: None,
+            challenger: None,
             misses: 0,
             run_from_m: 0.0,
         }
     }
 
     // The match as it stands.
-    pub fn current(self) -> CurrentRead
+    #[tactic(auto, unfolding(crate::specs::Calls::current))]
+    pub fn current(self) -> Result<Option<Matched>, Refusal>
         ensures { result ≡ Calls.current self }
     {
         if !state::counts_ok(self) {
-            return CurrentRead::Refused(12);
+            return Err(Refusal::BadState);
         }
-        let current = self.current;
-        match current {
-            Current::Nothing => CurrentRead::Nothing,
-            Current::Is(m) => CurrentRead::Is(m),
-        }
+        Ok(self.current)
     }
 
     // Match one fix.
@@ -292,7 +262,7 @@ impl Matcher {
         ensures { result ≡ Calls.update self cache arena.now header fix heading }
     {
         if !state::call_ok(self, cache, header, arena.len()) {
-            return state::refused(self, cache, 12);
+            return state::refused(self, cache, Refusal::BadState);
         }
         gather::updated(self, cache, arena, header, fix, heading)
     }

@@ -9,17 +9,11 @@ use geo::{Metres, Point};
 use pack::{Header, TileKey};
 use tile::{Edge, Node};
 
-#[derive(Clone, Copy)]
-pub(crate) enum MaybeNearest {
-    Nothing,
-    At(Nearest),
-}
-
 // A scan of an edge's segments so far: its last point in metres from the fix, and the closest segment.
 #[derive(Drop)]
 pub(crate) struct Scanned {
     pub at: Metres,
-    pub nearest: MaybeNearest,
+    pub nearest: Option<Nearest>,
 }
 
 // The way along an edge so far: its last point, and the metres to it.
@@ -116,13 +110,13 @@ fn rejected(a: Metres, b: Metres) -> bool
 }
 
 // Whether a distance is in reach and less than the closest so far.
-fn is_closer(nearest: MaybeNearest, distance: f32) -> bool
+fn is_closer(nearest: Option<Nearest>, distance: f32) -> bool
     ensures { result ≡ Scan.is_closer nearest distance }
 {
     if distance <= 40.0 {
         return match nearest {
-            MaybeNearest::Nothing => true,
-            MaybeNearest::At(n) => distance < n.distance,
+            None => true,
+            Some(n) => distance < n.distance,
         };
     }
     false
@@ -152,7 +146,7 @@ fn segment_step(s: Scanned, b: Metres, i: u16) -> Scanned
         };
         return Scanned {
             at: b,
-            nearest: MaybeNearest::At(n),
+            nearest: Some(n),
         };
     }
     Scanned { at: b, nearest }
@@ -166,13 +160,13 @@ pub(crate) fn scan(
     edge: Edge,
     fix: Point,
     lon_um: u32,
-) -> MaybeNearest
+) -> Option<Nearest>
     ensures { result ≡ Scan.scan header bytes.now key edge fix lon_um }
 {
     let first = geo::flat::metres(point_of(header, bytes, key, edge, 0), fix, lon_um);
     let mut s = Scanned {
         at: first,
-        nearest: MaybeNearest::Nothing,
+        nearest: None,
     };
     let base = vertices_at(bytes, edge);
     for i in 0..=edge.vertices {

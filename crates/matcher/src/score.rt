@@ -2,7 +2,7 @@
 ghost use Rattle.std.specs.Prelude.{◌≡◌, ℤ};
 ghost use Rattle.matcher.specs.Score as Score;
 
-use crate::{Candidate, Current, Heading, Matched, Nearest, Query};
+use crate::{Candidate, Heading, Matched, Nearest, Query};
 use tile::{Edge, TileId};
 
 // A cost, and the direction that goes with it.
@@ -42,12 +42,12 @@ pub fn is_on(m: Matched, id: TileId, edge: u16) -> bool
 }
 
 // The direction held on the edge already matched; unknown on any other.
-fn held_on(current: Current, id: TileId, edge: u16) -> Option<bool>
+fn held_on(current: Option<Matched>, id: TileId, edge: u16) -> Option<bool>
     ensures { result ≡ Score.held_on current id edge }
 {
     match current {
-        Current::Nothing => None,
-        Current::Is(m) => {
+        None => None,
+        Some(m) => {
             let forward = m.forward;
             if is_on(m, id, edge) {
                 return forward;
@@ -177,7 +177,7 @@ fn bonus_of(m: Matched, id: TileId, number: u16, bytes: &[u8], edge: Edge, cost:
 }
 
 fn bonus(
-    current: Current,
+    current: Option<Matched>,
     id: TileId,
     number: u16,
     bytes: &[u8],
@@ -187,11 +187,11 @@ fn bonus(
     ensures { result ≡ Score.bonus current id number bytes.now edge cost }
 {
     match current {
-        Current::Nothing => BonusCost {
+        None => BonusCost {
             cost,
             joined: false,
         },
-        Current::Is(m) => bonus_of(m, id, number, bytes, edge, cost),
+        Some(m) => bonus_of(m, id, number, bytes, edge, cost),
     }
 }
 

@@ -3,38 +3,38 @@ ghost use Rattle.std.specs.Prelude.{◌≡◌};
 ghost use Rattle.matcher.specs.Settle as Settle;
 
 use crate::choose::{Choice, Which};
-use crate::{Candidate, Challenger, Current, Heading, Kept, Matched, Matcher};
+use crate::{Candidate, Heading, Kept, Matched, Matcher};
 
 // The edge just left, where the match goes over to one joined to it.
-fn left_of(previous: Current, chosen: Candidate) -> Current
+fn left_of(previous: Option<Matched>, chosen: Candidate) -> Option<Matched>
     ensures { result ≡ Settle.left_of previous chosen }
 {
     match previous {
-        Current::Nothing => Current::Nothing,
-        Current::Is(p) => {
+        None => None,
+        Some(p) => {
             if !chosen.joined {
-                return Current::Nothing;
+                return None;
             }
             if crate::choose::same_edge(chosen, p) {
-                return Current::Nothing;
+                return None;
             }
-            Current::Is(p)
+            Some(p)
         }
     }
 }
 
 // Whether a candidate is not on the edge just left.
-fn not_left(left: Current, c: Candidate) -> bool
+fn not_left(left: Option<Matched>, c: Candidate) -> bool
     ensures { result ≡ Settle.not_left left c }
 {
     match left {
-        Current::Nothing => true,
-        Current::Is(p) => !crate::choose::same_edge(c, p),
+        None => true,
+        Some(p) => !crate::choose::same_edge(c, p),
     }
 }
 
 // Whether a candidate is another road beside the rider: roads that only start at a node near by say nothing about which one it is.
-fn is_rival(c: Candidate, chosen: Matched, left: Current) -> bool
+fn is_rival(c: Candidate, chosen: Matched, left: Option<Matched>) -> bool
     ensures { result ≡ Settle.is_rival c chosen left }
 {
     if crate::choose::same_edge(c, chosen) {
@@ -46,7 +46,14 @@ fn is_rival(c: Candidate, chosen: Matched, left: Current) -> bool
     not_left(left, c)
 }
 
-fn rival_step(least: f32, n: usize, i: usize, c: Candidate, chosen: Matched, left: Current) -> f32
+fn rival_step(
+    least: f32,
+    n: usize,
+    i: usize,
+    c: Candidate,
+    chosen: Matched,
+    left: Option<Matched>,
+) -> f32
     ensures { result ≡ Settle.rival_step least n i c chosen left }
 {
     if n <= i {
@@ -59,7 +66,7 @@ fn rival_step(least: f32, n: usize, i: usize, c: Candidate, chosen: Matched, lef
 }
 
 // The cost of the cheapest other road, infinite where there is none. The places are named one by one, so that what is kept is read where it stands.
-fn runner_up(k: Kept, chosen: Matched, left: Current) -> f32
+fn runner_up(k: Kept, chosen: Matched, left: Option<Matched>) -> f32
     ensures { result ≡ Settle.runner_up k chosen left }
 {
     let n = k.len;
@@ -95,15 +102,15 @@ fn confidence(offset_m: f32, cost: f32, runner: f32, heading: Heading) -> u8
 }
 
 // The direction: a candidate's own, or without one that of the match so far on the same edge.
-fn direction(found: Matched, previous: Current) -> Option<bool>
+fn direction(found: Matched, previous: Option<Matched>) -> Option<bool>
     ensures { result ≡ Settle.direction found previous }
 {
     let forward = found.forward;
     match forward {
         Some(b) => Some(b),
         None => match previous {
-            Current::Nothing => None,
-            Current::Is(p) => {
+            None => None,
+            Some(p) => {
                 let was = p.forward;
                 if crate::score::is_on(p, found.tile, found.edge) {
                     return was;
@@ -122,12 +129,12 @@ fn goes_on(was: Option<bool>, forward: Option<bool>) -> bool
 }
 
 // Whether the match stays on its edge in its direction.
-fn same_run(previous: Current, found: Matched, forward: Option<bool>) -> bool
+fn same_run(previous: Option<Matched>, found: Matched, forward: Option<bool>) -> bool
     ensures { result ≡ Settle.same_run previous found forward }
 {
     match previous {
-        Current::Nothing => false,
-        Current::Is(p) => {
+        None => false,
+        Some(p) => {
             let was = p.forward;
             if crate::score::is_on(p, found.tile, found.edge) {
                 return goes_on(was, forward);
@@ -199,7 +206,7 @@ fn settled(m: Matcher, k: Kept, choice: Choice, heading: Heading) -> Matcher
     let matched = with_figures(found, forward, sure, gone);
     let challenger = choice.challenger;
     Matcher {
-        current: Current::Is(matched),
+        current: Some(matched),
         challenger,
         misses: 0,
         run_from_m: from_m,
@@ -215,14 +222,14 @@ fn missed(m: Matcher) -> Matcher
     if misses < 3 {
         return Matcher {
             current,
-            challenger: Challenger::Nothing,
+            challenger: None,
             misses,
             run_from_m: m.run_from_m,
         };
     }
     Matcher {
-        current: Current::Nothing,
-        challenger: Challenger::Nothing,
+        current: None,
+        challenger: None,
         misses,
         run_from_m: m.run_from_m,
     }

@@ -2,17 +2,19 @@
 ghost use Rattle.std.specs.Prelude.{◌≡◌};
 ghost use Rattle.matcher.specs.State as State;
 
-use crate::{Challenger, Current, Heading, Matcher, Outcome, Updated};
+use crate::{Heading, Matched, Matcher, Outcome, Updated};
 use cache::Cache;
 use pack::Header;
+use refusal::Refusal;
+use tile::TileId;
 
 // Whether the matched edge is one of its tile's.
-fn edge_ok(current: Current) -> bool
+fn edge_ok(current: Option<Matched>) -> bool
     ensures { result ≡ State.edge_ok current }
 {
     match current {
-        Current::Nothing => true,
-        Current::Is(m) => {
+        None => true,
+        Some(m) => {
             let tile = m.tile;
             m.edge < tile.edges
         }
@@ -20,12 +22,12 @@ fn edge_ok(current: Current) -> bool
 }
 
 // Whether the challenger has beaten the match once at most, and its edge is one of its tile's.
-fn challenger_ok(challenger: Challenger) -> bool
+fn challenger_ok(challenger: Option<(TileId, u16, u8)>) -> bool
     ensures { result ≡ State.challenger_ok challenger }
 {
     match challenger {
-        Challenger::Nothing => true,
-        Challenger::Is(tile, edge, count) => {
+        None => true,
+        Some((tile, edge, count)) => {
             if 1 < count {
                 return false;
             }
@@ -47,12 +49,12 @@ pub fn counts_ok(m: Matcher) -> bool
 }
 
 // Whether the matched tile lies in the grid.
-fn key_ok(current: Current, header: Header) -> bool
+fn key_ok(current: Option<Matched>, header: Header) -> bool
     ensures { result ≡ State.key_ok current header }
 {
     match current {
-        Current::Nothing => true,
-        Current::Is(m) => {
+        None => true,
+        Some(m) => {
             let tile = m.tile;
             pack::grid::in_grid(header, tile.key)
         }
@@ -90,11 +92,11 @@ pub fn heading_ok(heading: Heading) -> bool
     }
 }
 
-pub(crate) fn refused(m: Matcher, c: Cache, number: u32) -> Updated
-    ensures { result ≡ State.refused m c number }
+pub(crate) fn refused(m: Matcher, c: Cache, refusal: Refusal) -> Updated
+    ensures { result ≡ State.refused m c refusal }
 {
     Updated {
-        answer: Outcome::Refused(number),
+        answer: Err(refusal),
         matcher: m,
         cache: c,
     }

@@ -22,9 +22,7 @@ use Rattle.predict.specs.declared.Trip.{Trip}
 use Rattle.predict.specs.Vertex.{Along, advanced, vertices, to_end, track_of}
 use Rattle.predict.proofs.VertexLaws.{along_of, vertices_start, vertices_on, vertices_over}
 use Rattle.predict.specs.declared.Walk.{Walk}
-use Rattle.predict.specs.Walk.{with_ending, reached, Onto, enter_look, carried_by, Stride, Run, goes_on, leg_of, along}
-use Rattle.predict.specs.Walk.{run_of, crossed_run, reached_run, driven_to, driven, edge_look, edge_step, walk_to}
-use Rattle.predict.specs.Walk.{first_of, len_of, Entering, entering_of, enter, crossed, follow, followed, walked}
+use Rattle.predict.specs.Walk.{with_ending, reached, Onto, enter_look, carried_by, Stride, Run, goes_on, leg_of, along, run_of, crossed_run, reached_run, driven_to, driven, edge_look, edge_step, walk_to, first_of, len_of, Entering, entering_of, enter, crossed, follow, followed, walked}
 use Rattle.predict.specs.declared.Followed.{Followed}
 use Rattle.predict.specs.declared.Walked.{Walked}
 use Rattle.predict.proofs.Looks.{look_carried}

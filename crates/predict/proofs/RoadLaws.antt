@@ -1,5 +1,7 @@
 -- Two readers that answer the same, while what they carry stays related, give the same road (`forecast_simulates`). Two looks that
 -- agree give the same road where it finishes at the first (`predict_agrees`). The idea: the same of the walk, by cases of the start's one lookup.
+use Rattle.refusal.specs.declared.Refusal.{Refusal}
+use Rattle.std.specs.Prelude.{Result, Ok, Err}
 use Rattle.std.proofs.Common.{Option, Some, None}
 use Prim.Native.Nat.{ℕ}
 use mathlib.Core.Path.{◌≡◌, refl, sym, ap}
@@ -25,8 +27,7 @@ use Rattle.predict.specs.declared.Walk.{Walk}
 use Rattle.predict.specs.Walk.{Run}
 use Rattle.predict.proofs.WalkLaws.{AlikeRun, walk_simulates, walk_agrees}
 use Rattle.predict.specs.declared.Outcome.{Outcome}
-use Rattle.predict.specs.Predict.{outcome_by, outcome, Forecast, forecast_of, trip_of}
-use Rattle.predict.specs.Predict.{road_over, nothing, tile_over, start_look, directed_over, forecast_over}
+use Rattle.predict.specs.Predict.{outcome_by, outcome, Forecast, forecast_of, trip_of, road_over, nothing, tile_over, start_look, directed_over, forecast_over}
 use Rattle.predict.specs.Relied.{is_finished, PredictAgrees}
 
 -- ---- two readers
@@ -56,7 +57,7 @@ module _ {S T : Type 0} (rd : Reader S) (rd' : Reader T) (R : S → T → Type 0
         run_simulates _ _ _ _
         (walk_simulates rd rd' R at found trip (budget n) _ _ (record { walk = refl; track = refl; visited = refl; met = refl; heights = refl; carried = h }) 2000)
 
-    nothing_simulates : (answer : Outcome) (s : S) (t : T) → R s t → (samples behind : List ℤ)
+    nothing_simulates : (answer : Result Outcome Refusal) (s : S) (t : T) → R s t → (samples behind : List ℤ)
         → AlikeForecast R (nothing rd n answer s samples behind) (nothing rd' n answer t samples behind)
     nothing_simulates answer s t h samples behind = record { answer = refl; samples = refl; behind = refl; carried = h }
 
@@ -66,13 +67,13 @@ module _ {S T : Type 0} (rd : Reader S) (rd' : Reader T) (R : S → T → Type 0
       where
         by : (same ok : Bool)
             → AlikeForecast R
-            (cond same (cond ok (road_over rd n trip m forward s bs samples behind) (nothing rd n (Outcome.Refused 10) s samples behind))
-            (nothing rd n Outcome.Rematch s samples behind))
-            (cond same (cond ok (road_over rd' n trip m forward t bs samples behind) (nothing rd' n (Outcome.Refused 10) t samples behind))
-            (nothing rd' n Outcome.Rematch t samples behind))
+            (cond same (cond ok (road_over rd n trip m forward s bs samples behind) (nothing rd n (Err Refusal.BadStart) s samples behind))
+            (nothing rd n (Ok Outcome.Rematch) s samples behind))
+            (cond same (cond ok (road_over rd' n trip m forward t bs samples behind) (nothing rd' n (Err Refusal.BadStart) t samples behind))
+            (nothing rd' n (Ok Outcome.Rematch) t samples behind))
         by true true = road_simulates trip m forward s t h bs samples behind
-        by true false = nothing_simulates (Outcome.Refused 10) s t h samples behind
-        by false ok = nothing_simulates Outcome.Rematch s t h samples behind
+        by true false = nothing_simulates (Err Refusal.BadStart) s t h samples behind
+        by false ok = nothing_simulates (Ok Outcome.Rematch) s t h samples behind
 
     start_simulates : (l : Look) (h : Header) (m : Matched) (forward : Bool) (horizon : Float) (s : S) (t : T) → R s t → rd.at s m.tile.key ≡ l
         → (samples behind : List ℤ)
@@ -80,9 +81,9 @@ module _ {S T : Type 0} (rd : Reader S) (rd' : Reader T) (R : S → T → Type 0
     start_simulates (ready bs) h m forward horizon s t r e samples behind =
         tile_simulates (trip_of h m horizon) m forward (rd.found s m.tile.key) (rd'.found t m.tile.key) (found s t m.tile.key bs r e) bs samples
         behind
-    start_simulates missing h m forward horizon s t r e samples behind = nothing_simulates Outcome.Rematch s t r samples behind
-    start_simulates absent h m forward horizon s t r e samples behind = nothing_simulates (Outcome.Need m.tile.key) s t r samples behind
-    start_simulates stale h m forward horizon s t r e samples behind = nothing_simulates (Outcome.Refused 12) s t r samples behind
+    start_simulates missing h m forward horizon s t r e samples behind = nothing_simulates (Ok Outcome.Rematch) s t r samples behind
+    start_simulates absent h m forward horizon s t r e samples behind = nothing_simulates (Ok (Outcome.Need m.tile.key)) s t r samples behind
+    start_simulates stale h m forward horizon s t r e samples behind = nothing_simulates (Err Refusal.BadState) s t r samples behind
 
     directed_simulates : (forward : Option Bool) (h : Header) (m : Matched) (horizon : Float) (s : S) (t : T) → R s t → (samples behind : List ℤ)
         → AlikeForecast R (directed_over rd n forward h m horizon s samples behind) (directed_over rd' n forward h m horizon t samples behind)
@@ -121,8 +122,8 @@ module _ (one two : TileKey → Look) (agree : Agree one two) (n : ℕ) where
     where
       tile_by : (TileKey → Look) → Bool → Bool → Forecast (List TileKey)
       tile_by at same ok =
-          cond same (cond ok (road_over (plain at) n trip m forward s bs samples behind) (nothing (plain at) n (Outcome.Refused 10) s samples behind))
-          (nothing (plain at) n Outcome.Rematch s samples behind)
+          cond same (cond ok (road_over (plain at) n trip m forward s bs samples behind) (nothing (plain at) n (Err Refusal.BadStart) s samples behind))
+          (nothing (plain at) n (Ok Outcome.Rematch) s samples behind)
 
       by : (same ok : Bool) → is_finished (tile_by one same ok).answer ≡ true → tile_by two same ok ≡ tile_by one same ok
       by true true e = road_agrees trip m forward s bs samples behind e

@@ -25,9 +25,7 @@ use Rattle.predict.specs.Cross.{Ways}
 use Rattle.predict.specs.Decide.{decide}
 use Rattle.predict.proofs.CrossLaws.{Alike, is_settled, up_simulates, over_simulates, cross_settles}
 use Rattle.predict.specs.declared.Walk.{Walk}
-use Rattle.predict.specs.Walk.{with_ending, taken, Onto, enter_look, turned, incoming_of, arrival_of, next_look, carried_by, Stride, Run}
-use Rattle.predict.specs.Walk.{taken_by, onward_by, ways_over, crossed_over, goes_on, leg_of, along}
-use Rattle.predict.specs.Walk.{run_of, crossed_run, reached_run, driven_to, driven, edge_look, edge_step, walk_to}
+use Rattle.predict.specs.Walk.{with_ending, taken, Onto, enter_look, turned, incoming_of, arrival_of, next_look, carried_by, Stride, Run, taken_by, onward_by, ways_over, crossed_over, goes_on, leg_of, along, run_of, crossed_run, reached_run, driven_to, driven, edge_look, edge_step, walk_to}
 
 -- ---- one edge after another
 

@@ -2,9 +2,7 @@
 -- or missing blocks the road; one that is not loaded ends it with its key, and one that no longer passes with 12. `cross_over` is written over
 -- any reader.
 use Rattle.refusal.specs.declared.Refusal.{Refusal}
-use Rattle.std.specs.Prelude.{Result}
-use Rattle.std.specs.Prelude.{Option, Some, None}
-use Rattle.std.specs.Prelude.{ℕ, Bool, true, false, cond, List, ltb, pos, ◌+ℤ◌, get_or}
+use Rattle.std.specs.Prelude.{Result, Option, Some, None, ℕ, Bool, true, false, cond, List, ltb, pos, ◌+ℤ◌, get_or}
 use Rattle.num.specs.Fold.{up_to}
 use Rattle.pack.specs.Grid.{checked_of}
 use Rattle.pack.specs.declared.TileKey.{TileKey}

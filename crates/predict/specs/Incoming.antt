@@ -1,8 +1,7 @@
 -- The points passed last, and the heading at the end of an edge: `predict.rs`, `history` and `incoming`: "The road HEADING_SPAN_M back,
 -- interpolated on the segment that spans it (else the oldest point kept)". Each float operation is rounded once, in the Rust's order. Assumes
 -- nothing.
-use Rattle.std.specs.Prelude.{Option, Some, None}
-use Rattle.std.specs.Prelude.{ℕ, zero, suc, ◌+◌, ◌-◌, Bool, ◌&&◌, cond, List, ◌++◌, ltb, pos, Float, get_or, set, replicate, take, drop}
+use Rattle.std.specs.Prelude.{Option, Some, None, ℕ, zero, suc, ◌+◌, ◌-◌, Bool, ◌&&◌, cond, List, ◌++◌, ltb, pos, Float, get_or, set, replicate, take, drop}
 use Rattle.std.specs.Float.{binary32}
 use Rattle.std.specs.Float.Ieee.{sub, div, lt, le}
 use Rattle.num.specs.Order.{clamp}

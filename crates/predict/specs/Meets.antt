@@ -1,8 +1,7 @@
 -- The tiles that the road touches: "Memory is answered when a 97th tile is met, or when pages pass max(1, page count - 12)" (document 01;
 -- `predict.rs`, `tiles` and `page_budget`). A tile counts once. They stand in 194 numbers: at place i the row + 1, 0 where none stands yet, and at
 -- 96 + i the column; at 192 how many tiles they are, at 193 the pages that they take.
-use Rattle.std.specs.Prelude.{is_some}
-use Rattle.std.specs.Prelude.{ℕ, ◌+◌, ◌-◌, max, Bool, true, false, ◌&&◌, cond, List, eqb, ltb, leb, get_or, set, replicate}
+use Rattle.std.specs.Prelude.{is_some, ℕ, ◌+◌, ◌-◌, max, Bool, true, false, ◌&&◌, cond, List, eqb, ltb, leb, get_or, set, replicate}
 use Rattle.pack.specs.declared.TileKey.{TileKey}
 use Rattle.cache.specs.Search.{lowest}
 

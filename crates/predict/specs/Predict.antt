@@ -2,9 +2,9 @@
 -- shares it. `predict` is it at the cache's look, with what the lookups did to clock and ages. Order (document 01, "Refused"): 12; 9 for the
 -- start's key; without direction Uncertain, before any lookup; the late 12, 5, 6 and 10 of the start; then 12 late or 5 at any lookup of the
 -- walk. Every height of both arrays is given in every case. Any horizon is accepted.
+use Rattle.refusal.specs.Refusal.{number_of}
 use Rattle.refusal.specs.declared.Refusal.{Refusal}
-use Rattle.std.specs.Prelude.{Result}
-use Rattle.std.specs.Prelude.{ℕ, Bool, false, not, cond, List, [], eqb, ℤ, pos, Float, length, Option, Some, None}
+use Rattle.std.specs.Prelude.{Result, Ok, Err, ◌==◌, ℕ, Bool, false, not, cond, List, [], ℤ, pos, Float, length, Option, Some, None}
 use Rattle.std.specs.Float.{binary32}
 use Rattle.std.specs.Float.Ieee.{to_unsigned, mul, div}
 use Rattle.num.specs.Order.{clamp}
@@ -78,18 +78,18 @@ prediction w t end b = record {
 }
 
 -- a walk that still goes on after its last edge is Uncertain
-abbrev pub outcome_by : Ending → Walk → Track → Behind → Outcome
-outcome_by Ending.Going w t b = Outcome.Road (prediction w t End.Uncertain b)
-outcome_by (Ending.Stops end) w t b = Outcome.Road (prediction w t end b)
-outcome_by (Ending.Need key) w t b = Outcome.Need key
-outcome_by Ending.Stale w t b = Outcome.Refused 12
+abbrev pub outcome_by : Ending → Walk → Track → Behind → Result Outcome Refusal
+outcome_by Ending.Going w t b = Ok (Outcome.Road (prediction w t End.Uncertain b))
+outcome_by (Ending.Stops end) w t b = Ok (Outcome.Road (prediction w t end b))
+outcome_by (Ending.Need key) w t b = Ok (Outcome.Need key)
+outcome_by Ending.Stale w t b = Err Refusal.BadState
 
-abbrev pub outcome : Walk → Track → Behind → Outcome
+abbrev pub outcome : Walk → Track → Behind → Result Outcome Refusal
 outcome w t b = outcome_by w.ending w t b
 
 -- an answer, both arrays of heights, and what the lookups carry
 pub record Forecast (S : Type 0) : Type 0 where
-  pub answer : Outcome
+  pub answer : Result Outcome Refusal
   pub samples : List ℤ
   pub behind : List ℤ
   pub carried : S
@@ -97,8 +97,8 @@ pub record Forecast (S : Type 0) : Type 0 where
 abbrev pub forecast_of : {S : Type 0} → Run S → Behind → List ℤ → Forecast S
 forecast_of r b behind = record { answer = outcome r.walk r.track b; samples = r.heights; behind = behind; carried = r.carried }
 
-abbrev pub uncertain : Outcome
-uncertain = Outcome.Road (record { len = 0; behind = 0; behind_m = whole 0; end = End.Uncertain; end_m = whole 0; confidence = 0 })
+abbrev pub uncertain : Result Outcome Refusal
+uncertain = Ok (Outcome.Road (record { len = 0; behind = 0; behind_m = whole 0; end = End.Uncertain; end_m = whole 0; confidence = 0 }))
 
 abbrev pub trip_of : Header → Matched → Float → Trip
 trip_of h m horizon = record { header = h; horizon_m = horizon; z_dm = m.z_dm }
@@ -114,22 +114,22 @@ module _ {S : Type 0} (rd : Reader S) (n : ℕ) where
       forecast_of (walk_over rd trip (budget n) (walk_from m (leg_of trip.header m e forward)) (track_from here p.mark) s p.heights) b.behind b.heights
 
   -- nothing was written
-  abbrev pub nothing : Outcome → S → List ℤ → List ℤ → Forecast S
+  abbrev pub nothing : Result Outcome Refusal → S → List ℤ → List ℤ → Forecast S
   nothing answer s samples behind = record { answer = answer; samples = samples; behind = behind; carried = s }
 
   -- the tile that was found: 6 for another one, then 10
   abbrev pub tile_over : Trip → Matched → Bool → S → List ℕ → List ℤ → List ℤ → Forecast S
   tile_over trip m forward s bs samples behind =
       cond (same_id (Layout.id_of bs) m.tile)
-      (cond (start_ok bs m) (road_over trip m forward s bs samples behind) (nothing (Outcome.Refused 10) s samples behind))
-      (nothing Outcome.Rematch s samples behind)
+      (cond (start_ok bs m) (road_over trip m forward s bs samples behind) (nothing (Err Refusal.BadStart) s samples behind))
+      (nothing (Ok Outcome.Rematch) s samples behind)
 
   abbrev pub start_look : Look → Header → Matched → Bool → Float → S → List ℤ → List ℤ → Forecast S
   start_look (ready bs) h m forward horizon s samples behind =
       tile_over (trip_of h m horizon) m forward (rd.found s m.tile.key) bs samples behind
-  start_look missing h m forward horizon s samples behind = nothing Outcome.Rematch s samples behind
-  start_look absent h m forward horizon s samples behind = nothing (Outcome.Need m.tile.key) s samples behind
-  start_look stale h m forward horizon s samples behind = nothing (Outcome.Refused 12) s samples behind
+  start_look missing h m forward horizon s samples behind = nothing (Ok Outcome.Rematch) s samples behind
+  start_look absent h m forward horizon s samples behind = nothing (Ok (Outcome.Need m.tile.key)) s samples behind
+  start_look stale h m forward horizon s samples behind = nothing (Err Refusal.BadState) s samples behind
 
   abbrev pub start_over : Header → Matched → Bool → Float → S → List ℤ → List ℤ → Forecast S
   start_over h m forward horizon s samples behind = start_look (rd.at s m.tile.key) h m forward horizon s samples behind
@@ -155,14 +155,12 @@ pub record After : Type 0 where
   pub behind : List ℤ
 
 -- on the late 12 the state is the one given
-abbrev pub cache_after : Outcome → Cache → Cache → Cache
-cache_after (Outcome.Road p) c d = d
-cache_after (Outcome.Need key) c d = d
-cache_after Outcome.Rematch c d = d
-cache_after (Outcome.Refused number) c d = cond (eqb number 12) c d
+abbrev pub cache_after : Result Outcome Refusal → Cache → Cache → Cache
+cache_after (Ok outcome) c d = d
+cache_after (Err e) c d = cond (number_of e == 12) c d
 
-abbrev pub refused : Cache → ℕ → Predicted
-refused c number = record { answer = Outcome.Refused number; cache = c }
+abbrev pub refused : Cache → Refusal → Predicted
+refused c e = record { answer = Err e; cache = c }
 
 abbrev pub untouched : Predicted → List ℤ → List ℤ → After
 untouched p samples behind = record { predicted = p; samples = samples; behind = behind }
@@ -179,18 +177,18 @@ predicted_in c arena h m horizon samples behind =
 -- `predict` past number 12's test
 abbrev pub predict_tested : Cache → List ℕ → Header → Matched → Float → List ℤ → List ℤ → After
 predict_tested c arena h m horizon samples behind =
-    cond (in_grid h m.tile.key) (predicted_in c arena h m horizon samples behind) (untouched (refused c 9) samples behind)
+    cond (in_grid h m.tile.key) (predicted_in c arena h m horizon samples behind) (untouched (refused c Refusal.OutsideGrid) samples behind)
 
 unfoldable pub predict : Cache → List ℕ → Header → Matched → Float → List ℤ → List ℤ → After
 predict c arena h m horizon samples behind =
-    cond (cache_ok c h (length arena)) (predict_tested c arena h m horizon samples behind) (untouched (refused c 12) samples behind)
+    cond (cache_ok c h (length arena)) (predict_tested c arena h m horizon samples behind) (untouched (refused c Refusal.BadState) samples behind)
 
 -- ---- the code's
 
 abbrev pub no_direction : Cache → Predicted
 no_direction c = record { answer = uncertain; cache = c }
 
-abbrev pub closed : Cache → List ℕ → Outcome → Predicted
+abbrev pub closed : Cache → List ℕ → Result Outcome Refusal → Predicted
 closed c looks answer = record { answer = answer; cache = cache_after answer c (aged c looks) }
 
 abbrev pub after_of : Cache → Forecast (List ℕ) → After
@@ -205,10 +203,10 @@ from_tile looks arena n trip m forward bs samples behind = tile_over (in_looks a
 -- by the answer of the lookup of the start's tile, with the numbers after it
 abbrev pub started_look : Look → List ℕ → List ℕ → ℕ → Header → Matched → Bool → Float → List ℤ → List ℤ → Forecast (List ℕ)
 started_look (ready bs) looks arena n h m forward horizon samples behind = from_tile looks arena n (trip_of h m horizon) m forward bs samples behind
-started_look missing looks arena n h m forward horizon samples behind = nothing (in_looks arena h.tile) n Outcome.Rematch looks samples behind
+started_look missing looks arena n h m forward horizon samples behind = nothing (in_looks arena h.tile) n (Ok Outcome.Rematch) looks samples behind
 started_look absent looks arena n h m forward horizon samples behind =
-    nothing (in_looks arena h.tile) n (Outcome.Need m.tile.key) looks samples behind
-started_look stale looks arena n h m forward horizon samples behind = nothing (in_looks arena h.tile) n (Outcome.Refused 12) looks samples behind
+    nothing (in_looks arena h.tile) n (Ok (Outcome.Need m.tile.key)) looks samples behind
+started_look stale looks arena n h m forward horizon samples behind = nothing (in_looks arena h.tile) n (Err Refusal.BadState) looks samples behind
 
 unfoldable pub started_by : List ℕ → List ℕ → ℕ → Header → Result Lookup Refusal → Matched → Bool → Float → List ℤ → List ℤ → Forecast (List ℕ)
 started_by looks arena n h answer m forward horizon samples behind = started_look (in_bytes answer arena) looks arena n h m forward horizon samples behind

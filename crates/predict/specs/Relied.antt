@@ -1,5 +1,7 @@
 -- What is claimed of a road over a look.
-use Rattle.std.specs.Prelude.{ℕ, ◌≡◌, Bool, true, false, not, List, eqb, ℤ, Float}
+use Rattle.refusal.specs.declared.Refusal.{Refusal}
+use Rattle.refusal.specs.Refusal.{number_of}
+use Rattle.std.specs.Prelude.{Result, Ok, Err, ◌==◌, ℕ, ◌≡◌, Bool, true, false, not, List, ℤ, Float}
 use Rattle.pack.specs.declared.Header.{Header}
 use Rattle.pack.specs.declared.TileKey.{TileKey}
 use Rattle.cache.specs.Direct.{Look, Agree}
@@ -8,11 +10,11 @@ use Rattle.predict.specs.declared.Outcome.{Outcome}
 use Rattle.predict.specs.Predict.{predict_over}
 
 -- ended with a road, by 6 or by 10 (document 01: "a road is finished where working it out ends other than by 5, 12")
-abbrev pub is_finished : Outcome → Bool
-is_finished (Outcome.Road p) = true
-is_finished (Outcome.Need key) = false
-is_finished Outcome.Rematch = true
-is_finished (Outcome.Refused number) = not (eqb number 12)
+abbrev pub is_finished : Result Outcome Refusal → Bool
+is_finished (Ok (Outcome.Road p)) = true
+is_finished (Ok (Outcome.Need key)) = false
+is_finished (Ok Outcome.Rematch) = true
+is_finished (Err e) = not (number_of e == 12)
 
 -- where it finishes at one look, it gives the same answer and heights, and finds the same keys, at every look that agrees with it
 abbrev pub PredictAgrees : Type 0

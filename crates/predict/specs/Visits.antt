@@ -1,7 +1,6 @@
 -- The edges followed last: `predict.rs`, `visited`. VISITED is 128: past it the oldest goes. They stand in 386 numbers: at place i the edge + 1, 0
 -- where none stands yet; at 128 + i and 256 + i its tile's row and column; at 384 the place that the next one takes; at 385 how many places are taken, the first ones.
-use Rattle.std.specs.Prelude.{is_some}
-use Rattle.std.specs.Prelude.{ℕ, ◌+◌, ◌%◌, max, Bool, ◌&&◌, List, eqb, ltb, get_or, set, replicate}
+use Rattle.std.specs.Prelude.{is_some, ℕ, ◌+◌, ◌%◌, max, Bool, ◌&&◌, List, eqb, ltb, get_or, set, replicate}
 use Rattle.pack.specs.declared.TileKey.{TileKey}
 use Rattle.cache.specs.Search.{lowest}
 

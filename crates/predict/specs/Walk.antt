@@ -3,8 +3,7 @@
 -- loaded ends the walk with its key, one that no longer passes with 12; a missing tile of an edge that is taken ends it with its key too, as in
 -- the Rust.
 use Rattle.refusal.specs.declared.Refusal.{Refusal}
-use Rattle.std.specs.Prelude.{Result, Ok, Err}
-use Rattle.std.specs.Prelude.{ℕ, ◌%◌, Bool, true, false, cond, List, ℤ, Float, length}
+use Rattle.std.specs.Prelude.{Result, Ok, Err, ℕ, ◌%◌, Bool, true, false, cond, List, ℤ, Float, length}
 use Rattle.num.specs.Fold.{up_to}
 use Rattle.pack.specs.declared.Header.{Header}
 use Rattle.pack.specs.declared.TileKey.{TileKey}
@@ -280,13 +279,13 @@ abbrev pub first_of : Result Lookup Refusal → ℕ
 first_of (Ok (Lookup.Ready first len)) = first
 first_of (Ok Lookup.Missing) = 0
 first_of (Ok Lookup.Absent) = 0
-first_of (Err number) = 0
+first_of (Err e) = 0
 
 abbrev pub len_of : Result Lookup Refusal → ℕ
 len_of (Ok (Lookup.Ready first len)) = len
 len_of (Ok Lookup.Missing) = 0
 len_of (Ok Lookup.Absent) = 0
-len_of (Err number) = 0
+len_of (Err e) = 0
 
 -- the walk on its edge, where the tile stands, and the numbers that are lent
 pub record Entering : Type 0 where

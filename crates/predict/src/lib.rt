@@ -36,6 +36,7 @@ use cache::Cache;
 use geo::Point;
 use matcher::{Heading, Matched};
 use pack::{Header, TileKey};
+use refusal::Refusal;
 
 // How many samples are written, and the last road point: its distance, and its height in decimetres.
 #[derive(Clone, Copy)]
@@ -209,18 +210,17 @@ pub struct Prediction {
     pub confidence: u8,
 }
 
-// How it ended: with a road; with a tile that is needed first; with a start whose tile is no longer the start's; refused.
+// How it ended: with a road; with a tile that is needed first; with a start whose tile is no longer the start's.
 #[derive(Clone, Copy)]
 pub enum Outcome {
     Road(Prediction),
     Need(TileKey),
     Rematch,
-    Refused(u32),
 }
 
 #[derive(Clone, Copy)]
 pub struct Predicted {
-    pub answer: Outcome,
+    pub answer: Result<Outcome, Refusal>,
     pub cache: Cache,
 }
 
@@ -240,7 +240,7 @@ pub fn predict(
     ensures behind_after { behind.new ≡ (Predict.predict cache arena.now header start horizon_m samples.old behind.old).behind }
 {
     if !cache::state::cache_ok(cache, header, arena.len()) {
-        return road::refused(cache, 12);
+        return road::refused(cache, Refusal::BadState);
     }
     road::predicted(cache, arena, header, start, horizon_m, samples, behind)
 }

@@ -13,17 +13,17 @@ use pack::Header;
 use refusal::Refusal;
 use tile::Edge;
 
-pub(crate) fn refused(c: Cache, number: u32) -> Predicted
-    ensures { result ≡ Predict.refused c number }
+pub(crate) fn refused(c: Cache, refusal: Refusal) -> Predicted
+    ensures { result ≡ Predict.refused c refusal }
 {
     Predicted {
-        answer: Outcome::Refused(number),
+        answer: Err(refusal),
         cache: c,
     }
 }
 
 // Without a direction there is no road.
-fn no_direction() -> Outcome
+fn no_direction() -> Result<Outcome, Refusal>
     ensures { result ≡ Predict.uncertain }
 {
     let p = Prediction {
@@ -34,7 +34,7 @@ fn no_direction() -> Outcome
         end_m: 0.0,
         confidence: 0,
     };
-    Outcome::Road(p)
+    Ok(Outcome::Road(p))
 }
 
 fn prediction(f: Followed, end: End, b: Behind) -> Prediction
@@ -55,32 +55,36 @@ fn prediction(f: Followed, end: End, b: Behind) -> Prediction
 }
 
 // What a walk answers. One that went on to its last edge is Uncertain.
-fn outcome(f: Followed, b: Behind) -> Outcome
+fn outcome(f: Followed, b: Behind) -> Result<Outcome, Refusal>
     ensures { result ≡ Predict.outcome f.walk f.track b }
 {
     let w = f.walk;
     let ending = w.ending;
     match ending {
-        Ending::Going => Outcome::Road(prediction(f, End::Uncertain, b)),
-        Ending::Stops(end) => Outcome::Road(prediction(f, end, b)),
-        Ending::Need(key) => Outcome::Need(key),
-        Ending::Stale => Outcome::Refused(12),
+        Ending::Going => Ok(Outcome::Road(prediction(f, End::Uncertain, b))),
+        Ending::Stops(end) => Ok(Outcome::Road(prediction(f, end, b))),
+        Ending::Need(key) => Ok(Outcome::Need(key)),
+        Ending::Stale => Err(Refusal::BadState),
     }
 }
 
 // The state afterwards: after a late 12 the one given, else with the clock and the ages that the lookups left.
-fn closed(c: Cache, looks: &[u32; cache::ages::LOOKUPS], answer: Outcome) -> Predicted
+fn closed(
+    c: Cache,
+    looks: &[u32; cache::ages::LOOKUPS],
+    answer: Result<Outcome, Refusal>,
+) -> Predicted
     ensures { result ≡ Predict.closed c looks.now answer }
 {
     match answer {
-        Outcome::Refused(number) => {
-            if number == 12 {
-                return refused(c, 12);
+        Err(refusal) => {
+            if refusal.number() == 12 {
+                return refused(c, refusal);
             }
             let d = cache::ages::aged(c, looks);
             Predicted { answer, cache: d }
         }
-        Outcome::Road(_) | Outcome::Need(_) | Outcome::Rematch => {
+        Ok(_) => {
             let d = cache::ages::aged(c, looks);
             Predicted { answer, cache: d }
         }
@@ -163,7 +167,7 @@ fn road_of(
     bytes: &[u8],
     samples: &mut [i16],
     behind: &mut [i16],
-) -> Outcome
+) -> Result<Outcome, Refusal>
     ensures value { result ≡ (Predict.road_of looks.old arena.now pages trip start forward bytes.now samples.old behind.old).answer }
     ensures looks_after { looks.new ≡ (Predict.road_of looks.old arena.now pages trip start forward bytes.now samples.old behind.old).carried }
     ensures samples_after { samples.new ≡ (Predict.road_of looks.old arena.now pages trip start forward bytes.now samples.old behind.old).samples }
@@ -207,7 +211,7 @@ fn from_tile(
     bytes: &[u8],
     samples: &mut [i16],
     behind: &mut [i16],
-) -> Outcome
+) -> Result<Outcome, Refusal>
     ensures value { result ≡ (Predict.from_tile looks.old arena.now pages trip start forward bytes.now samples.old behind.old).answer }
     ensures looks_after { looks.new ≡ (Predict.from_tile looks.old arena.now pages trip start forward bytes.now samples.old behind.old).carried }
     ensures samples_after { samples.new ≡ (Predict.from_tile looks.old arena.now pages trip start forward bytes.now samples.old behind.old).samples }
@@ -215,10 +219,10 @@ fn from_tile(
 {
     let id = tile::read::id(bytes);
     if !matcher::score::same_id(id, start.tile) {
-        return Outcome::Rematch;
+        return Ok(Outcome::Rematch);
     }
     if !crate::start::start_ok(bytes, start) {
-        return Outcome::Refused(10);
+        return Err(Refusal::BadStart);
     }
     road_of(
         arena, trip, pages, start, forward, looks, bytes, samples, behind,
@@ -237,7 +241,7 @@ fn started_by(
     looks: &mut [u32; cache::ages::LOOKUPS],
     samples: &mut [i16],
     behind: &mut [i16],
-) -> Outcome
+) -> Result<Outcome, Refusal>
     ensures value { result ≡ (Predict.started_by looks.old arena.now pages header answer start forward horizon_m samples.old behind.old).answer }
     ensures looks_after { looks.new ≡ (Predict.started_by looks.old arena.now pages header answer start forward horizon_m samples.old behind.old).carried }
     ensures samples_after { samples.new ≡ (Predict.started_by looks.old arena.now pages header answer start forward horizon_m samples.old behind.old).samples }
@@ -246,9 +250,9 @@ fn started_by(
     let id = start.tile;
     let key = id.key;
     match answer {
-        Ok(Lookup::Missing) => Outcome::Rematch,
-        Ok(Lookup::Absent) => Outcome::Need(key),
-        Err(_) => Outcome::Refused(12),
+        Ok(Lookup::Missing) => Ok(Outcome::Rematch),
+        Ok(Lookup::Absent) => Ok(Outcome::Need(key)),
+        Err(_) => Err(Refusal::BadState),
         Ok(Lookup::Ready(first, len)) => {
             let trip = Trip {
                 header,
@@ -273,7 +277,7 @@ pub fn from_looks(
     horizon_m: f32,
     samples: &mut [i16],
     behind: &mut [i16],
-) -> Outcome
+) -> Result<Outcome, Refusal>
     ensures value { result ≡ (Predict.from_looks looks.old arena.now pages header start horizon_m samples.old behind.old).answer }
     ensures looks_after { looks.new ≡ (Predict.from_looks looks.old arena.now pages header start horizon_m samples.old behind.old).carried }
     ensures samples_after { samples.new ≡ (Predict.from_looks looks.old arena.now pages header start horizon_m samples.old behind.old).samples }
@@ -336,7 +340,7 @@ pub fn predicted(
 {
     let id = start.tile;
     if !pack::grid::in_grid(header, id.key) {
-        return refused(c, 9);
+        return refused(c, Refusal::OutsideGrid);
     }
     directed(c, arena, header, start, horizon_m, samples, behind)
 }

@@ -1,4 +1,4 @@
-// Why a call is refused: a case for each number of the table in include/terrain.h, where 13 and 14 are the writer's own. C and the words see the number.
+// Why a call is refused: a case for each number of the table in include/terrain.h. C and the words see the number.
 #![tactic(auto)]
 
 ghost use Rattle.std.specs.Prelude.{◌≡◌};
@@ -35,7 +35,7 @@ pub enum Refusal {
     BadState,
     // A value given to a writer that a reader would refuse.
     BadValue,
-    // Output too short for the result.
+    // Output too short for the result, or a total past 32 bits.
     NoRoom,
 }
 
@@ -79,7 +79,7 @@ impl fmt::Display for Refusal {
             Refusal::NotAsked => "a delivery that wasn't asked for",
             Refusal::BadState => "a state that no call leaves",
             Refusal::BadValue => "a value that no reader takes",
-            Refusal::NoRoom => "output too short for the result",
+            Refusal::NoRoom => "output too short for the result, or a total past 32 bits",
         };
         f.write_str(words)
     }

@@ -1,8 +1,6 @@
 -- A delivery is refused with 11 exactly where it does not answer the open fetch (`deliver_tested`), and else never (`deliver_number`): in a state that
 -- number 12 does not name the fetch is the header's, or the next read towards the tile that is needed, which lies in the grid.
-use Rattle.std.specs.Prelude.{Option, Some, None}
-use Rattle.refusal.specs.Refusal.{number_of_result}
-use Rattle.std.specs.Prelude.{Result, Ok, Err}
+use Rattle.std.specs.Prelude.{Option, Some, None, Result, Ok, Err}
 use Prim.Native.Nat.{ℕ}
 use mathlib.Core.Path.{◌≡◌, refl, sym, ap, ◌∙◌, subst}
 use mathlib.Core.Bool.{Bool, true, false, ◌&&◌, cond, true≢false}
@@ -10,7 +8,7 @@ use mathlib.Core.List.{List}
 use borrow.Author.Tests.{ltb-true, ltb-false, le-leb, lt-leb}
 use lib.Dec.{eqb, ltb, leb}
 use lib.ListN.{length}
-use Rattle.refusal.specs.Refusal.{number_of}
+use Rattle.refusal.specs.Refusal.{number_of_result, number_of}
 use Rattle.refusal.specs.declared.Refusal.{Refusal}
 use Rattle.pack.specs.Grid.{in_grid}
 use Rattle.pack.specs.Sector.{parse}
@@ -30,7 +28,6 @@ use Rattle.cache.proofs.Below.{and_left, and_right}
 use Rattle.cache.proofs.FromLaws.{next_chunk}
 use Rattle.engine.specs.Calls as Calls
 use Rattle.engine.specs.Deliver.{After, over, arrived, header_failed, header_parsed, header_came, sector_of, fits_header, load_failed, loaded_by, loaded, part_came, need_came_by, delivered_by, delivered}
-use Rattle.engine.specs.Numbers.{number_of_status}
 use Rattle.engine.specs.State.{refused, is_ready, need_ok, pending_ok, reload_limit, engine_ok}
 use Rattle.engine.specs.Steps.{chunk_request, request_of}
 use Rattle.engine.specs.declared.Engine.{Engine}
@@ -43,25 +40,25 @@ use Rattle.refusals.proofs.LoadLaws.{stepped_runs}
 
 -- ---- what the header and a part of a tile answer
 
-either_number : (t : Bool) (x y : Stepped) → number_of_status x.answer ≡ 0 → number_of_status y.answer ≡ 0 → number_of_status (cond t x y).answer ≡ 0
+either_number : (t : Bool) (x y : Stepped) → number_of_result x.answer ≡ 0 → number_of_result y.answer ≡ 0 → number_of_result (cond t x y).answer ≡ 0
 either_number true x y p q = p
 either_number false x y p q = q
 
 module _ (e : Engine) where
-  failed_number : (number : ℕ) → number_of_status (header_failed e number).answer ≡ 0
+  failed_number : (number : ℕ) → number_of_result (header_failed e number).answer ≡ 0
   unfolding header_failed
   failed_number number = either_number (eqb number 1 && ltb e.follower.failures 7) _ _ refl refl
 
-  parsed_number : (x : Result Header Refusal) → number_of_status (header_parsed x e).answer ≡ 0
+  parsed_number : (x : Result Header Refusal) → number_of_result (header_parsed x e).answer ≡ 0
   parsed_number (Ok h) = refl
   parsed_number (Err refusal) = failed_number (number_of refusal)
 
-  header_number : (failure : ℕ) (bs : List ℕ) → number_of_status (header_came e failure bs).answer ≡ 0
+  header_number : (failure : ℕ) (bs : List ℕ) → number_of_result (header_came e failure bs).answer ≡ 0
   unfolding header_came
   header_number failure bs =
       either_number (eqb failure 0) _ _ (parsed_number (parse (sector_of bs))) (failed_number failure)
 
-  loaded_number : (p : Result Progress Refusal) (c : Cache) → number_of_result p ≡ 0 → number_of_status (loaded_by p e c).answer ≡ 0
+  loaded_number : (p : Result Progress Refusal) (c : Cache) → number_of_result p ≡ 0 → number_of_result (loaded_by p e c).answer ≡ 0
   unfolding arrived load_failed
   loaded_number (Ok Progress.Done) c z = refl
   loaded_number (Ok Progress.More) c z = refl
@@ -110,12 +107,12 @@ module _ (e : Engine) (arena : List ℕ) (failure : ℕ) (bs : List ℕ) where
 
   -- refused with 11 where the test fails, and else not
   abbrev Asks : Bool → After → Type 0
-  Asks t x = (x ≡ cond t x (over (refused e 11) arena)) × (t ≡ true → number_of_status x.answer ≡ 0)
+  Asks t x = (x ≡ cond t x (over (refused e Refusal.NotAsked) arena)) × (t ≡ true → number_of_result x.answer ≡ 0)
 
-  no_fetch : Asks false (over (refused e 11) arena)
+  no_fetch : Asks false (over (refused e Refusal.NotAsked) arena)
   no_fetch = (refl, λ t. absurd (true≢false (sym t)))
 
-  asks : (t : Bool) (x : After) → number_of_status x.answer ≡ 0 → Asks t (cond t x (over (refused e 11) arena))
+  asks : (t : Bool) (x : After) → number_of_result x.answer ≡ 0 → Asks t (cond t x (over (refused e Refusal.NotAsked) arena))
   asks true x z = (refl, λ t. z)
   asks false x z = no_fetch
 
@@ -133,7 +130,7 @@ module _ (e : Engine) (arena : List ℕ) (failure : ℕ) (bs : List ℕ) where
         let held : need_ok e.shared (Some k) ≡ true = rw need at need_known in
         let grid : in_grid h₁ k ≡ true = rw (ready_is e.shared.phase ready) at held in
         let x = Loads.stepped c₁ n arena h₁ k failure bs in
-        let is : part_came e arena k failure bs ≡ cond (fits (read_len n) failure (length bs)) (over (loaded e (Loads.told x)) x.arena) (over (refused e 11) arena)
+        let is : part_came e arena k failure bs ≡ cond (fits (read_len n) failure (length bs)) (over (loaded e (Loads.told x)) x.arena) (over (refused e Refusal.NotAsked) arena)
         = rw (← q, part_is e arena k failure bs grid, grid) in
         subst (Asks (fits (read_len n) failure (length bs))) (sym is) (asks _ (over (loaded e (Loads.told x)) x.arena) (loaded_number e x.answer x.cache runs))
 
@@ -177,18 +174,18 @@ module _ (e : Engine) (arena : List ℕ) (failure : ℕ) (bs : List ℕ) where
     open_asks Pending.Chunk p = load_asks c₁.loading p refl
 
   pub deliver_tested : Calls.deliver e arena failure bs
-      ≡ cond (engine_ok e (length arena)) (cond (answers (open_fetch e) failure (length bs)) (delivered e arena failure bs) (over (refused e 11) arena))
-      (over (refused e 12) arena)
+      ≡ cond (engine_ok e (length arena)) (cond (answers (open_fetch e) failure (length bs)) (delivered e arena failure bs) (over (refused e Refusal.NotAsked) arena))
+      (over (refused e Refusal.BadState) arena)
   unfolding Calls.deliver delivered
   deliver_tested = by (engine_ok e (length arena)) refl
     where
-      by : (t : Bool) → engine_ok e (length arena) ≡ t → cond t (delivered_by c₁.pending e arena failure bs) (over (refused e 12) arena)
-          ≡ cond t (cond (answers (open_fetch e) failure (length bs)) (delivered_by c₁.pending e arena failure bs) (over (refused e 11) arena))
-          (over (refused e 12) arena)
+      by : (t : Bool) → engine_ok e (length arena) ≡ t → cond t (delivered_by c₁.pending e arena failure bs) (over (refused e Refusal.BadState) arena)
+          ≡ cond t (cond (answers (open_fetch e) failure (length bs)) (delivered_by c₁.pending e arena failure bs) (over (refused e Refusal.NotAsked) arena))
+          (over (refused e Refusal.BadState) arena)
       by true ok = (open_asks ok c₁.pending refl).0
       by false ok = refl
 
   pub deliver_number : engine_ok e (length arena) ≡ true → answers (open_fetch e) failure (length bs) ≡ true
-      → number_of_status (delivered e arena failure bs).answer ≡ 0
+      → number_of_result (delivered e arena failure bs).answer ≡ 0
   unfolding delivered
   deliver_number ok = (open_asks ok c₁.pending refl).1

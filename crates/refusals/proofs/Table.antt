@@ -9,7 +9,7 @@ use lib.Dec.{ltb, leb}
 use lib.ListN.{length, drop}
 use Rattle.std.specs.Prelude.{Option, Some, None, Result, Ok, Err, is_ok}
 use Rattle.refusal.specs.declared.Refusal.{Refusal}
-use Rattle.refusal.specs.Refusal.{number_of, number_of_result}
+use Rattle.refusal.specs.Refusal.{number_of_result}
 use Rattle.refusal.specs.declared.Refusal.TheVariants.{Unsupported, Corrupt, OutOfRange, OutsideGrid, NotAsked, BadState, BadValue, NoRoom}
 use Rattle.pack.specs.Sector.{rules, is_sum, is_magic, is_version, header_at}
 use Rattle.pack.specs.Sector as Sector
@@ -41,29 +41,21 @@ use Rattle.cache.specs.declared.Cleared.{Cleared}
 use Rattle.matcher.specs.State as Matchers
 use Rattle.matcher.specs.Near as Near
 use Rattle.matcher.specs.Calls as Matched
-use Rattle.matcher.specs.Numbers.{number_of_answer as number_of_nearby, number_of_current_read, number_of_outcome as number_of_match}
-use Rattle.matcher.specs.declared.Answer.TheVariants as Nearby
-use Rattle.matcher.specs.declared.Current.{Current}
-use Rattle.matcher.specs.declared.CurrentRead.TheVariants as CurrentRead
+use Rattle.matcher.specs.Numbers.{number_of_outcome as number_of_match}
 use Rattle.matcher.specs.declared.Heading.{Heading}
 use Rattle.matcher.specs.declared.NearRead.{NearRead}
 use Rattle.matcher.specs.declared.Updated.{Updated}
 use Rattle.predict.specs.Predict as Predict
 use Rattle.predict.specs.Numbers.{number_of_outcome as number_of_road}
+use Rattle.engine.specs.declared.Ahead.{Ahead}
 use Rattle.engine.specs.State.{engine_ok}
 use Rattle.engine.specs.State as Engines
 use Rattle.engine.specs.Publish.{nothing_ahead}
 use Rattle.engine.specs.Steps as Steps
 use Rattle.engine.specs.Deliver as Deliver
 use Rattle.engine.specs.Calls as Engined
-use Rattle.engine.specs.Numbers.{number_of_status, number_of_taken, number_of_known, number_of_heading_read, number_of_count as number_of_held}
-use Rattle.engine.specs.declared.AheadRead.{AheadRead}
 use Rattle.engine.specs.declared.Changed.{Changed}
 use Rattle.engine.specs.declared.Engine.{Engine}
-use Rattle.engine.specs.declared.HeaderRead.{HeaderRead}
-use Rattle.engine.specs.declared.HeadingRead.TheVariants as HeadingRead
-use Rattle.engine.specs.declared.Known.TheVariants as Known
-use Rattle.engine.specs.declared.Count.TheVariants as Held
 use Rattle.engine.specs.declared.Stepped.{Stepped}
 use Rattle.writer.specs.TileWritten as TileWritten
 use Rattle.writer.specs.PackWritten as PackWritten
@@ -77,17 +69,9 @@ use Rattle.refusals.proofs.WorkLaws.{update_works, predict_uncertain, predict_st
 
 -- ---- cores that refuse nothing
 
-current_number : (x : Current) → number_of_current_read (Matched.current_of x) ≡ 0
-current_number Current.Nothing = refl
-current_number (Current.Is m) = refl
-
-heading_number : (x : Heading) → number_of_heading_read (Engined.heading_of x) ≡ 0
+heading_number : (x : Heading) → number_of_result (Engined.heading_of x) ≡ 0
 heading_number Heading.Nothing = refl
 heading_number (Heading.Degrees d) = refl
-
-header_number : (t : Bool) (x y : HeaderRead) → number_of_known x.answer ≡ 0 → number_of_known y.answer ≡ 0 → number_of_known (cond t x y).answer ≡ 0
-header_number true x y p q = p
-header_number false x y p q = q
 
 -- ---- the sector
 
@@ -161,8 +145,8 @@ abbrev Same : Engine → List ℕ → Deliver.After → Type 0
 Same e arena r = (r.engine ≡ e) × (r.arena ≡ arena)
 
 from_step : (e : Engine) (arena pack : List ℕ) (t : Bool) (s : Stepped)
-    → Engined.step_from_by (cond t s (Engines.refused e 12)).answer (cond t s (Engines.refused e 12)) arena pack
-    ≡ cond t (Engined.step_from_by s.answer s arena pack) (Deliver.over (Engines.refused e 12) arena)
+    → Engined.step_from_by (cond t s (Engines.refused e BadState)).answer (cond t s (Engines.refused e BadState)) arena pack
+    ≡ cond t (Engined.step_from_by s.answer s arena pack) (Deliver.over (Engines.refused e BadState) arena)
 from_step e arena pack true s = refl
 from_step e arena pack false s = refl
 
@@ -236,45 +220,42 @@ lines = record {
       (λ n. refl) (λ n. (refl, refl)) (λ z. from_runs c arena h k pack (next_step c k) (sym (still_next c arena h.tile k) ∙ asked_at_lem 2 _ z));
   load_fails = step_fails;
   load_from_fails = from_fails;
-  nearby = λ h p. refuses (λ (r : NearRead). number_of_nearby r.answer) (λ (r : NearRead). r.near ≡ Near.no_keys)
-      (λ e. record { answer = Nearby.Refused (number_of e); near = Near.no_keys }) _ _ _ refl (λ n. refl) (λ n. refl) (λ z. refl);
-  current = λ m. plainly number_of_current_read (λ e. CurrentRead.Refused (number_of e)) _ _ _ refl (λ n. refl) (λ z. current_number m.current);
+  nearby = λ h p. refuses (λ (r : NearRead). number_of_result r.answer) (λ (r : NearRead). r.near ≡ Near.no_keys)
+      (λ e. record { answer = Err e; near = Near.no_keys }) _ _ _ refl (λ n. refl) (λ n. refl) (λ z. refl);
+  current = λ m. by_result _ _ _ refl;
   update = λ m c arena h p heading. tests (λ (r : Updated). number_of_match r.answer) (λ (r : Updated). (r.matcher ≡ m) × (r.cache ≡ c))
-      (λ e. Matchers.refused m c (number_of e)) _ _ _
-      (ap (λ x. cond (Matchers.call_ok m c h (length arena)) x (Matchers.refused m c 12)) (both _ _ (is_point p.lat p.lon) (Matchers.heading_ok heading)))
+      (Matchers.refused m c) _ _ _
+      (ap (λ x. cond (Matchers.call_ok m c h (length arena)) x (Matchers.refused m c BadState)) (both _ _ (is_point p.lat p.lon) (Matchers.heading_ok heading)))
       (λ n. refl) (λ n. (refl, refl));
   updated = λ m c arena h p heading. tests (λ (r : Updated). number_of_match r.answer) (λ (r : Updated). (r.matcher ≡ m) × (r.cache ≡ c))
-      (λ e. Matchers.refused m c (number_of e)) _ _ _ (both _ _ (is_point p.lat p.lon) (Matchers.heading_ok heading)) (λ n. refl) (λ n. (refl, refl));
+      (Matchers.refused m c) _ _ _ (both _ _ (is_point p.lat p.lon) (Matchers.heading_ok heading)) (λ n. refl) (λ n. (refl, refl));
   update_works = update_works;
   predict = λ c arena h m horizon samples behind. tests (λ (r : Predict.After). number_of_road r.predicted.answer)
       (λ (r : Predict.After). (r.predicted.cache ≡ c) × ((r.samples ≡ samples) × (r.behind ≡ behind)))
-      (λ e. Predict.untouched (Predict.refused c (number_of e)) samples behind) _ _ _ refl (λ n. refl) (λ n. (refl, (refl, refl)));
+      (λ e. Predict.untouched (Predict.refused c e) samples behind) _ _ _ refl (λ n. refl) (λ n. (refl, (refl, refl)));
   predicted = λ c arena h m horizon samples behind. tests (λ (r : Predict.After). number_of_road r.predicted.answer)
       (λ (r : Predict.After). (r.predicted.cache ≡ c) × ((r.samples ≡ samples) × (r.behind ≡ behind)))
-      (λ e. Predict.untouched (Predict.refused c (number_of e)) samples behind) _ _ _ refl (λ n. refl) (λ n. (refl, (refl, refl)));
+      (λ e. Predict.untouched (Predict.refused c e) samples behind) _ _ _ refl (λ n. refl) (λ n. (refl, (refl, refl)));
   predict_uncertain = predict_uncertain;
   predict_start = predict_start;
   predict_works = predict_works;
-  fix = λ e arena f. refuses (λ (r : Changed). number_of_taken r.answer) (λ (r : Changed). r.engine ≡ e) (λ e₁. Engines.unchanged e (number_of e₁)) _ _ _ refl (λ n. refl)
+  fix = λ e arena f. refuses (λ (r : Changed). number_of_result r.answer) (λ (r : Changed). r.engine ≡ e) (Engines.unchanged e) _ _ _ refl (λ n. refl)
       (λ n. refl) (λ z. refl);
-  lost = λ e arena. refuses (λ (r : Changed). number_of_taken r.answer) (λ (r : Changed). r.engine ≡ e) (λ e₁. Engines.unchanged e (number_of e₁)) _ _ _ refl (λ n. refl)
+  lost = λ e arena. refuses (λ (r : Changed). number_of_result r.answer) (λ (r : Changed). r.engine ≡ e) (Engines.unchanged e) _ _ _ refl (λ n. refl)
       (λ n. refl) (λ z. refl);
-  reset = λ e arena. refuses (λ (r : Changed). number_of_taken r.answer) (λ (r : Changed). r.engine ≡ e) (λ e₁. Engines.unchanged e (number_of e₁)) _ _ _ refl (λ n. refl)
+  reset = λ e arena. refuses (λ (r : Changed). number_of_result r.answer) (λ (r : Changed). r.engine ≡ e) (Engines.unchanged e) _ _ _ refl (λ n. refl)
       (λ n. refl) (λ z. refl);
-  ahead = λ e arena. refuses (λ (r : AheadRead). number_of_known r.answer) (λ (r : AheadRead). r.ahead ≡ nothing_ahead 0)
-      (λ n. record { answer = Known.Refused (number_of n); ahead = nothing_ahead 0 }) _ _ _ refl (λ n. refl) (λ n. refl) (λ z. refl);
-  header = λ e arena. refuses (λ (r : HeaderRead). number_of_known r.answer) (λ (r : HeaderRead). r.header ≡ Engines.no_header)
-      (λ n. record { answer = Known.Refused (number_of n); header = Engines.no_header }) _ _ _ refl (λ n. refl) (λ n. refl)
-      (λ z. header_number (Engines.is_ready e.shared.phase) _ _ refl refl);
-  heading = λ e arena. plainly number_of_heading_read (λ e. HeadingRead.Refused (number_of e)) _ _ _ refl (λ n. refl) (λ z. heading_number e.follower.sight.heading);
-  engine_loads = λ e arena. plainly number_of_held (λ e. Held.Refused (number_of e)) _ _ _ refl (λ n. refl) (λ z. refl);
-  steps = λ e arena. plainly number_of_held (λ e. Held.Refused (number_of e)) _ _ _ refl (λ n. refl) (λ z. refl);
-  step = λ e arena. tests (λ (r : Stepped). number_of_status r.answer) (λ (r : Stepped). r.engine ≡ e) (λ n. Engines.refused e (number_of n)) _ _ _ refl (λ n. refl) (λ n. refl);
+  ahead = λ e arena. refuses number_of_result (λ (r : Result Ahead Refusal). Engined.ahead_in r ≡ nothing_ahead 0) Err _ _ _ refl (λ n. refl) (λ n. refl) (λ z. refl);
+  header = λ e arena. refuses number_of_result (λ (r : Result (Option Header) Refusal). Engined.header_read r ≡ Engines.no_header) Err _ _ _ refl (λ n. refl) (λ n. refl) (λ z. refl);
+  heading = λ e arena. plainly number_of_result Err _ _ _ refl (λ n. refl) (λ z. heading_number e.follower.sight.heading);
+  engine_loads = λ e arena. by_result _ _ _ refl;
+  steps = λ e arena. by_result _ _ _ refl;
+  step = λ e arena. tests (λ (r : Stepped). number_of_result r.answer) (λ (r : Stepped). r.engine ≡ e) (Engines.refused e) _ _ _ refl (λ n. refl) (λ n. refl);
   step_works = step_works;
-  deliver = λ e arena failure bs. refuses (λ (r : Deliver.After). number_of_status r.answer) (Same e arena) (λ n. Deliver.over (Engines.refused e (number_of n)) arena) _ _ _
+  deliver = λ e arena failure bs. refuses (λ (r : Deliver.After). number_of_result r.answer) (Same e arena) (λ n. Deliver.over (Engines.refused e n) arena) _ _ _
       (deliver_tested e arena failure bs) (λ n. refl) (λ n. (refl, refl))
       (λ z. deliver_number e arena failure bs (asked_at_lem 0 _ z) (asked_at_lem 1 _ z));
-  step_from = λ e arena pack. tests (λ (r : Deliver.After). number_of_status r.answer) (Same e arena) (λ n. Deliver.over (Engines.refused e (number_of n)) arena) _ _ _
+  step_from = λ e arena pack. tests (λ (r : Deliver.After). number_of_result r.answer) (Same e arena) (λ n. Deliver.over (Engines.refused e n) arena) _ _ _
       (from_step e arena pack (engine_ok e (length arena)) (Steps.stepped e arena)) (λ n. refl) (λ n. (refl, refl));
   step_from_works = step_from_works;
   write_tile = λ g out. refuses (λ (r : TileWritten.Written). number_of_result r.answer) (λ (r : TileWritten.Written). r.out ≡ out)

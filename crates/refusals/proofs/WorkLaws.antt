@@ -1,4 +1,5 @@
 -- What the work of a match, a road and a step is refused with: the late 12 leaves all as it was, 5, 6 and 10 all but clock and ages.
+use Rattle.refusal.specs.Refusal.{number_of, number_of_result}
 use Rattle.std.specs.Prelude.{Result, Ok, Err}
 use Rattle.refusal.specs.declared.Refusal.{Refusal}
 use Rattle.std.proofs.Common.{Option, Some, None}
@@ -36,7 +37,6 @@ use Rattle.matcher.specs.Gather.{cache_after, matching_by, outcome, run_over, up
 use Rattle.matcher.specs.Settle.{matched}
 use Rattle.matcher.specs.Score.{same_id}
 use Rattle.matcher.specs.Numbers.{number_of_outcome as number_of_match}
-use Rattle.matcher.specs.declared.Current.{Current}
 use Rattle.matcher.specs.declared.Heading.{Heading}
 use Rattle.matcher.specs.declared.Kept.{Kept}
 use Rattle.matcher.specs.declared.Matched.{Matched}
@@ -64,14 +64,12 @@ use Rattle.predict.specs.declared.ridden.Behind.{Behind}
 use Rattle.engine.specs.Fixes.{place_of}
 use Rattle.engine.specs.Calls as Calls
 use Rattle.engine.specs.Deliver.{After, over, arrived}
-use Rattle.engine.specs.Numbers.{number_of_status}
 use Rattle.engine.specs.State.{refused, need_ok, reload_limit, engine_ok}
 use Rattle.engine.specs.Work.{ended, may_ask, match_ended_by, match_step, road_ended_by, road_step, road_due_by, in_grid_step, at_fix_by, at_fix, worked_by, worked, counted}
 use Rattle.engine.specs.Steps.{chunk_request, request_of, repeated, ready_by, started_by, started, stepped_by, stepped}
 use Rattle.engine.specs.declared.Engine.{Engine}
 use Rattle.engine.specs.declared.Fix.{Fix}
 use Rattle.engine.specs.declared.Follower.{Follower}
-use Rattle.engine.specs.declared.MaybeFix.{MaybeFix}
 use Rattle.engine.specs.declared.Phase.{Phase}
 use Rattle.engine.specs.declared.Status.{Status}
 use Rattle.engine.specs.declared.Stepped.{Stepped}
@@ -88,15 +86,15 @@ use Rattle.refusals.proofs.DeliverLaws.{deliver_number}
 -- ---- a match
 
 -- 12 is the only refusal of the work
-abbrev OnlyStale : MatchOutcome.Outcome → Type 0
-OnlyStale (Found.Found m) = Unit
-OnlyStale Found.Nothing = Unit
-OnlyStale (Found.Need key) = Unit
-OnlyStale (Found.Refused number) = number ≡ 12
+abbrev OnlyStale : Result MatchOutcome.Outcome Refusal → Type 0
+OnlyStale (Ok (Found.Found m)) = Unit
+OnlyStale (Ok Found.Nothing) = Unit
+OnlyStale (Ok (Found.Need key)) = Unit
+OnlyStale (Err refusal) = refusal ≡ BadState
 
-current_stale : (x : Current) → OnlyStale (outcome x)
-current_stale Current.Nothing = tt
-current_stale (Current.Is m) = tt
+current_stale : (x : Option Matched) → OnlyStale (outcome x)
+current_stale None = tt
+current_stale (Some m) = tt
 
 match_stale : (x : Ending) (k : Kept) (m : Matcher) (heading : Heading) → OnlyStale (matching_by x k m heading).answer
 match_stale Ending.All k m heading = current_stale (matched m k heading).current
@@ -115,9 +113,9 @@ module _ (m : Matcher) (c : Cache) (arena : List ℕ) (h : Header) (p : Point) (
   abbrev same_aged : Aged c c
   same_aged = record { slots = refl; count = refl; missing = refl; loading = refl; pending = refl; loads = refl }
 
-  found_works : (x : Current) (n : Matcher) (d : Cache) → MatchWorks (record { answer = outcome x; matcher = n; cache = d })
-  found_works Current.Nothing n d = record { is = refl; as_it_was = λ some. absurd (omega (arith, some)) }
-  found_works (Current.Is f) n d = record { is = refl; as_it_was = λ some. absurd (omega (arith, some)) }
+  found_works : (x : Option Matched) (n : Matcher) (d : Cache) → MatchWorks (record { answer = outcome x; matcher = n; cache = d })
+  found_works None n d = record { is = refl; as_it_was = λ some. absurd (omega (arith, some)) }
+  found_works (Some f) n d = record { is = refl; as_it_was = λ some. absurd (omega (arith, some)) }
 
   pub update_works : MatchWorks (updated m c arena h p heading)
   unfolding updated update_over
@@ -131,11 +129,11 @@ module _ (m : Matcher) (c : Cache) (arena : List ℕ) (h : Header) (p : Point) (
 
 -- ---- a road
 
-abbrev OnlyStart : RoadOutcome.Outcome → Type 0
-OnlyStart (Road.Road p) = Unit
-OnlyStart (Road.Need key) = Unit
-OnlyStart Road.Rematch = Unit
-OnlyStart (Road.Refused number) = (number ≡ 12) ⊎ (number ≡ 10)
+abbrev OnlyStart : Result RoadOutcome.Outcome Refusal → Type 0
+OnlyStart (Ok (Road.Road p)) = Unit
+OnlyStart (Ok (Road.Need key)) = Unit
+OnlyStart (Ok Road.Rematch) = Unit
+OnlyStart (Err refusal) = (refusal ≡ BadState) ⊎ (refusal ≡ BadStart)
 
 walk_start : (x : RoadEnding.Ending) (w : Walk) (t : Track) (b : Behind) → OnlyStart (Predict.outcome_by x w t b)
 walk_start RoadEnds.Going w t b = tt
@@ -184,7 +182,7 @@ module _ (c : Cache) (arena : List ℕ) (h : Header) (m : Matched) (horizon : Fl
   unfolding predicted_in forecast_over
   predicted_start = directed_start (plain at₁) c.pages.count m.forward h m horizon [] samples behind
 
-  abbrev RoadWorks : RoadOutcome.Outcome → Cache → Type 0
+  abbrev RoadWorks : Result RoadOutcome.Outcome Refusal → Cache → Type 0
   RoadWorks x d = Works (12 ∷ 5 ∷ 6 ∷ 10 ∷ []) (number_of_road x) (Aged c d × (number_of_road x ≡ 12 → d ≡ c))
 
   pub predict_works : RoadWorks (predicted_in c arena h m horizon samples behind).predicted.answer (predicted_in c arena h m horizon samples behind).predicted.cache
@@ -193,18 +191,18 @@ module _ (c : Cache) (arena : List ℕ) (h : Header) (m : Matched) (horizon : Fl
       let f = Predict.predict_over at₁ c.pages.count h m horizon samples behind in
       by f.answer _ predicted_start (looked_aged arena h.tile f.carried c)
     where
-      refused_by : (number : ℕ) (d : Cache) → (number ≡ 12) ⊎ (number ≡ 10) → Aged c d → RoadWorks (Road.Refused number) (cond (eqb number 12) c d)
-      refused_by number d (inl q) a = rw q (record {
+      refused_by : (e : Refusal) (d : Cache) → (e ≡ BadState) ⊎ (e ≡ BadStart) → Aged c d → RoadWorks (Err e) (cond (eqb (number_of e) 12) c d)
+      refused_by e d (inl q) a = rw q (record {
         is = refl;
         as_it_was = λ some. (record { slots = refl; count = refl; missing = refl; loading = refl; pending = refl; loads = refl }, λ z. refl);
       })
-      refused_by number d (inr q) a = rw q (record { is = refl; as_it_was = λ some. (a, λ z. absurd (omega (arith, z))) })
+      refused_by e d (inr q) a = rw q (record { is = refl; as_it_was = λ some. (a, λ z. absurd (omega (arith, z))) })
 
-      by : (x : RoadOutcome.Outcome) (d : Cache) → OnlyStart x → Aged c d → RoadWorks x (Predict.cache_after x c d)
-      by (Road.Road p) d s a = record { is = refl; as_it_was = λ some. absurd (omega (arith, some)) }
-      by (Road.Need key) d s a = record { is = refl; as_it_was = λ some. (a, λ z. absurd (omega (arith, z))) }
-      by Road.Rematch d s a = record { is = refl; as_it_was = λ some. (a, λ z. absurd (omega (arith, z))) }
-      by (Road.Refused number) d s a = refused_by number d s a
+      by : (x : Result RoadOutcome.Outcome Refusal) (d : Cache) → OnlyStart x → Aged c d → RoadWorks x (Predict.cache_after x c d)
+      by (Ok (Road.Road p)) d s a = record { is = refl; as_it_was = λ some. absurd (omega (arith, some)) }
+      by (Ok (Road.Need key)) d s a = record { is = refl; as_it_was = λ some. (a, λ z. absurd (omega (arith, z))) }
+      by (Ok Road.Rematch) d s a = record { is = refl; as_it_was = λ some. (a, λ z. absurd (omega (arith, z))) }
+      by (Err e) d s a = refused_by e d s a
 
   pub predict_uncertain : m.forward ≡ None
       → predicted_in c arena h m horizon samples behind ≡ Predict.untouched (Predict.no_direction c) samples behind
@@ -266,8 +264,8 @@ module _ (c : Cache) (arena : List ℕ) (h : Header) (m : Matched) (horizon : Fl
         road b = Predict.road_over (plain at₁) c.pages.count (Predict.trip_of h m horizon) m forward (m.tile.key ∷ []) b samples behind
 
         left : Bool → Bool → Forecast (List TileKey)
-        left a b = cond a (cond b (road bs) (Predict.nothing (plain at₁) c.pages.count (Road.Refused 10) (m.tile.key ∷ []) samples behind))
-            (Predict.nothing (plain at₁) c.pages.count Road.Rematch (m.tile.key ∷ []) samples behind)
+        left a b = cond a (cond b (road bs) (Predict.nothing (plain at₁) c.pages.count (Err Refusal.BadStart) (m.tile.key ∷ []) samples behind))
+            (Predict.nothing (plain at₁) c.pages.count (Ok Road.Rematch) (m.tile.key ∷ []) samples behind)
 
         by : (a b : Bool) → Tests (BadState unless true ∷ NotLoaded unless true ∷ NoStart unless true ∷ NoStart unless a ∷ BadStart unless b ∷ [])
             (number_of_road (left a b).answer)
@@ -288,43 +286,43 @@ module _ (c : Cache) (arena : List ℕ) (h : Header) (m : Matched) (horizon : Fl
 
 module _ (e : Engine) (arena : List ℕ) where
   abbrev Late : Stepped → Type 0
-  Late s = Works (12 ∷ []) (number_of_status s.answer) (s.engine ≡ e)
+  Late s = Works (12 ∷ []) (number_of_result s.answer) (s.engine ≡ e)
 
-  runs : (s : Stepped) → number_of_status s.answer ≡ 0 → Late s
+  runs : (s : Stepped) → number_of_result s.answer ≡ 0 → Late s
   runs s z = record { is = ap (among (12 ∷ [])) z; as_it_was = λ some. absurd (omega (arith, some, z)) }
 
-  late : Late (refused e 12)
+  late : Late (refused e Refusal.BadState)
   late = record { is = refl; as_it_was = λ some. refl }
 
   either : (t : Bool) (x y : Stepped) → Late x → Late y → Late (cond t x y)
   either true x y p q = p
   either false x y p q = q
 
-  asks_number : (t : Bool) → number_of_status (cond t Status.Working Status.Idle) ≡ 0
+  asks_number : (t : Bool) → number_of_result (cond t (Ok Status.Working) (Ok Status.Idle)) ≡ 0
   asks_number true = refl
   asks_number false = refl
 
   module _ (f : Follower) (fix : Fix) where
-    match_late : (x : MatchOutcome.Outcome) (u : Updated) → OnlyStale x → Late (match_ended_by x e f fix u)
-    match_late (Found.Found m) u s = runs (match_ended_by (Found.Found m) e f fix u) refl
-    match_late Found.Nothing u s = runs (match_ended_by Found.Nothing e f fix u) refl
-    match_late (Found.Need key) u s = runs (match_ended_by (Found.Need key) e f fix u) (asks_number (may_ask f.due u.cache.pages.count))
-    match_late (Found.Refused number) u s = rw s late
+    match_late : (x : Result MatchOutcome.Outcome Refusal) (u : Updated) → OnlyStale x → Late (match_ended_by x e f fix u)
+    match_late (Ok (Found.Found m)) u s = runs (match_ended_by (Ok (Found.Found m)) e f fix u) refl
+    match_late (Ok Found.Nothing) u s = runs (match_ended_by (Ok Found.Nothing) e f fix u) refl
+    match_late (Ok (Found.Need key)) u s = runs (match_ended_by (Ok (Found.Need key)) e f fix u) (asks_number (may_ask f.due u.cache.pages.count))
+    match_late (Err number) u s = rw s late
 
-    road_late : (x : RoadOutcome.Outcome) (found : Matched) (y : Predict.After) → OnlyStart x → Late (road_ended_by x e f fix found y)
-    road_late (Road.Road p) found y s = runs (road_ended_by (Road.Road p) e f fix found y) refl
-    road_late (Road.Need key) found y s = runs (road_ended_by (Road.Need key) e f fix found y) refl
-    road_late Road.Rematch found y s = runs (road_ended_by Road.Rematch e f fix found y) refl
-    road_late (Road.Refused number) found y (inl q) = rw q late
-    road_late (Road.Refused number) found y (inr q) = rw q (runs (road_ended_by (Road.Refused 10) e f fix found y) refl)
+    road_late : (x : Result RoadOutcome.Outcome Refusal) (found : Matched) (y : Predict.After) → OnlyStart x → Late (road_ended_by x e f fix found y)
+    road_late (Ok (Road.Road p)) found y s = runs (road_ended_by (Ok (Road.Road p)) e f fix found y) refl
+    road_late (Ok (Road.Need key)) found y s = runs (road_ended_by (Ok (Road.Need key)) e f fix found y) refl
+    road_late (Ok Road.Rematch) found y s = runs (road_ended_by (Ok Road.Rematch) e f fix found y) refl
+    road_late (Err number) found y (inl q) = rw q late
+    road_late (Err number) found y (inr q) = rw q (runs (road_ended_by (Err Refusal.BadStart) e f fix found y) refl)
 
-    due_late : (m : Current) → Late (road_due_by m e arena f fix)
+    due_late : (m : Option Matched) → Late (road_due_by m e arena f fix)
     unfolding road_step
-    due_late (Current.Is found) =
+    due_late (Some found) =
         let x = predicted_in e.shared.cache arena e.shared.header found f.horizon_m (replicate 501 (pos 0)) (replicate 11 (pos 0)) in
         road_late x.predicted.answer found x
         (predicted_start e.shared.cache arena e.shared.header found f.horizon_m (replicate 501 (pos 0)) (replicate 11 (pos 0)))
-    due_late Current.Nothing = runs (road_due_by Current.Nothing e arena f fix) refl
+    due_late None = runs (road_due_by None e arena f fix) refl
 
     grid_late : Late (in_grid_step e arena f fix)
     unfolding match_step
@@ -332,16 +330,16 @@ module _ (e : Engine) (arena : List ℕ) where
         let u = updated f.matcher e.shared.cache arena e.shared.header (place_of fix) f.sight.heading in
         either f.due.matching _ _
         (match_late u.answer u (updated_stale f.matcher e.shared.cache arena e.shared.header (place_of fix) f.sight.heading))
-        (either f.due.road _ _ (due_late f.matcher.current) (runs (ended e e.shared.cache f Status.Idle) refl))
+        (either f.due.road _ _ (due_late f.matcher.current) (runs (ended e e.shared.cache f (Ok Status.Idle)) refl))
 
     fix_late : (k : Option TileKey) → Late (at_fix_by k e arena f fix)
     fix_late (Some key) = grid_late
     fix_late None = runs (at_fix_by None e arena f fix) refl
 
-  work_late : (m : MaybeFix) (f : Follower) → Late (worked_by m e arena f)
+  work_late : (m : Option Fix) (f : Follower) → Late (worked_by m e arena f)
   unfolding at_fix
-  work_late MaybeFix.Nothing f = runs (worked_by MaybeFix.Nothing e arena f) refl
-  work_late (MaybeFix.Is fix) f = fix_late f fix (key_of e.shared.header fix.lat fix.lon)
+  work_late None f = runs (worked_by None e arena f) refl
+  work_late (Some fix) f = fix_late f fix (key_of e.shared.header fix.lat fix.lon)
 
   -- the read towards the tile needed, or that it is settled
   next_late : (key : TileKey) (n : Next) → Late (need_by (fetched e.shared.cache n arena e.shared.header key) n e key)
@@ -401,12 +399,12 @@ module _ (e : Engine) (size : ℕ) (ok : engine_ok e size ≡ true) where
       by true = omega arith
       by false = omega arith
 
-  load_some : (x : Option Loading) (offset len : ℕ) → e.shared.cache.loading ≡ x → chunk_request x ≡ Status.Fetch offset len → 0 < len
+  load_some : (x : Option Loading) (offset len : ℕ) → e.shared.cache.loading ≡ x → chunk_request x ≡ Ok (Status.Fetch offset len) → 0 < len
   load_some None offset len q r = let z : ◌≡◌ {A = ℕ} 0 1 = cc in absurd (omega arith)
   load_some (Some l) offset len q r =
       let is : chunk_len l ≡ len = cc in omega (arith, is, chunk_some l (bytes_left e.shared.cache l (state_is e size ok) q))
 
-  fetch_some : (x : Pending) (offset len : ℕ) → request_of e.shared x ≡ Status.Fetch offset len → 0 < len
+  fetch_some : (x : Pending) (offset len : ℕ) → request_of e.shared x ≡ Ok (Status.Fetch offset len) → 0 < len
   fetch_some Pending.Nothing offset len r = let z : ◌≡◌ {A = ℕ} 0 1 = cc in absurd (omega arith)
   fetch_some Pending.Header offset len r = let is : 512 ≡ len = cc in omega (arith, is)
   fetch_some (Pending.Entry key) offset len r = let is : 8 ≡ len = cc in omega (arith, is)
@@ -423,16 +421,16 @@ module _ (e : Engine) (arena pack : List ℕ) (ok : engine_ok e (length arena) �
   next_ok : engine_ok n₁ (length arena) ≡ true
   next_ok = subst (λ (s : Stepped). engine_ok s.engine (length arena) ≡ true) step_is (step_ok e arena (length arena) ok)
 
-  opens : (offset len : ℕ) → (stepped e arena).answer ≡ Status.Fetch offset len → open_fetch n₁ ≡ Status.Fetch offset len
+  opens : (offset len : ℕ) → (stepped e arena).answer ≡ Ok (Status.Fetch offset len) → open_fetch n₁ ≡ Ok (Status.Fetch offset len)
   opens offset len a =
-      subst (λ (s : Stepped). open_fetch s.engine ≡ Status.Fetch offset len) step_is (step_open e arena (ap (λ (s : Stepped). s.answer) step_is ∙ a))
+      subst (λ (s : Stepped). open_fetch s.engine ≡ Ok (Status.Fetch offset len)) step_is (step_open e arena (ap (λ (s : Stepped). s.answer) step_is ∙ a))
 
-  taken : (failure : ℕ) (bs : List ℕ) → answers (open_fetch n₁) failure (length bs) ≡ true → number_of_status (Calls.deliver n₁ arena failure bs).answer ≡ 0
+  taken : (failure : ℕ) (bs : List ℕ) → answers (open_fetch n₁) failure (length bs) ≡ true → number_of_result (Calls.deliver n₁ arena failure bs).answer ≡ 0
   unfolding Calls.deliver
   taken failure bs a = rw next_ok (deliver_number n₁ arena failure bs next_ok a)
 
-  range_taken : (offset len : ℕ) (x : Result ℕ Refusal) → read pack offset len ≡ x → (stepped e arena).answer ≡ Status.Fetch offset len
-      → number_of_status (Calls.answered_by x n₁ arena len pack).answer ≡ 0
+  range_taken : (offset len : ℕ) (x : Result ℕ Refusal) → read pack offset len ≡ x → (stepped e arena).answer ≡ Ok (Status.Fetch offset len)
+      → number_of_result (Calls.answered_by x n₁ arena len pack).answer ≡ 0
   range_taken offset len (Ok at) r a =
       let there : (at ≡ offset) × (offset + len ≤ length pack) = read_at pack offset len r in
       let size : length (pack_bytes pack at len) ≡ len = simp (length-take, length-drop) (omega arith) in
@@ -442,21 +440,21 @@ module _ (e : Engine) (arena pack : List ℕ) (ok : engine_ok e (length arena) �
       taken 2 [] (rw (opens offset len a) (lt-ltb 0 len some))
 
   abbrev FromWorks : After → Type 0
-  FromWorks r = Works (12 ∷ []) (number_of_status r.answer) ((r.engine ≡ e) × (r.arena ≡ arena))
+  FromWorks r = Works (12 ∷ []) (number_of_result r.answer) ((r.engine ≡ e) × (r.arena ≡ arena))
 
   ends : (s : Stepped) → Late e arena s → FromWorks (over s arena)
   ends s w = record { is = w.is; as_it_was = λ some. (w.as_it_was some, refl) }
 
-  from_by : (x : Status) → (stepped e arena).answer ≡ x → FromWorks (Calls.step_from_by x (stepped e arena) arena pack)
+  from_by : (x : Result Status Refusal) → (stepped e arena).answer ≡ x → FromWorks (Calls.step_from_by x (stepped e arena) arena pack)
   unfolding Calls.answered_from
-  from_by (Status.Fetch offset len) a =
-      let z : number_of_status (Calls.answered_by (read pack offset len) n₁ arena len pack).answer ≡ 0 = range_taken offset len (read pack offset len) refl a in
+  from_by (Ok (Status.Fetch offset len)) a =
+      let z : number_of_result (Calls.answered_by (read pack offset len) n₁ arena len pack).answer ≡ 0 = range_taken offset len (read pack offset len) refl a in
       record { is = ap (among (12 ∷ [])) z; as_it_was = λ some. absurd (omega (arith, some, z)) }
-  from_by Status.Idle a = ends (stepped e arena) (step_works e arena ok)
-  from_by Status.Working a = ends (stepped e arena) (step_works e arena ok)
-  from_by Status.NoPack a = ends (stepped e arena) (step_works e arena ok)
-  from_by Status.OffMap a = ends (stepped e arena) (step_works e arena ok)
-  from_by (Status.Refused number) a = ends (stepped e arena) (step_works e arena ok)
+  from_by (Ok Status.Idle) a = ends (stepped e arena) (step_works e arena ok)
+  from_by (Ok Status.Working) a = ends (stepped e arena) (step_works e arena ok)
+  from_by (Ok Status.NoPack) a = ends (stepped e arena) (step_works e arena ok)
+  from_by (Ok Status.OffMap) a = ends (stepped e arena) (step_works e arena ok)
+  from_by (Err number) a = ends (stepped e arena) (step_works e arena ok)
 
   pub step_from_works : FromWorks (Calls.step_from_by (stepped e arena).answer (stepped e arena) arena pack)
   step_from_works = from_by (stepped e arena).answer refl

@@ -1,5 +1,5 @@
 -- The refusals of every public function, as one table. Number 12 goes first (only a ready run that no longer passes `Tile::parse` waits for its lookup),
--- then 11, 8, 9, 7, then the order of the Rust; 13 and 14 are the writer's. A line has a function's causes in this order, each by its refusal and the
+-- then 11, 8, 9, 7, then the order of the Rust; 13 and 14 are last. A line has a function's causes in this order, each by its refusal and the
 -- definition of its crate that says what is asked; the number of the answer (`number_of..`); what is as it was where the call is refused; and what it does
 -- where it is not. `Refuses`: these are all its refusals. `Tests`: these are tested before its work, and `Works` has the numbers that the work is refused
 -- with. `lines` of proofs/Table proves it.
@@ -9,12 +9,10 @@
 -- by numbers taken out of the cache, `ages::look_up` the late 12 of `get`, `gather::made` and `searched` those of `updated`, `road::from_looks` those of
 -- `predicted` but 9. What the engine makes of 1, 2, 3 and 4 (Working, NoPack) is `Deliver.delivered`, and which key goes with 5 the core's own answer. The
 -- functions on words and for C have definitions over these (crates words and terrain); `fetch::request` of no fetch, or of a chunk without a load, is 12.
-use Rattle.std.specs.Prelude.{Err}
-use Rattle.std.specs.Prelude.{Option, Result, Ok}
 use Rattle.refusal.specs.Refusal.{number_of_result}
 use Rattle.refusal.specs.declared.Refusal.{Refusal}
 use Rattle.refusal.specs.declared.Refusal.TheVariants.{Media, PastPack, Unsupported, Corrupt, NotLoaded, NoStart, PastTile, OutOfRange, OutsideGrid, BadStart, NotAsked, BadState, BadValue, NoRoom}
-use Rattle.std.specs.Prelude.{ℕ, ◌+◌, max, ◌≡◌, Bool, true, false, ◌&&◌, ◌||◌, cond, List, [], ◌∷◌, ◌++◌, not, eqb, leb, Float, ℤ, length, drop, Some, None}
+use Rattle.std.specs.Prelude.{Err, Option, Result, Ok, ℕ, ◌+◌, max, ◌≡◌, Bool, true, false, ◌&&◌, ◌||◌, cond, List, [], ◌∷◌, ◌++◌, not, eqb, leb, Float, ℤ, length, drop, Some, None}
 use Rattle.num.specs.Order.{is_finite}
 use Rattle.pack.specs.Bytes.{u32_at}
 use Rattle.pack.specs.Offsets as At
@@ -56,8 +54,7 @@ use Rattle.matcher.specs.Score.{same_id}
 use Rattle.matcher.specs.Near as Near
 use Rattle.matcher.specs.Gather as Gather
 use Rattle.matcher.specs.Calls as Matched
-use Rattle.matcher.specs.Numbers.{number_of_answer as number_of_nearby, number_of_current_read, number_of_outcome as number_of_match}
-use Rattle.matcher.specs.declared.Answer.TheVariants as Nearby
+use Rattle.matcher.specs.Numbers.{number_of_outcome as number_of_match}
 use Rattle.matcher.specs.declared.Matcher.{Matcher}
 use Rattle.matcher.specs.declared.Heading.{Heading}
 use Rattle.matcher.specs.declared.Matched as Match
@@ -72,11 +69,8 @@ use Rattle.engine.specs.Steps.{request_of}
 use Rattle.engine.specs.Steps as Steps
 use Rattle.engine.specs.Deliver as Deliver
 use Rattle.engine.specs.Calls as Engined
-use Rattle.engine.specs.Numbers.{number_of_status, number_of_taken, number_of_known, number_of_heading_read, number_of_count as number_of_held}
 use Rattle.engine.specs.declared.Engine.{Engine}
 use Rattle.engine.specs.declared.Fix.{Fix}
-use Rattle.engine.specs.declared.Known.TheVariants as Known
-use Rattle.engine.specs.declared.Count.TheVariants as Held
 use Rattle.engine.specs.declared.Status.{Status}
 use Rattle.writer.specs.TileWritten.{Given, tile_good, tile_length, tile_bytes}
 use Rattle.writer.specs.TileWritten as TileWritten
@@ -136,18 +130,18 @@ starts_within stale m = true
 abbrev pub in_pack : Result (Option (ℕ × ℕ)) Refusal → List ℕ → Bool
 in_pack (Ok (Some (offset, len))) pack = leb (offset + len) (length pack)
 in_pack (Ok None) pack = true
-in_pack (Err number) pack = true
+in_pack (Err e) pack = true
 
 -- 11: the fetch that is open, told as a step repeats it, is answered by its bytes, or by failure 1 or 2; where none is open nothing answers
-abbrev pub answers : Status → ℕ → ℕ → Bool
-answers (Status.Fetch offset len) failure bytes = fits len failure bytes
-answers Status.Idle failure bytes = false
-answers Status.Working failure bytes = false
-answers Status.NoPack failure bytes = false
-answers Status.OffMap failure bytes = false
-answers (Status.Refused number) failure bytes = false
+abbrev pub answers : Result Status Refusal → ℕ → ℕ → Bool
+answers (Ok (Status.Fetch offset len)) failure bytes = fits len failure bytes
+answers (Ok Status.Idle) failure bytes = false
+answers (Ok Status.Working) failure bytes = false
+answers (Ok Status.NoPack) failure bytes = false
+answers (Ok Status.OffMap) failure bytes = false
+answers (Err e) failure bytes = false
 
-abbrev pub open_fetch : Engine → Status
+abbrev pub open_fetch : Engine → Result Status Refusal
 open_fetch e = request_of e.shared e.shared.cache.pending
 
 -- ---- the table
@@ -254,10 +248,10 @@ pub record Refusals : Type 0 where
       (number_of_progress r.answer) ((r.cache ≡ Loads.dropped c) × (r.arena ≡ arena)) NothingMore
   -- matcher
   pub nearby : (h : Header) (p : Point) → let r = Matched.nearby h p in
-      Refuses (BadState unless rules h ∷ OutOfRange unless is_point p.lat p.lon ∷ []) (number_of_nearby r.answer) (r.near ≡ Near.no_keys)
-      (r ≡ record { answer = Nearby.Accepted; near = Near.near_of h p })
+      Refuses (BadState unless rules h ∷ OutOfRange unless is_point p.lat p.lon ∷ []) (number_of_result r.answer) (r.near ≡ Near.no_keys)
+      (r ≡ record { answer = Ok tt; near = Near.near_of h p })
   pub current : (m : Matcher) → let r = Matched.current m in
-      Refuses (BadState unless counts_ok m ∷ []) (number_of_current_read r) NothingLent (r ≡ Matched.current_of m.current)
+      Refuses (BadState unless counts_ok m ∷ []) (number_of_result r) NothingLent (r ≡ Ok m.current)
   -- then of each tile around the fix the late 12 and 5
   pub update : (m : Matcher) (c : Cache) (arena : List ℕ) (h : Header) (p : Point) (heading : Heading) → let r = Matched.update m c arena h p heading in
       Tests (BadState unless call_ok m c h (length arena) ∷ OutOfRange unless is_point p.lat p.lon ∷ OutOfRange unless heading_ok heading ∷ [])
@@ -299,42 +293,40 @@ pub record Refusals : Type 0 where
       (Aged c r.predicted.cache × (number_of_road r.predicted.answer ≡ 12 → r.predicted.cache ≡ c))
   -- engine
   pub fix : (e : Engine) (arena : List ℕ) (f : Fix) → let r = Engined.fix e arena f in
-      Refuses (BadState unless engine_ok e (length arena) ∷ OutOfRange unless is_point f.lat f.lon ∷ []) (number_of_taken r.answer) (r.engine ≡ e)
+      Refuses (BadState unless engine_ok e (length arena) ∷ OutOfRange unless is_point f.lat f.lon ∷ []) (number_of_result r.answer) (r.engine ≡ e)
       (r ≡ Engines.followed e (Followers.fixed e.follower f))
   pub lost : (e : Engine) (arena : List ℕ) → let r = Engined.lost e arena in
-      Refuses (BadState unless engine_ok e (length arena) ∷ []) (number_of_taken r.answer) (r.engine ≡ e)
+      Refuses (BadState unless engine_ok e (length arena) ∷ []) (number_of_result r.answer) (r.engine ≡ e)
       (r ≡ Engines.followed e (Followers.lost e.follower))
   pub reset : (e : Engine) (arena : List ℕ) → let r = Engined.reset e arena in
-      Refuses (BadState unless engine_ok e (length arena) ∷ []) (number_of_taken r.answer) (r.engine ≡ e) (r ≡ Engines.forgotten e)
+      Refuses (BadState unless engine_ok e (length arena) ∷ []) (number_of_result r.answer) (r.engine ≡ e) (r ≡ Engines.forgotten e)
   pub ahead : (e : Engine) (arena : List ℕ) → let r = Engined.ahead e arena in
-      Refuses (BadState unless engine_ok e (length arena) ∷ []) (number_of_known r.answer) (r.ahead ≡ nothing_ahead 0)
-      (r ≡ record { answer = Known.Is; ahead = e.follower.ahead })
+      Refuses (BadState unless engine_ok e (length arena) ∷ []) (number_of_result r) (Engined.ahead_in r ≡ nothing_ahead 0)
+      (r ≡ Ok e.follower.ahead)
   pub header : (e : Engine) (arena : List ℕ) → let r = Engined.header e arena in
-      Refuses (BadState unless engine_ok e (length arena) ∷ []) (number_of_known r.answer) (r.header ≡ Engines.no_header)
-      (r
-      ≡ cond (Engines.is_ready e.shared.phase) (record { answer = Known.Is; header = e.shared.header })
-      (record { answer = Known.Nothing; header = Engines.no_header }))
+      Refuses (BadState unless engine_ok e (length arena) ∷ []) (number_of_result r) (Engined.header_read r ≡ Engines.no_header)
+      (r ≡ Ok (cond (Engines.is_ready e.shared.phase) (Some e.shared.header) None))
   pub heading : (e : Engine) (arena : List ℕ) → let r = Engined.heading e arena in
-      Refuses (BadState unless engine_ok e (length arena) ∷ []) (number_of_heading_read r) NothingLent (r ≡ Engined.heading_of e.follower.sight.heading)
+      Refuses (BadState unless engine_ok e (length arena) ∷ []) (number_of_result r) NothingLent (r ≡ Engined.heading_of e.follower.sight.heading)
   pub engine_loads : (e : Engine) (arena : List ℕ) → let r = Engined.loads e arena in
-      Refuses (BadState unless engine_ok e (length arena) ∷ []) (number_of_held r) NothingLent (r ≡ Held.Is e.shared.cache.loads)
+      Refuses (BadState unless engine_ok e (length arena) ∷ []) (number_of_result r) NothingLent (r ≡ Ok e.shared.cache.loads)
   pub steps : (e : Engine) (arena : List ℕ) → let r = Engined.steps e arena in
-      Refuses (BadState unless engine_ok e (length arena) ∷ []) (number_of_held r) NothingLent (r ≡ Held.Is e.follower.steps)
+      Refuses (BadState unless engine_ok e (length arena) ∷ []) (number_of_result r) NothingLent (r ≡ Ok e.follower.steps)
   -- then the late 12 of a lookup
   pub step : (e : Engine) (arena : List ℕ) → let r = Engined.step e arena in
-      Tests (BadState unless engine_ok e (length arena) ∷ []) (number_of_status r.answer) (r.engine ≡ e) (r ≡ Steps.stepped e arena)
+      Tests (BadState unless engine_ok e (length arena) ∷ []) (number_of_result r.answer) (r.engine ≡ e) (r ≡ Steps.stepped e arena)
   pub step_works : (e : Engine) (arena : List ℕ) → engine_ok e (length arena) ≡ true → let r = Steps.stepped e arena in
-      Works (12 ∷ []) (number_of_status r.answer) (r.engine ≡ e)
+      Works (12 ∷ []) (number_of_result r.answer) (r.engine ≡ e)
   pub deliver : (e : Engine) (arena : List ℕ) (failure : ℕ) (bs : List ℕ) → let r = Engined.deliver e arena failure bs in
-      Refuses (BadState unless engine_ok e (length arena) ∷ NotAsked unless answers (open_fetch e) failure (length bs) ∷ []) (number_of_status r.answer)
+      Refuses (BadState unless engine_ok e (length arena) ∷ NotAsked unless answers (open_fetch e) failure (length bs) ∷ []) (number_of_result r.answer)
       ((r.engine ≡ e) × (r.arena ≡ arena)) (r ≡ Deliver.delivered e arena failure bs)
   -- a step, and where it fetches the delivery
   pub step_from : (e : Engine) (arena pack : List ℕ) → let r = Engined.step_from e arena pack in
-      Tests (BadState unless engine_ok e (length arena) ∷ []) (number_of_status r.answer) ((r.engine ≡ e) × (r.arena ≡ arena))
+      Tests (BadState unless engine_ok e (length arena) ∷ []) (number_of_result r.answer) ((r.engine ≡ e) × (r.arena ≡ arena))
       (r ≡ Engined.step_from_by (Steps.stepped e arena).answer (Steps.stepped e arena) arena pack)
   pub step_from_works : (e : Engine) (arena pack : List ℕ) → engine_ok e (length arena) ≡ true →
       let r = Engined.step_from_by (Steps.stepped e arena).answer (Steps.stepped e arena) arena pack in
-      Works (12 ∷ []) (number_of_status r.answer) ((r.engine ≡ e) × (r.arena ≡ arena))
+      Works (12 ∷ []) (number_of_result r.answer) ((r.engine ≡ e) × (r.arena ≡ arena))
   -- writer
   pub write_tile : (g : Given) (out : List ℕ) → let r = TileWritten.tile g out in
       Refuses (BadValue unless tile_good g ∷ NoRoom unless leb (tile_length g) (length out) ∷ []) (number_of_result r.answer) (r.out ≡ out)

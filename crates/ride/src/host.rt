@@ -1,5 +1,6 @@
 // The host's side of an engine: it answers each fetch from the pack's file.
-use engine::{Engine, Fix, Status, Stepped, Taken};
+use engine::{Engine, Fix, Status, Stepped};
+use refusal::Refusal;
 use std::fs::File;
 use std::os::unix::fs::FileExt;
 
@@ -29,7 +30,7 @@ pub struct Ride {
 // How a step ended, and what it left.
 #[derive(Clone, Copy)]
 pub struct Turned {
-    pub status: Status,
+    pub status: Result<Status, Refusal>,
     pub ride: Ride,
 }
 
@@ -105,7 +106,7 @@ fn turn(card: Card<'_>, r: Ride, arena: &mut [u8]) -> Turned {
     let s = e.step(&arena[..]);
     let answer = s.answer;
     match answer {
-        Status::Fetch(offset, len) => {
+        Ok(Status::Fetch(offset, len)) => {
             let engine = s.engine;
             let open = Ride {
                 engine,
@@ -113,33 +114,27 @@ fn turn(card: Card<'_>, r: Ride, arena: &mut [u8]) -> Turned {
             };
             answered(card, open, arena, offset, len)
         }
-        Status::Idle | Status::Working | Status::NoPack | Status::OffMap | Status::Refused(_) =>
-            turn_of(s, r.reads),
+        _ => turn_of(s, r.reads),
     }
 }
 
-fn is_working(status: Status) -> bool {
-    match status {
-        Status::Working | Status::Fetch(_, _) => true,
-        Status::Idle | Status::NoPack | Status::OffMap | Status::Refused(_) => false,
-    }
+fn is_working(status: Result<Status, Refusal>) -> bool {
+    matches!(status, Ok(Status::Working | Status::Fetch(_, _)))
 }
 
 // Steps until one leaves nothing to do, or there were too many.
 pub fn settled(card: Card<'_>, r: Ride, arena: &mut [u8]) -> Turned {
     let mut t = Turned {
-        status: Status::Working,
+        status: Ok(Status::Working),
         ride: r,
     };
-    let mut left = STEPS;
-    while 0 < left {
+    for _ in 0..STEPS {
         let ride = t.ride;
         t = turn(card, ride, arena);
         let status = t.status;
         if !is_working(status) {
             return t;
         }
-        left -= 1;
     }
     t
 }
@@ -155,10 +150,10 @@ pub fn driven(card: Card<'_>, r: Ride, arena: &mut [u8], fix: Fix) -> Turned {
         reads: r.reads,
     };
     match answer {
-        Taken::Refused(number) => Turned {
-            status: Status::Refused(number),
+        Err(refusal) => Turned {
+            status: Err(refusal),
             ride,
         },
-        Taken::Done => settled(card, ride, arena),
+        Ok(()) => settled(card, ride, arena),
     }
 }

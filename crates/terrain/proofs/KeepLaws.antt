@@ -1,5 +1,7 @@
 -- A refused call leaves the words, and the arena, as they were: where the words are no engine's by definition, else since the engine's own refused call leaves the engine (`refused_same` of
 -- the engine's states), whose words they are.
+use Rattle.refusal.specs.declared.Refusal.{Refusal}
+use Rattle.std.specs.Prelude.{Result, Ok, Err}
 use Prim.Native.Nat.{ℕ}
 use mathlib.Core.Path.{◌≡◌, refl, ap, ◌∙◌}
 use mathlib.Core.Bool.{Bool, true, false, cond}
@@ -12,24 +14,23 @@ use Rattle.engine.specs.declared.Changed.{Changed}
 use Rattle.engine.specs.declared.Fix.{Fix}
 use Rattle.engine.specs.declared.Status.{Status}
 use Rattle.engine.specs.declared.Stepped.{Stepped}
-use Rattle.engine.specs.declared.Taken.{Taken}
 use Rattle.engine_states.specs.Refused.{is_refused, is_taken}
 use Rattle.engine_states.proofs.RefusedSame.{refused_same}
 use Rattle.terrain.specs.Host as Host
 use Rattle.words.specs.Words.{words, engine_of, accepted}
 use Rattle.words.proofs.WordsLaws.{words_engine}
 
-taken_not : (t : Taken) → Host.taken_number t ≢ 0 → is_taken t ≡ false
-taken_not Taken.Done n = absurd (n refl)
-taken_not (Taken.Refused k) n = refl
+taken_not : (t : Result Unit Refusal) → Host.taken_number t ≢ 0 → is_taken t ≡ false
+taken_not (Ok tt) n = absurd (n refl)
+taken_not (Err k) n = refl
 
-refused_is : (s : Status) → (Host.status_told s).status ≡ 5 → is_refused s ≡ true
-refused_is Status.Idle h = absurd (omega (arith, h))
-refused_is Status.Working h = absurd (omega (arith, h))
-refused_is Status.NoPack h = absurd (omega (arith, h))
-refused_is Status.OffMap h = absurd (omega (arith, h))
-refused_is (Status.Fetch o l) h = absurd (omega (arith, h))
-refused_is (Status.Refused k) h = refl
+refused_is : (s : Result Status Refusal) → (Host.status_told s).status ≡ 5 → is_refused s ≡ true
+refused_is (Ok Status.Idle) h = absurd (omega (arith, h))
+refused_is (Ok Status.Working) h = absurd (omega (arith, h))
+refused_is (Ok Status.NoPack) h = absurd (omega (arith, h))
+refused_is (Ok Status.OffMap) h = absurd (omega (arith, h))
+refused_is (Ok (Status.Fetch o l)) h = absurd (omega (arith, h))
+refused_is (Err k) h = refl
 
 module _ (ws : List ℕ) where
   changed_keeps : (c : Changed) (b : Bool) → accepted ws ≡ b → (is_taken c.answer ≡ false → c.engine ≡ engine_of ws)

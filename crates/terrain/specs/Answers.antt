@@ -1,8 +1,7 @@
 -- How the leaves' answers that are an enum or a truth value cross to C.
-use Rattle.std.specs.Prelude.{Ok, Err, Float, Result}
 use Rattle.refusal.specs.Refusal.{number_of}
 use Rattle.refusal.specs.declared.Refusal.{Refusal}
-use Rattle.std.specs.Prelude.{ℕ, Bool, true, false, ℤ, pos, negsuc}
+use Rattle.std.specs.Prelude.{Ok, Err, Float, Result, ℕ, Bool, true, false, ℤ, pos, negsuc}
 use Rattle.std.specs.declared.cmp.Ordering.{Ordering}
 use Rattle.std.specs.declared.cmp.Ordering.TheVariants.{Less, Equal, Greater}
 use Rattle.terrain.specs.Records.{zero}

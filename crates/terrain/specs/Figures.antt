@@ -1,11 +1,10 @@
 -- How the geometry's answers cross to C: structs by value that begin with a number, 0 where the result follows, else the refusal's, and zeros follow.
-use Rattle.std.specs.Prelude.{ℤ, Float, Result, Ok, Err}
 use Rattle.geo.specs.declared.Point.{Point}
 use Rattle.geo.specs.declared.Metres.{Metres}
 use Rattle.geo.specs.declared.Projected.{Projected}
 use Rattle.refusal.specs.Refusal.{number_of}
 use Rattle.refusal.specs.declared.Refusal.{Refusal}
-use Rattle.std.specs.Prelude.{pos}
+use Rattle.std.specs.Prelude.{ℤ, Float, Result, Ok, Err, pos}
 use Rattle.terrain.specs.Records.{zero, point_out, metres_out, no_point, no_metres}
 use Rattle.terrain.specs.declared.figures.TerrainEdgePoint.{TerrainEdgePoint}
 use Rattle.terrain.specs.declared.figures.TerrainMetresRead.{TerrainMetresRead}

@@ -1,6 +1,5 @@
 -- How the format's answers cross to C: structs by value that begin with a number, 0 where the result follows, 256 where there is none, else the refusal's. Where there is no
 -- result its fields are zero.
-use Rattle.std.specs.Prelude.{Option, Some, None, Result, Ok, Err}
 use Rattle.pack.specs.declared.TileKey.{TileKey}
 use Rattle.pack.specs.declared.Header.{Header}
 use Rattle.pack.specs.declared.Corner.{Corner}
@@ -11,7 +10,7 @@ use Rattle.tile.specs.declared.Incident.{Incident}
 use Rattle.std.specs.declared.ops.Range.{Range}
 use Rattle.refusal.specs.Refusal.{number_of, number_of_result}
 use Rattle.refusal.specs.declared.Refusal.{Refusal}
-use Rattle.std.specs.Prelude.{ℕ, false, pos}
+use Rattle.std.specs.Prelude.{Option, Some, None, Result, Ok, Err, ℕ, false, pos}
 use Rattle.pack.specs.Sector.{header_in}
 use Rattle.terrain.specs.Records.{header_out, key_out, node_out, edge_out, no_key, no_node, no_edge}
 use Rattle.terrain.specs.declared.format.TerrainRange.{TerrainRange}

@@ -1,25 +1,21 @@
 -- The engine's calls on words. Words that are no engine's are refused with 12, and then nothing lent is changed; else the call is the engine's own (`Calls` of the engine), on the
 -- engine that the words are, and what it leaves is written as words again.
-use Rattle.std.specs.Prelude.{ℕ, cond, List, ℤ, pos, Float}
+use Rattle.refusal.specs.Refusal.{number_of, number_of_result}
+use Rattle.refusal.specs.declared.Refusal.{Refusal}
+use Rattle.std.specs.Prelude.{Option, Some, None, Result, Ok, Err, Bool, true, false, ℕ, cond, List, ℤ, pos, Float}
 use Rattle.std.specs.Float.{binary32}
 use Rattle.std.specs.Float.Ieee.{of_bits}
 use Rattle.pack.specs.declared.Header.{Header}
-use Rattle.matcher.specs.declared.Current.{Current}
 use Rattle.matcher.specs.declared.Matched.{Matched}
 use Rattle.engine.specs.Calls as Calls
 use Rattle.engine.specs.Deliver.{After}
 use Rattle.engine.specs.Publish.{on_road, nothing_ahead}
 use Rattle.engine.specs.State.{no_header}
 use Rattle.engine.specs.declared.Ahead.{Ahead}
-use Rattle.engine.specs.declared.AheadRead.{AheadRead}
 use Rattle.engine.specs.declared.Changed.{Changed}
-use Rattle.engine.specs.declared.Count.{Count}
 use Rattle.engine.specs.declared.Fix.{Fix}
-use Rattle.engine.specs.declared.HeadingRead.{HeadingRead}
-use Rattle.engine.specs.declared.Known.{Known}
 use Rattle.engine.specs.declared.Status.{Status}
 use Rattle.engine.specs.declared.Stepped.{Stepped}
-use Rattle.engine.specs.declared.Taken.{Taken}
 use Rattle.terrain.specs.declared.host.AheadTold.{AheadTold}
 use Rattle.terrain.specs.declared.host.CountTold.{CountTold}
 use Rattle.terrain.specs.declared.host.FixGiven.{FixGiven}
@@ -31,41 +27,40 @@ use Rattle.words.specs.Words.{words, engine_of, accepted, bit, end_word, forward
 
 -- ---- how answers cross
 
-abbrev pub taken_number : Taken → ℕ
-taken_number Taken.Done = 0
-taken_number (Taken.Refused number) = number
+abbrev pub taken_number : Result Unit Refusal → ℕ
+taken_number r = number_of_result r
 
 abbrev pub told : ℕ → ℕ → StepTold
 told number status = record { number = number; status = status; offset = 0; len = 0 }
 
 -- 0 Idle, 1 Working, 2 NoPack, 3 OffMap, 4 Fetch, 5 refused
-abbrev pub status_told : Status → StepTold
-status_told Status.Idle = told 0 0
-status_told Status.Working = told 0 1
-status_told Status.NoPack = told 0 2
-status_told Status.OffMap = told 0 3
-status_told (Status.Fetch offset len) = record { number = 0; status = 4; offset = offset; len = len }
-status_told (Status.Refused number) = told number 5
+abbrev pub status_told : Result Status Refusal → StepTold
+status_told (Ok Status.Idle) = told 0 0
+status_told (Ok Status.Working) = told 0 1
+status_told (Ok Status.NoPack) = told 0 2
+status_told (Ok Status.OffMap) = told 0 3
+status_told (Ok (Status.Fetch offset len)) = record { number = 0; status = 4; offset = offset; len = len }
+status_told (Err e) = told (number_of e) 5
 
-abbrev pub count_told : Count → CountTold
-count_told (Count.Is n) = record { number = 0; count = n }
-count_told (Count.Refused number) = record { number = number; count = 0 }
+abbrev pub count_told : Result ℕ Refusal → CountTold
+count_told (Ok n) = record { number = 0; count = n }
+count_told (Err e) = record { number = number_of e; count = 0 }
 
 -- the number, and 1 where there is what was asked for
-abbrev pub known_told : Known → CountTold
-known_told Known.Nothing = record { number = 0; count = 0 }
-known_told Known.Is = record { number = 0; count = 1 }
-known_told (Known.Refused number) = record { number = number; count = 0 }
+abbrev pub known_told : Result Bool Refusal → CountTold
+known_told (Ok false) = record { number = 0; count = 0 }
+known_told (Ok true) = record { number = 0; count = 1 }
+known_told (Err e) = record { number = number_of e; count = 0 }
 
-abbrev pub heading_told : HeadingRead → HeadingTold
-heading_told HeadingRead.Nothing = record { number = 0; known = 0; degrees = of_bits binary32 0 }
-heading_told (HeadingRead.Degrees d) = record { number = 0; known = 1; degrees = d }
-heading_told (HeadingRead.Refused number) = record { number = number; known = 0; degrees = of_bits binary32 0 }
+abbrev pub heading_told : Result (Option Float) Refusal → HeadingTold
+heading_told (Ok None) = record { number = 0; known = 0; degrees = of_bits binary32 0 }
+heading_told (Ok (Some d)) = record { number = 0; known = 1; degrees = d }
+heading_told (Err e) = record { number = number_of e; known = 0; degrees = of_bits binary32 0 }
 
-abbrev pub header_told : CountTold → Header → HeaderTold
-header_told k h = record {
-  number = k.number;
-  known = k.count;
+abbrev pub header_record : ℕ → ℕ → Header → HeaderTold
+header_record number known h = record {
+  number = number;
+  known = known;
   tile = h.tile;
   south = h.south;
   west = h.west;
@@ -79,6 +74,12 @@ header_told k h = record {
   attribution_offset = h.attribution_offset;
   attribution_len = h.attribution_len;
 }
+
+-- zeros stand beside a refusal, and where the header is not read yet
+abbrev pub header_told : Result (Option Header) Refusal → HeaderTold
+header_told (Ok None) = header_record 0 0 no_header
+header_told (Ok (Some h)) = header_record 0 1 h
+header_told (Err e) = header_record (number_of e) 0 no_header
 
 -- a match; zeros where there is none
 abbrev pub matched_told : Matched → MatchTold
@@ -119,9 +120,9 @@ unmatched = record {
   ridden_m = of_bits binary32 0;
 }
 
-abbrev pub current_told : Current → MatchTold
-current_told Current.Nothing = unmatched
-current_told (Current.Is m) = matched_told m
+abbrev pub current_told : Option Matched → MatchTold
+current_told None = unmatched
+current_told (Some m) = matched_told m
 
 unfoldable pub road_told : ℕ → Ahead → AheadTold
 road_told number a = record {
@@ -205,24 +206,22 @@ step_from ws arena pack = cond (accepted ws) (delivered (Calls.step_from (engine
 
 -- ---- what is held
 
-abbrev pub ahead_told : AheadRead → AheadTold
-ahead_told a = road_told (known_told a.answer).number a.ahead
+-- an empty road stands beside a refusal
+abbrev pub ahead_told : Result Ahead Refusal → AheadTold
+ahead_told (Ok a) = road_told 0 a
+ahead_told (Err e) = road_told (number_of e) (nothing_ahead 0)
 
 unfoldable pub ahead : List ℕ → List ℕ → AheadTold
-ahead ws arena = cond (accepted ws) (ahead_told (Calls.ahead (engine_of ws) arena)) (road_told 12 (nothing_ahead 0))
+ahead ws arena = cond (accepted ws) (ahead_told (Calls.ahead (engine_of ws) arena)) (ahead_told (Err Refusal.BadState))
 
 unfoldable pub header : List ℕ → List ℕ → HeaderTold
-header ws arena =
-    cond
-    (accepted ws)
-    (header_told (known_told (Calls.header (engine_of ws) arena).answer) (Calls.header (engine_of ws) arena).header)
-    (header_told (known_told (Known.Refused 12)) no_header)
+header ws arena = cond (accepted ws) (header_told (Calls.header (engine_of ws) arena)) (header_told (Err Refusal.BadState))
 
 unfoldable pub heading : List ℕ → List ℕ → HeadingTold
-heading ws arena = cond (accepted ws) (heading_told (Calls.heading (engine_of ws) arena)) (heading_told (HeadingRead.Refused 12))
+heading ws arena = cond (accepted ws) (heading_told (Calls.heading (engine_of ws) arena)) (heading_told (Err Refusal.BadState))
 
 unfoldable pub loads : List ℕ → List ℕ → CountTold
-loads ws arena = cond (accepted ws) (count_told (Calls.loads (engine_of ws) arena)) (count_told (Count.Refused 12))
+loads ws arena = cond (accepted ws) (count_told (Calls.loads (engine_of ws) arena)) (count_told (Err Refusal.BadState))
 
 unfoldable pub steps : List ℕ → List ℕ → CountTold
-steps ws arena = cond (accepted ws) (count_told (Calls.steps (engine_of ws) arena)) (count_told (Count.Refused 12))
+steps ws arena = cond (accepted ws) (count_told (Calls.steps (engine_of ws) arena)) (count_told (Err Refusal.BadState))

@@ -1,8 +1,7 @@
 -- The cache's calls on the cache in an engine's words: decoded, the library's own definition, encoded. Words that no engine has are refused with 12 and stay as they were.
 use Rattle.refusal.specs.Refusal.{number_of, number_of_result}
 use Rattle.refusal.specs.declared.Refusal.{Refusal}
-use Rattle.std.specs.Prelude.{Option, Some, None, Result, Ok, Err}
-use Rattle.std.specs.Prelude.{ℕ, cond, List}
+use Rattle.std.specs.Prelude.{Option, Some, None, Result, Ok, Err, ℕ, cond, List}
 use Rattle.pack.specs.declared.Header.{Header}
 use Rattle.pack.specs.declared.TileKey.{TileKey}
 use Rattle.cache.specs.Calls as Calls

@@ -1,15 +1,14 @@
 -- The matcher's and predict's calls for C, decoded, the library's own definition, encoded. A matcher is 22 words of its own, laid out as an engine's (specs/Words); a match goes by value,
 -- and is refused with 12 where its flag does not say one or its direction is none of the three. Words that nothing has are refused with 12 and stay as they were.
-use Rattle.std.specs.Prelude.{Option, Some, None}
+use Rattle.refusal.specs.Refusal.{number_of, number_of_result}
+use Rattle.refusal.specs.declared.Refusal.{Refusal}
 use Rattle.pack.specs.declared.TileKey.{TileKey}
-use Rattle.std.specs.Prelude.{ℕ, Bool, ◌&&◌, cond, List, [], ◌∷◌, eqb, leb, ltb, ℤ, Float}
+use Rattle.std.specs.Prelude.{Option, Some, None, Result, Ok, Err, ℕ, Bool, ◌&&◌, cond, List, [], ◌∷◌, eqb, leb, ltb, ℤ, Float}
 use Rattle.pack.specs.declared.Header.{Header}
 use Rattle.geo.specs.declared.Point.{Point}
 use Rattle.matcher.specs.Calls as Calls
 use Rattle.matcher.specs.State as State
 use Rattle.matcher.specs.Near.{key_at}
-use Rattle.matcher.specs.declared.Answer.{Answer}
-use Rattle.matcher.specs.declared.CurrentRead.{CurrentRead}
 use Rattle.matcher.specs.declared.Heading.{Heading}
 use Rattle.matcher.specs.declared.Matched.{Matched}
 use Rattle.matcher.specs.declared.NearKey.{NearKey}
@@ -59,11 +58,10 @@ given m = record {
 unfoldable pub is_matcher : List ℕ → Bool
 is_matcher ms = same_words (matcher_words (matcher_of ms 0)) ms
 
--- ---- answers: a number, the variant's place in its enum, and the variant's fields
+-- ---- answers: a number; which answer it is, counted from 0, the refusal last; and what it holds
 
-abbrev pub answer_number : Answer → ℕ
-answer_number Answer.Accepted = 0
-answer_number (Answer.Refused n) = n
+abbrev pub answer_number : Result Unit Refusal → ℕ
+answer_number r = number_of_result r
 
 abbrev pub near_key_by : Option TileKey → TerrainKey
 near_key_by None = no_key
@@ -78,19 +76,19 @@ near_keys n = near_key_by (key_at n 0) ∷ near_key_by (key_at n 1) ∷ near_key
 abbrev pub near_out : NearRead → TerrainNear
 near_out r = record { number = answer_number r.answer; len = r.near.len; keys = near_keys r.near }
 
-abbrev pub current_out : CurrentRead → TerrainCurrent
-current_out CurrentRead.Nothing = record { number = 256; matched = unmatched }
-current_out (CurrentRead.Is m) = record { number = 0; matched = matched_told m }
-current_out (CurrentRead.Refused n) = record { number = n; matched = unmatched }
+abbrev pub current_out : Result (Option Matched) Refusal → TerrainCurrent
+current_out (Ok None) = record { number = 256; matched = unmatched }
+current_out (Ok (Some m)) = record { number = 0; matched = matched_told m }
+current_out (Err e) = record { number = number_of e; matched = unmatched }
 
 abbrev pub no_match : ℕ → ℕ → TerrainKey → TerrainUpdated
 no_match number outcome key = record { number = number; outcome = outcome; matched = unmatched; key = key }
 
-abbrev pub updated_out : Matching.Outcome → TerrainUpdated
-updated_out (Matching'.Found m) = record { number = 0; outcome = 0; matched = matched_told m; key = no_key }
-updated_out Matching'.Nothing = no_match 256 1 no_key
-updated_out (Matching'.Need k) = no_match 5 2 (key_out k)
-updated_out (Matching'.Refused n) = no_match n 3 no_key
+abbrev pub updated_out : Result Matching.Outcome Refusal → TerrainUpdated
+updated_out (Ok (Matching'.Found m)) = record { number = 0; outcome = 0; matched = matched_told m; key = no_key }
+updated_out (Ok Matching'.Nothing) = no_match 256 1 no_key
+updated_out (Ok (Matching'.Need k)) = no_match 5 2 (key_out k)
+updated_out (Err e) = no_match (number_of e) 3 no_key
 
 abbrev pub no_road : ℕ → ℕ → TerrainKey → TerrainPredicted
 no_road number outcome key = record {
@@ -118,16 +116,16 @@ road p = record {
   confidence = p.confidence;
 }
 
-abbrev pub predicted_out : Road.Outcome → TerrainPredicted
-predicted_out (Road'.Road p) = road p
-predicted_out (Road'.Need k) = no_road 5 1 (key_out k)
-predicted_out Road'.Rematch = no_road 6 2 no_key
-predicted_out (Road'.Refused n) = no_road n 3 no_key
+abbrev pub predicted_out : Result Road.Outcome Refusal → TerrainPredicted
+predicted_out (Ok (Road'.Road p)) = road p
+predicted_out (Ok (Road'.Need k)) = no_road 5 1 (key_out k)
+predicted_out (Ok Road'.Rematch) = no_road 6 2 no_key
+predicted_out (Err e) = no_road (number_of e) 3 no_key
 
 -- ---- the calls
 
-abbrev pub current : List ℕ → CurrentRead
-current ms = cond (is_matcher ms) (Calls.current (matcher_of ms 0)) (CurrentRead.Refused 12)
+abbrev pub current : List ℕ → Result (Option Matched) Refusal
+current ms = cond (is_matcher ms) (Calls.current (matcher_of ms 0)) (Err Refusal.BadState)
 
 abbrev pub heading_of : TerrainHeading → Heading
 heading_of h = cond (eqb h.known 1) (Heading.Degrees h.degrees) Heading.Nothing
@@ -138,7 +136,7 @@ can_match ms ws heading = is_matcher ms && (leb heading.known 1 && accepted ws)
 
 abbrev pub update : List ℕ → List ℕ → List ℕ → Header → Point → TerrainHeading → Updated
 update ms ws arena h fix heading =
-    cond (can_match ms ws heading) (Calls.update (matcher_of ms 0) (cache_of ws) arena h fix (heading_of heading)) (State.refused (matcher_of ms 0) (cache_of ws) 12)
+    cond (can_match ms ws heading) (Calls.update (matcher_of ms 0) (cache_of ws) arena h fix (heading_of heading)) (State.refused (matcher_of ms 0) (cache_of ws) Refusal.BadState)
 
 abbrev pub matcher_after : List ℕ → List ℕ → List ℕ → Header → Point → TerrainHeading → List ℕ
 matcher_after ms ws arena h fix heading = cond (can_match ms ws heading) (matcher_words (update ms ws arena h fix heading).matcher) ms
@@ -150,7 +148,7 @@ abbrev pub predict : List ℕ → List ℕ → Header → MatchTold → Float �
 predict ws arena h start horizon samples behind =
     cond (is_given start && accepted ws)
     (Predict.predict (cache_of ws) arena h (given start) horizon samples behind)
-    (record { predicted = record { answer = Road'.Refused 12; cache = cache_of ws }; samples = samples; behind = behind })
+    (record { predicted = record { answer = Err Refusal.BadState; cache = cache_of ws }; samples = samples; behind = behind })
 
 abbrev pub predict_after : List ℕ → List ℕ → Header → MatchTold → Float → List ℤ → List ℤ → List ℕ
 predict_after ws arena h start horizon samples behind =

@@ -7,10 +7,8 @@ ghost use Rattle.engine.specs.State as State;
 ghost use Rattle.terrain.specs.Host as Host;
 ghost use Rattle.words.specs.Words as Words;
 
-use engine::{
-    Ahead, Changed, Count, Current, End, Engine, Fix, Header, HeadingRead, Known, Matched, Status,
-    Taken,
-};
+use engine::{Ahead, Changed, End, Engine, Fix, Header, Matched, Status};
+use refusal::Refusal;
 
 // ---- what crosses by value
 
@@ -110,12 +108,12 @@ pub struct CountTold {
 
 // ---- answers
 
-fn taken(answer: Taken) -> u32
+fn taken(answer: Result<(), Refusal>) -> u32
     ensures { result ≡ Host.taken_number answer }
 {
     match answer {
-        Taken::Done => 0,
-        Taken::Refused(number) => number,
+        Ok(()) => 0,
+        Err(e) => e.number(),
     }
 }
 
@@ -141,46 +139,33 @@ fn told(number: u32, status: u32) -> StepTold
     }
 }
 
-fn status(answer: Status) -> StepTold
+fn status(answer: Result<Status, Refusal>) -> StepTold
     ensures { result ≡ Host.status_told answer }
 {
     match answer {
-        Status::Idle => told(0, 0),
-        Status::Working => told(0, 1),
-        Status::NoPack => told(0, 2),
-        Status::OffMap => told(0, 3),
-        Status::Fetch(offset, len) => StepTold {
+        Ok(Status::Idle) => told(0, 0),
+        Ok(Status::Working) => told(0, 1),
+        Ok(Status::NoPack) => told(0, 2),
+        Ok(Status::OffMap) => told(0, 3),
+        Ok(Status::Fetch(offset, len)) => StepTold {
             number: 0,
             status: 4,
             offset,
             len: len as u64,
         },
-        Status::Refused(number) => told(number, 5),
+        Err(e) => told(e.number(), 5),
     }
 }
 
-fn known(answer: Known) -> CountTold
-    ensures { result ≡ Host.known_told answer }
-{
-    match answer {
-        Known::Nothing => CountTold {
-            number: 0,
-            count: 0,
-        },
-        Known::Is => CountTold {
-            number: 0,
-            count: 1,
-        },
-        Known::Refused(number) => CountTold { number, count: 0 },
-    }
-}
-
-fn counted(answer: Count) -> CountTold
+fn counted(answer: Result<u32, Refusal>) -> CountTold
     ensures { result ≡ Host.count_told answer }
 {
     match answer {
-        Count::Is(count) => CountTold { number: 0, count },
-        Count::Refused(number) => CountTold { number, count: 0 },
+        Ok(count) => CountTold { number: 0, count },
+        Err(e) => CountTold {
+            number: e.number(),
+            count: 0,
+        },
     }
 }
 
@@ -245,12 +230,12 @@ pub(crate) fn unmatched() -> MatchTold
     }
 }
 
-fn current(c: Current) -> MatchTold
+fn current(c: Option<Matched>) -> MatchTold
     ensures { result ≡ Host.current_told c }
 {
     match c {
-        Current::Nothing => unmatched(),
-        Current::Is(m) => matched(m),
+        None => unmatched(),
+        Some(m) => matched(m),
     }
 }
 
@@ -311,7 +296,7 @@ fn no_road() -> Ahead
     Ahead {
         generation: 0,
         at_ms: 0,
-        matched: Current::Nothing,
+        matched: None,
         start_z_dm: 0,
         samples,
         len: 0,
@@ -324,12 +309,21 @@ fn no_road() -> Ahead
     }
 }
 
-fn header(known: CountTold, h: Header) -> HeaderTold
-    ensures { result ≡ Host.header_told known h }
+fn ahead(answer: Result<Ahead, Refusal>) -> AheadTold
+    ensures { result ≡ Host.ahead_told answer }
+{
+    match answer {
+        Ok(a) => road(0, a),
+        Err(e) => road(e.number(), no_road()),
+    }
+}
+
+fn header_record(number: u32, known: u32, h: Header) -> HeaderTold
+    ensures { result ≡ Host.header_record number known h }
 {
     HeaderTold {
-        number: known.number,
-        known: known.count,
+        number,
+        known,
         tile: h.tile,
         south: h.south,
         west: h.west,
@@ -345,6 +339,7 @@ fn header(known: CountTold, h: Header) -> HeaderTold
     }
 }
 
+// The header that stands where none is known.
 fn no_header() -> Header
     ensures { result ≡ State.no_header }
 {
@@ -361,6 +356,16 @@ fn no_header() -> Header
         created: 0,
         attribution_offset: 0,
         attribution_len: 0,
+    }
+}
+
+fn header(answer: Result<Option<Header>, Refusal>) -> HeaderTold
+    ensures { result ≡ Host.header_told answer }
+{
+    match answer {
+        Ok(None) => header_record(0, 0, no_header()),
+        Ok(Some(h)) => header_record(0, 1, h),
+        Err(e) => header_record(e.number(), 0, no_header()),
     }
 }
 
@@ -476,15 +481,10 @@ pub fn terrain_ahead(engine: &[u32; words::WORDS], arena: &[u8]) -> AheadTold
 {
     let r = words::read(engine);
     if !r.accepted {
-        let none = no_road();
-        return road(12, none);
+        return ahead(Err(Refusal::BadState));
     }
     let e = r.engine;
-    let a = e.ahead(arena);
-    let answer = a.answer;
-    let k = known(answer);
-    let ahead = a.ahead;
-    road(k.number, ahead)
+    ahead(e.ahead(arena))
 }
 
 // The pack's header, once it was read.
@@ -493,16 +493,10 @@ pub fn terrain_header(engine: &[u32; words::WORDS], arena: &[u8]) -> HeaderTold
 {
     let r = words::read(engine);
     if !r.accepted {
-        let k = known(Known::Refused(12));
-        let none = no_header();
-        return header(k, none);
+        return header(Err(Refusal::BadState));
     }
     let e = r.engine;
-    let h = e.header(arena);
-    let answer = h.answer;
-    let k = known(answer);
-    let of_pack = h.header;
-    header(k, of_pack)
+    header(e.header(arena))
 }
 
 // The bearing of travel, if the rider moved lately.
@@ -521,22 +515,22 @@ pub fn terrain_heading(engine: &[u32; words::WORDS], arena: &[u8]) -> HeadingTol
     heading(e.heading(arena))
 }
 
-fn heading(answer: HeadingRead) -> HeadingTold
+fn heading(answer: Result<Option<f32>, Refusal>) -> HeadingTold
     ensures { result ≡ Host.heading_told answer }
 {
     match answer {
-        HeadingRead::Nothing => HeadingTold {
+        Ok(None) => HeadingTold {
             number: 0,
             known: 0,
             degrees: 0.0,
         },
-        HeadingRead::Degrees(degrees) => HeadingTold {
+        Ok(Some(degrees)) => HeadingTold {
             number: 0,
             known: 1,
             degrees,
         },
-        HeadingRead::Refused(number) => HeadingTold {
-            number,
+        Err(e) => HeadingTold {
+            number: e.number(),
             known: 0,
             degrees: 0.0,
         },
@@ -549,7 +543,7 @@ pub fn terrain_loads(engine: &[u32; words::WORDS], arena: &[u8]) -> CountTold
 {
     let r = words::read(engine);
     if !r.accepted {
-        return counted(Count::Refused(12));
+        return counted(Err(Refusal::BadState));
     }
     let e = r.engine;
     counted(e.loads(arena))
@@ -561,7 +555,7 @@ pub fn terrain_steps(engine: &[u32; words::WORDS], arena: &[u8]) -> CountTold
 {
     let r = words::read(engine);
     if !r.accepted {
-        return counted(Count::Refused(12));
+        return counted(Err(Refusal::BadState));
     }
     let e = r.engine;
     counted(e.steps(arena))

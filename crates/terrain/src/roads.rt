@@ -9,10 +9,10 @@ ghost use Rattle.terrain.specs.Roads as Roads;
 
 use crate::host::MatchTold;
 use crate::records::{TerrainHeader, TerrainKey, TerrainPoint};
-use matcher::{
-    Answer, Challenger, Current, CurrentRead, Heading, Matched, Matcher, NearKey, NearKeys,
-};
+use matcher::{Heading, Matched, Matcher, NearKey, NearKeys};
 use predict::Prediction;
+use refusal::Refusal;
+use tile::TileId;
 
 pub const MATCHER_WORDS: usize = 22;
 
@@ -127,28 +127,28 @@ fn matched_in(ws: &[u32; MATCHER_WORDS]) -> Matched
     }
 }
 
-fn current_in(ws: &[u32; MATCHER_WORDS]) -> Current
+fn current_in(ws: &[u32; MATCHER_WORDS]) -> Option<Matched>
     ensures { result ≡ Words.current_by (Words.from ws.now 0) }
 {
     if ws[0] == 1 {
         let found = matched_in(ws);
-        return Current::Is(found);
+        return Some(found);
     }
-    Current::Nothing
+    None
 }
 
-fn challenger_in(ws: &[u32; MATCHER_WORDS]) -> Challenger
+fn challenger_in(ws: &[u32; MATCHER_WORDS]) -> Option<(TileId, u16, u8)>
     ensures { result ≡ Words.challenger_by (Words.from ws.now 14) }
 {
     if ws[14] == 1 {
         let tile = words::decode::id(ws[15], ws[16], ws[17]);
-        return Challenger::Is(
+        return Some((
             tile,
             words::decode::short(ws[18]),
             words::decode::byte(ws[19]),
-        );
+        ));
     }
-    Challenger::Nothing
+    None
 }
 
 fn matcher_in(ws: &[u32; MATCHER_WORDS]) -> Matcher
@@ -229,29 +229,29 @@ fn near_keys(near: NearKeys) -> [TerrainKey; 4]
     [a, b, c, d]
 }
 
-fn answer_number(answer: Answer) -> u32
+fn answer_number(answer: Result<(), Refusal>) -> u32
     ensures { result ≡ Roads.answer_number answer }
 {
     match answer {
-        Answer::Accepted => 0,
-        Answer::Refused(n) => n,
+        Ok(()) => 0,
+        Err(e) => e.number(),
     }
 }
 
-fn current_out(answer: CurrentRead) -> TerrainCurrent
+fn current_out(answer: Result<Option<Matched>, Refusal>) -> TerrainCurrent
     ensures { result ≡ Roads.current_out answer }
 {
     match answer {
-        CurrentRead::Nothing => TerrainCurrent {
+        Ok(None) => TerrainCurrent {
             number: 256,
             matched: crate::host::unmatched(),
         },
-        CurrentRead::Is(m) => TerrainCurrent {
+        Ok(Some(m)) => TerrainCurrent {
             number: 0,
             matched: crate::host::matched(m),
         },
-        CurrentRead::Refused(n) => TerrainCurrent {
-            number: n,
+        Err(e) => TerrainCurrent {
+            number: e.number(),
             matched: crate::host::unmatched(),
         },
     }
@@ -268,20 +268,20 @@ fn no_match(number: u32, outcome: u32, key: TerrainKey) -> TerrainUpdated
     }
 }
 
-fn updated_out(answer: matcher::Outcome) -> TerrainUpdated
+fn updated_out(answer: Result<matcher::Outcome, Refusal>) -> TerrainUpdated
     ensures { result ≡ Roads.updated_out answer }
 {
     let none = TerrainKey { row: 0, col: 0 };
     match answer {
-        matcher::Outcome::Found(m) => TerrainUpdated {
+        Ok(matcher::Outcome::Found(m)) => TerrainUpdated {
             number: 0,
             outcome: 0,
             matched: crate::host::matched(m),
             key: none,
         },
-        matcher::Outcome::Nothing => no_match(256, 1, none),
-        matcher::Outcome::Need(k) => no_match(5, 2, crate::records::key_out(k)),
-        matcher::Outcome::Refused(n) => no_match(n, 3, none),
+        Ok(matcher::Outcome::Nothing) => no_match(256, 1, none),
+        Ok(matcher::Outcome::Need(k)) => no_match(5, 2, crate::records::key_out(k)),
+        Err(e) => no_match(e.number(), 3, none),
     }
 }
 
@@ -318,15 +318,15 @@ fn road(p: Prediction) -> TerrainPredicted
     }
 }
 
-fn predicted_out(answer: predict::Outcome) -> TerrainPredicted
+fn predicted_out(answer: Result<predict::Outcome, Refusal>) -> TerrainPredicted
     ensures { result ≡ Roads.predicted_out answer }
 {
     let none = TerrainKey { row: 0, col: 0 };
     match answer {
-        predict::Outcome::Road(p) => road(p),
-        predict::Outcome::Need(k) => no_road(5, 1, crate::records::key_out(k)),
-        predict::Outcome::Rematch => no_road(6, 2, none),
-        predict::Outcome::Refused(n) => no_road(n, 3, none),
+        Ok(predict::Outcome::Road(p)) => road(p),
+        Ok(predict::Outcome::Need(k)) => no_road(5, 1, crate::records::key_out(k)),
+        Ok(predict::Outcome::Rematch) => no_road(6, 2, none),
+        Err(e) => no_road(e.number(), 3, none),
     }
 }
 
@@ -368,7 +368,7 @@ pub fn terrain_matcher_current(matcher: &[u32; MATCHER_WORDS]) -> TerrainCurrent
     ensures { result ≡ Roads.current_out (Roads.current matcher.now) }
 {
     if !is_matcher(matcher) {
-        return current_out(CurrentRead::Refused(12));
+        return current_out(Err(Refusal::BadState));
     }
     current_out(matcher_in(matcher).current())
 }

@@ -1,6 +1,7 @@
 -- One call through C, on the words of an engine within its types, is the call of demand 3 on that engine, and leaves the words of what that leaves (`agreed`). The idea: such words are accepted,
 -- and the engine that is read from them is the one whose words they are. A refusal with 12 is one at the interface or the call's own (`twelve_own`).
-use Rattle.std.specs.Prelude.{Some, None, Ok, Err}
+use Rattle.refusal.specs.declared.Refusal.{Refusal}
+use Rattle.std.specs.Prelude.{Option, Result, Some, None, Ok, Err}
 use Prim.Native.Nat.{ℕ}
 use mathlib.Core.Path.{◌≡◌, refl, sym}
 use mathlib.Core.Bool.{Bool, true, false, true≢false}
@@ -9,24 +10,18 @@ use borrow.Author.Tests.{eqb-true}
 use lib.Dec.{eqb, leb}
 use lib.Ieee.{Float}
 use lib.IntN.{ℤ}
-use Rattle.refusal.specs.Refusal.{number_of}
+use Rattle.refusal.specs.Refusal.{number_of_result, number_of}
 use Rattle.cache.specs.declared.Lookup.{Lookup}
 use Rattle.cache.specs.declared.Progress.{Progress}
 use Rattle.cache_lists.specs.Claims as CacheClaims
 use Rattle.cache_lists.specs.Lists as Cached
 use Rattle.matcher.specs.Calls as Matching
-use Rattle.matcher.specs.Numbers.{number_of_answer}
-use Rattle.matcher.specs.declared.Answer as Near
-use Rattle.matcher.specs.declared.Answer.TheVariants as Near'
-use Rattle.matcher.specs.declared.CurrentRead.{CurrentRead}
 use Rattle.matcher.specs.declared.Outcome.TheVariants as Matched'
 use Rattle.predict.specs.declared.Outcome.TheVariants as Road'
+use Rattle.engine.specs.declared.Ahead.{Ahead}
+use Rattle.pack.specs.declared.Header.{Header}
 use Rattle.engine.specs.Calls as Engines
-use Rattle.engine.specs.declared.Count.{Count}
-use Rattle.engine.specs.declared.HeadingRead.{HeadingRead}
-use Rattle.engine.specs.declared.Known.{Known}
 use Rattle.engine.specs.declared.Status.{Status}
-use Rattle.engine.specs.declared.Taken.{Taken}
 use Rattle.terrain.specs.Host as Host
 use Rattle.terrain.specs.Roads as Roads
 use Rattle.words.specs.Words.{words, engine_of, accepted}
@@ -38,7 +33,7 @@ use Rattle.terrain.specs.declared.roads.TerrainHeading.{TerrainHeading}
 use Rattle.words.proofs.BackLaws.{engine_words, accepted-words}
 use Rattle.direct.specs.Lists as Direct
 use Rattle.direct.specs.Story.{after}
-use Rattle.direct.specs.Lists.{World, Call, Answer, exec, number, number_of_known}
+use Rattle.direct.specs.Lists.{World, Call, Answer, exec, number}
 use Rattle.terrain_lists.specs.Calls as Calls
 use Rattle.terrain_lists.specs.Calls.{HostCall, host_exec, Meant, call, at_interface, meant, calls_of, answer_told, cache_told, told, told_by, host_told, words_of}
 use Rattle.terrain_lists.specs.Claims.{TypedWorld, is_twelve, OwnTwelve}
@@ -216,50 +211,55 @@ cached_twelve (Cached.cleared (Ok tt)) e = not_zero e
 cached_twelve (Cached.cleared (Err n)) e = twelve (number_of n) e
 
 answer_twelve : (a : Answer) → is_twelve (answer_told a) ≡ true → number a ≡ 12
-answer_twelve (Direct.taken Taken.Done) e = not_zero e
-answer_twelve (Direct.taken (Taken.Refused n)) e = twelve n e
-answer_twelve (Direct.status Status.Idle) e = not_zero e
-answer_twelve (Direct.status Status.Working) e = not_zero e
-answer_twelve (Direct.status Status.NoPack) e = not_zero e
-answer_twelve (Direct.status Status.OffMap) e = not_zero e
-answer_twelve (Direct.status (Status.Fetch offset len)) e = not_zero e
-answer_twelve (Direct.status (Status.Refused n)) e = twelve n e
-answer_twelve (Direct.known Known.Nothing) e = not_zero e
-answer_twelve (Direct.known Known.Is) e = not_zero e
-answer_twelve (Direct.known (Known.Refused n)) e = twelve n e
-answer_twelve (Direct.headed HeadingRead.Nothing) e = not_zero e
-answer_twelve (Direct.headed (HeadingRead.Degrees d)) e = not_zero e
-answer_twelve (Direct.headed (HeadingRead.Refused n)) e = twelve n e
-answer_twelve (Direct.counted (Count.Is n)) e = not_zero e
-answer_twelve (Direct.counted (Count.Refused n)) e = twelve n e
+answer_twelve (Direct.taken (Ok tt)) e = not_zero e
+answer_twelve (Direct.taken (Err n)) e = twelve (number_of n) e
+answer_twelve (Direct.status (Ok Status.Idle)) e = not_zero e
+answer_twelve (Direct.status (Ok Status.Working)) e = not_zero e
+answer_twelve (Direct.status (Ok Status.NoPack)) e = not_zero e
+answer_twelve (Direct.status (Ok Status.OffMap)) e = not_zero e
+answer_twelve (Direct.status (Ok (Status.Fetch offset len))) e = not_zero e
+answer_twelve (Direct.status (Err n)) e = twelve (number_of n) e
+answer_twelve (Direct.known (Ok false)) e = not_zero e
+answer_twelve (Direct.known (Ok true)) e = not_zero e
+answer_twelve (Direct.known (Err n)) e = twelve (number_of n) e
+answer_twelve (Direct.headed (Ok None)) e = not_zero e
+answer_twelve (Direct.headed (Ok (Some d))) e = not_zero e
+answer_twelve (Direct.headed (Err n)) e = twelve (number_of n) e
+answer_twelve (Direct.counted (Ok n)) e = not_zero e
+answer_twelve (Direct.counted (Err n)) e = twelve (number_of n) e
 answer_twelve (Direct.cached a) e = cached_twelve a e
-answer_twelve (Direct.around Near'.Accepted) e = not_zero e
-answer_twelve (Direct.around (Near'.Refused n)) e = twelve n e
-answer_twelve (Direct.holding CurrentRead.Nothing) e = absurd (true≢false (sym e))
-answer_twelve (Direct.holding (CurrentRead.Is m)) e = not_zero e
-answer_twelve (Direct.holding (CurrentRead.Refused n)) e = twelve n e
-answer_twelve (Direct.matched (Matched'.Found f) m) e = absurd (true≢false (sym e))
-answer_twelve (Direct.matched Matched'.Nothing m) e = absurd (true≢false (sym e))
-answer_twelve (Direct.matched (Matched'.Need key) m) e = absurd (true≢false (sym e))
-answer_twelve (Direct.matched (Matched'.Refused n) m) e = twelve n e
-answer_twelve (Direct.predicted (Road'.Road p) samples behind) e = absurd (true≢false (sym e))
-answer_twelve (Direct.predicted (Road'.Need key) samples behind) e = absurd (true≢false (sym e))
-answer_twelve (Direct.predicted Road'.Rematch samples behind) e = absurd (true≢false (sym e))
-answer_twelve (Direct.predicted (Road'.Refused n) samples behind) e = twelve n e
+answer_twelve (Direct.around (Ok tt)) e = not_zero e
+answer_twelve (Direct.around (Err n)) e = twelve (number_of n) e
+answer_twelve (Direct.holding (Ok None)) e = absurd (true≢false (sym e))
+answer_twelve (Direct.holding (Ok (Some m))) e = not_zero e
+answer_twelve (Direct.holding (Err n)) e = twelve (number_of n) e
+answer_twelve (Direct.matched (Ok (Matched'.Found f)) m) e = absurd (true≢false (sym e))
+answer_twelve (Direct.matched (Ok Matched'.Nothing) m) e = absurd (true≢false (sym e))
+answer_twelve (Direct.matched (Ok (Matched'.Need key)) m) e = absurd (true≢false (sym e))
+answer_twelve (Direct.matched (Err n) m) e = twelve (number_of n) e
+answer_twelve (Direct.predicted (Ok (Road'.Road p)) samples behind) e = absurd (true≢false (sym e))
+answer_twelve (Direct.predicted (Ok (Road'.Need key)) samples behind) e = absurd (true≢false (sym e))
+answer_twelve (Direct.predicted (Ok Road'.Rematch) samples behind) e = absurd (true≢false (sym e))
+answer_twelve (Direct.predicted (Err n) samples behind) e = twelve (number_of n) e
 
-known_twelve : (k : Known) → eqb (Host.known_told k).number 12 ≡ true → number_of_known k ≡ 12
-known_twelve Known.Nothing e = not_zero e
-known_twelve Known.Is e = not_zero e
-known_twelve (Known.Refused n) e = twelve n e
+ahead_twelve : (x : Result Ahead Refusal) → eqb (Host.ahead_told x).number 12 ≡ true → number_of_result (Direct.tells x) ≡ 12
+unfolding Host.road_told
+ahead_twelve (Ok a) e = not_zero e
+ahead_twelve (Err n) e = twelve (number_of n) e
 
-near_twelve : (a : Near.Answer) → eqb (Roads.answer_number a) 12 ≡ true → number_of_answer a ≡ 12
-near_twelve Near'.Accepted e = not_zero e
-near_twelve (Near'.Refused n) e = twelve n e
+header_twelve : (x : Result (Option Header) Refusal) → eqb (Host.header_told x).number 12 ≡ true → number_of_result (Direct.tells_some x) ≡ 12
+header_twelve (Ok None) e = not_zero e
+header_twelve (Ok (Some h)) e = not_zero e
+header_twelve (Err n) e = twelve (number_of n) e
+
+near_twelve : (a : Result Unit Refusal) → eqb (Roads.answer_number a) 12 ≡ true → number_of_result a ≡ 12
+near_twelve (Ok tt) e = not_zero e
+near_twelve (Err n) e = twelve (number_of n) e
 
 told_twelve : (c : Call) (w : World) → is_twelve (told c w) ≡ true → number (exec c w).answer ≡ 12
 unfolding told exec Host.road_told
-told_twelve (Direct.read Direct.its_ahead) w e = known_twelve (Engines.ahead w.engine w.arena).answer e
-told_twelve (Direct.read Direct.its_header) w e = known_twelve (Engines.header w.engine w.arena).answer e
+told_twelve (Direct.read Direct.its_ahead) w e = ahead_twelve (Engines.ahead w.engine w.arena) e
+told_twelve (Direct.read Direct.its_header) w e = header_twelve (Engines.header w.engine w.arena) e
 told_twelve (Direct.read Direct.its_heading) w e = answer_twelve (exec (Direct.read Direct.its_heading) w).answer e
 told_twelve (Direct.read Direct.its_loads) w e = answer_twelve (exec (Direct.read Direct.its_loads) w).answer e
 told_twelve (Direct.read Direct.its_steps) w e = answer_twelve (exec (Direct.read Direct.its_steps) w).answer e

@@ -31,7 +31,6 @@ use Rattle.cache.specs.declared.Pending.{Pending}
 use Rattle.cache.specs.declared.Progress.{Progress}
 use Rattle.matcher.specs.Gather as Gather
 use Rattle.matcher.specs.Gather.{Run, run_over, updated}
-use Rattle.matcher.specs.declared.Current.{Current}
 use Rattle.matcher.specs.declared.Matched.{Matched}
 use Rattle.matcher.specs.declared.Outcome as MatchOutcome
 use Rattle.matcher.specs.declared.Outcome.TheVariants as Found
@@ -54,7 +53,6 @@ use Rattle.engine.specs.declared.Changed.{Changed}
 use Rattle.engine.specs.declared.Engine.{Engine}
 use Rattle.engine.specs.declared.Fix.{Fix}
 use Rattle.engine.specs.declared.Follower.{Follower}
-use Rattle.engine.specs.declared.MaybeFix.{MaybeFix}
 use Rattle.engine.specs.declared.Phase.{Phase}
 use Rattle.engine.specs.declared.Shared.{Shared}
 use Rattle.engine.specs.declared.Status.{Status}
@@ -187,8 +185,8 @@ module _ (e : Engine) (t : Typed e) where
     where
       by : (p q : Bool) → ltb e.follower.failures 7 ≡ q
           → Steps (cond (p && q)
-          (Deliver.with_failures e (with_phase e.shared Phase.Unread e.shared.header) (e.follower.failures + 1) Status.Working)
-          (Deliver.with_failures e (with_phase e.shared Phase.Failed e.shared.header) e.follower.failures Status.NoPack))
+          (Deliver.with_failures e (with_phase e.shared Phase.Unread e.shared.header) (e.follower.failures + 1) (Ok Status.Working))
+          (Deliver.with_failures e (with_phase e.shared Phase.Failed e.shared.header) e.follower.failures (Ok Status.NoPack)))
       by true true h = record {
         shared = phase_typed e.shared Phase.Unread e.shared.header t.shared t.shared.header;
         follower = failing_typed e.follower _ t.follower (omega (arith, ltb-true e.follower.failures 7 h));
@@ -239,24 +237,24 @@ module _ (c : Cache) (t : TypedCache c) (arena : List ℕ) (size : ℕ) (keys : 
   after_match (Ending.Need key) = looked_typed arena size keys c t
   after_match Ending.Stale = t
 
-  pub after_road : (x : RoadOutcome.Outcome) → TypedCache (Predict.cache_after x c (looked c arena size keys))
-  after_road (Road.Road p) = looked_typed arena size keys c t
-  after_road (Road.Need key) = looked_typed arena size keys c t
-  after_road Road.Rematch = looked_typed arena size keys c t
-  after_road (Road.Refused number) = either TypedCache (eqb number 12) c _ t (looked_typed arena size keys c t)
+  pub after_road : (x : Result RoadOutcome.Outcome Refusal) → TypedCache (Predict.cache_after x c (looked c arena size keys))
+  after_road (Ok (Road.Road p)) = looked_typed arena size keys c t
+  after_road (Ok (Road.Need key)) = looked_typed arena size keys c t
+  after_road (Ok Road.Rematch) = looked_typed arena size keys c t
+  after_road (Err number) = either TypedCache (eqb (number_of number) 12) c _ t (looked_typed arena size keys c t)
 
 module _ (e : Engine) (t : Typed e) (arena : List ℕ) (a : Bytes arena) where
   cached : TypedCache e.shared.cache
   cached = t.shared.cache
 
   module _ (f : Follower) (u : TypedFollower f) where
-    match_by : (x : MatchOutcome.Outcome) (fix : Fix) (w : Updated) → Matchers.NeedIn e.shared.header x → TypedCache w.cache → TypedMatcher w.matcher
+    match_by : (x : Result MatchOutcome.Outcome Refusal) (fix : Fix) (w : Updated) → Matchers.NeedIn e.shared.header x → TypedCache w.cache → TypedMatcher w.matcher
         → Steps (match_ended_by x e f fix w)
-    match_by (Found.Found m) fix w need c v = ended_typed e w.cache _ t c (matched_typed f u w.matcher fix v)
-    match_by Found.Nothing fix w need c v = ended_typed e w.cache _ t c (matched_typed f u w.matcher fix v)
-    match_by (Found.Need key) fix w need c v =
+    match_by (Ok (Found.Found m)) fix w need c v = ended_typed e w.cache _ t c (matched_typed f u w.matcher fix v)
+    match_by (Ok Found.Nothing) fix w need c v = ended_typed e w.cache _ t c (matched_typed f u w.matcher fix v)
+    match_by (Ok (Found.Need key)) fix w need c v =
         ended_typed e w.cache _ t c (match_asks_typed f u w.cache.pages.count key (grid_key e.shared.header key t.shared.header need))
-    match_by (Found.Refused number) fix w need c v = t
+    match_by (Err number) fix w need c v = t
 
     match_typed : (fix : Fix) → Steps (match_step e arena f fix)
     unfolding match_step updated
@@ -269,17 +267,17 @@ module _ (e : Engine) (t : Typed e) (arena : List ℕ) (a : Bytes arena) where
         (after_match c cached arena h.tile r.found r.end)
         (update_typed (look c arena h.tile) (look_bytes c arena h.tile a) f.matcher h (place_of fix) f.sight.heading u.matcher)
 
-    road_by : (x : RoadOutcome.Outcome) (fix : Fix) (found : Matched) (p : Predict.After) → TypedMatched found → RoadIn e.shared.header 501 11 x → OutcomeTyped x
+    road_by : (x : Result RoadOutcome.Outcome Refusal) (fix : Fix) (found : Matched) (p : Predict.After) → TypedMatched found → RoadIn e.shared.header 501 11 x → OutcomeTyped x
         → TypedCache p.predicted.cache → Heights 501 p.samples → Heights 11 p.behind → Steps (road_ended_by x e f fix found p)
-    road_by (Road.Road r) fix found p m few figures c s b =
+    road_by (Ok (Road.Road r)) fix found p m few figures c s b =
         ended_typed e p.predicted.cache _ t c
         (published_typed f u (with_heights f.ahead p.samples p.behind) fix found r (heights_typed f.ahead p.samples p.behind u.ahead s b) m figures few.0 few.1)
-    road_by (Road.Need key) fix found p m few figures c s b =
+    road_by (Ok (Road.Need key)) fix found p m few figures c s b =
         ended_typed e p.predicted.cache _ t c
         (road_asks_typed f u p.predicted.cache.pages.count fix found key m (grid_key e.shared.header key t.shared.header few))
-    road_by Road.Rematch fix found p m few figures c s b = ended_typed e p.predicted.cache _ t c (rematch_typed f u)
-    road_by (Road.Refused number) fix found p m few figures c s b =
-        either Steps (eqb number 10) _ _ (ended_typed e p.predicted.cache _ t c (rematch_typed f u)) t
+    road_by (Ok Road.Rematch) fix found p m few figures c s b = ended_typed e p.predicted.cache _ t c (rematch_typed f u)
+    road_by (Err number) fix found p m few figures c s b =
+        either Steps (eqb (number_of number) 10) _ _ (ended_typed e p.predicted.cache _ t c (rematch_typed f u)) t
 
     zeros : (n : ℕ) → Heights n (replicate n (pos 0))
     zeros n = record { long = length-replicate n (pos 0); all = all_replicate Height (pos 0) n (pos 0) (omega arith) (omega arith) }
@@ -299,9 +297,9 @@ module _ (e : Engine) (t : Typed e) (arena : List ℕ) (a : Bytes arena) where
         (length-replicate 501 (pos 0)) (length-replicate 11 (pos 0)))
         v.answer (after_road c cached arena h.tile x.carried x.answer) v.samples v.behind
 
-    due_typed : (x : Current) (fix : Fix) → TypedCurrent x → PlacedIn e.shared.header x → Steps (road_due_by x e arena f fix)
-    due_typed (Current.Is found) fix m p = road_typed fix found m p.grid
-    due_typed Current.Nothing fix m p =
+    due_typed : (x : Option Matched) (fix : Fix) → TypedCurrent x → PlacedIn e.shared.header x → Steps (road_due_by x e arena f fix)
+    due_typed (Some found) fix m p = road_typed fix found m p.grid
+    due_typed None fix m p =
         ended_typed e e.shared.cache _ t cached (changed_due f (road_off f.due) u (record { need = u.due.need; reloads = u.due.reloads }))
 
     at_typed : (x : Option TileKey) (fix : Fix) → PlacedIn e.shared.header f.matcher.current → Steps (at_fix_by x e arena f fix)
@@ -310,10 +308,10 @@ module _ (e : Engine) (t : Typed e) (arena : List ℕ) (a : Bytes arena) where
         (either Steps f.due.road _ _ (due_typed f.matcher.current fix u.matcher.current p) (ended_typed e e.shared.cache f t cached u))
     at_typed None fix p = ended_typed e e.shared.cache _ t cached (off_map_typed f u fix)
 
-    work_typed : (x : MaybeFix) → PlacedIn e.shared.header f.matcher.current → Steps (worked_by x e arena f)
+    work_typed : (x : Option Fix) → PlacedIn e.shared.header f.matcher.current → Steps (worked_by x e arena f)
     unfolding at_fix
-    work_typed MaybeFix.Nothing p = ended_typed e e.shared.cache f t cached u
-    work_typed (MaybeFix.Is fix) p = at_typed (key_of e.shared.header fix.lat fix.lon) fix p
+    work_typed None p = ended_typed e e.shared.cache f t cached u
+    work_typed (Some fix) p = at_typed (key_of e.shared.header fix.lat fix.lon) fix p
 
   -- ---- the step
 
@@ -363,14 +361,14 @@ module _ (arena : List ℕ) (a : Bytes arena) (pack : List ℕ) (b : Bytes pack)
   answered_typed (Ok at) e t len = deliver_typed e t arena a 0 (pack_bytes pack at len) (bytes_of_pack pack at len b)
   answered_typed (Err number) e t len = deliver_typed e t arena a 2 [] bytes_none
 
-  from_typed : (x : Status) (s : Stepped) → Steps s → Leaves (Calls.step_from_by x s arena pack)
+  from_typed : (x : Result Status Refusal) (s : Stepped) → Steps s → Leaves (Calls.step_from_by x s arena pack)
   unfolding Calls.answered_from
-  from_typed (Status.Fetch offset len) s t = answered_typed (read pack offset len) s.engine t len
-  from_typed Status.Idle s t = record { engine = t; arena = a }
-  from_typed Status.Working s t = record { engine = t; arena = a }
-  from_typed Status.NoPack s t = record { engine = t; arena = a }
-  from_typed Status.OffMap s t = record { engine = t; arena = a }
-  from_typed (Status.Refused number) s t = record { engine = t; arena = a }
+  from_typed (Ok (Status.Fetch offset len)) s t = answered_typed (read pack offset len) s.engine t len
+  from_typed (Ok Status.Idle) s t = record { engine = t; arena = a }
+  from_typed (Ok Status.Working) s t = record { engine = t; arena = a }
+  from_typed (Ok Status.NoPack) s t = record { engine = t; arena = a }
+  from_typed (Ok Status.OffMap) s t = record { engine = t; arena = a }
+  from_typed (Err number) s t = record { engine = t; arena = a }
 
   pub step_from_typed : (e : Engine) → Typed e → Leaves (Calls.step_from e arena pack)
   unfolding Calls.step_from

@@ -17,7 +17,6 @@ use Rattle.angle.specs.Cosine.{lon_scale_um}
 use Rattle.geo.specs.Flat.{whole, metres_of}
 use Rattle.geo.specs.declared.Point.{Point}
 use Rattle.matcher.specs.Calls as Matching
-use Rattle.matcher.specs.declared.Current.{Current}
 use Rattle.matcher.specs.declared.Heading.{Heading}
 use Rattle.matcher.specs.declared.Matched.{Matched}
 use Rattle.matcher.specs.declared.Matcher.{Matcher}
@@ -253,10 +252,10 @@ module _ (f : Follower) (t : TypedFollower f) where
   done_typed : (road : Bool) → TypedDue (match_done f.due road)
   done_typed road = record { need = t.due.need; reloads = omega arith }
 
-  by_current : (x : Current) (m : Matcher) (fix : Fix) → TypedMatcher m → TypedFollower (matched_by x f m fix)
-  by_current Current.Nothing m fix u =
+  by_current : (x : Option Matched) (m : Matcher) (fix : Fix) → TypedMatcher m → TypedFollower (matched_by x f m fix)
+  by_current None m fix u =
       changed_due _ _ (changed_ahead _ _ (changed_matcher f m t u) (emptied_typed f.ahead fix.at_ms End.Uncertain t.ahead)) (done_typed _)
-  by_current (Current.Is found) m fix u = changed_due _ _ (changed_matcher f m t u) (done_typed _)
+  by_current (Some found) m fix u = changed_due _ _ (changed_matcher f m t u) (done_typed _)
 
   pub matched_typed : (m : Matcher) (fix : Fix) → TypedMatcher m → TypedFollower (matched f m fix)
   unfolding matched

@@ -1,5 +1,6 @@
 -- A list of calls through C is a list of demand 3 (`words_list`), so that what is proved of those holds of these (`host_safe`, `host_direct`, `host_open`, `host_read`). The idea: induction over the list,
 -- one call by one, in worlds whose engine is within its types.
+use Rattle.refusal.specs.declared.Refusal.{Refusal}
 use Prim.Native.Nat.{ℕ, ◌≤◌}
 use mathlib.Core.Path.{◌≡◌, refl, sym, ap, subst, ◌∙◌}
 use mathlib.Core.Bool.{Bool, true, false, cond}
@@ -89,7 +90,7 @@ words_from v all ok a cs g =
 
 module _ (ms ws arena : List ℕ) (h : Header) (p : Point) (way : TerrainHeading) (all : AreWords ms) (a : Bytes arena) (ok : Roads.is_matcher ms ≡ true) where
   abbrev updated_by : Bool → Updated
-  updated_by b = cond b (Matching.update (matcher_of ms 0) (Parts.cache_of ws) arena h p (Roads.heading_of way)) (State.refused (matcher_of ms 0) (Parts.cache_of ws) 12)
+  updated_by b = cond b (Matching.update (matcher_of ms 0) (Parts.cache_of ws) arena h p (Roads.heading_of way)) (State.refused (matcher_of ms 0) (Parts.cache_of ws) Refusal.BadState)
 
   again : (b : Bool) → Roads.is_matcher (cond b (matcher_words (updated_by b).matcher) ms) ≡ true
   again true = matcher_words_lem (updated_by true).matcher (update_matcher (matcher_of ms 0) (Parts.cache_of ws) arena h p (Roads.heading_of way) a (matcher_read ms all 0))

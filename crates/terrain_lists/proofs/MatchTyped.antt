@@ -1,5 +1,6 @@
 -- A match leaves a matcher within its types, over a look that answers bytes (`update_typed`). The idea: a candidate's numbers are read of the tile's bytes or are results of float operations; the
 -- match is made of a candidate, and so is a challenger that is new.
+use Rattle.tile.specs.declared.TileId.{TileId}
 use Rattle.std.proofs.Common.{Option, Some, None}
 use Prim.Native.Nat.{ℕ, ◌+◌, ◌*◌, ◌<◌, ◌≤◌}
 use mathlib.Core.Path.{◌≡◌, refl, subst}
@@ -39,8 +40,6 @@ use Rattle.matcher.specs.Score.{held_height, height, candidate_at}
 use Rattle.matcher.specs.Settle.{confidence, direction, same_run, run_from, ridden, settled, more, missed, matched_by, matched}
 use Rattle.matcher.specs.Tile.{kept_with, edge_step, search}
 use Rattle.matcher.specs.declared.Candidate.{Candidate}
-use Rattle.matcher.specs.declared.Challenger.{Challenger}
-use Rattle.matcher.specs.declared.Current.{Current}
 use Rattle.matcher.specs.declared.Heading.{Heading}
 use Rattle.matcher.specs.declared.Kept.{Kept}
 use Rattle.matcher.specs.declared.Matched.{Matched}
@@ -228,12 +227,12 @@ contested_typed : (n : ℕ) (top kept : Candidate) → TypedCandidate top → Fa
 contested_typed n top kept t = by (ltb n 2) refl
   where
     by : (b : Bool) → ltb n 2 ≡ b
-        → Faces (cond {A = Choice} b (record { chosen = kept; challenger = Challenger.Is top.found.tile top.found.edge n })
-        (record { chosen = top; challenger = Challenger.Nothing }))
+        → Faces (cond {A = Choice} b (record { chosen = kept; challenger = Some (top.found.tile, top.found.edge, n) })
+        (record { chosen = top; challenger = None }))
     by true e = (t.found.tile, (t.found.edge, omega (arith, ltb-true n 2 e)))
     by false e = tt
 
-module _ (k : Kept) (top : Candidate) (t : TypedCandidate top) (was : Challenger) (w : TypedChallenger was) where
+module _ (k : Kept) (top : Candidate) (t : TypedCandidate top) (was : Option (TileId × ℕ × ℕ)) (w : TypedChallenger was) where
   kept_faces : (x : Option ℕ) (m : Matched) → Faces (kept_by x k top m was)
   unfolding held contested
   kept_faces None m = w
@@ -242,9 +241,9 @@ module _ (k : Kept) (top : Candidate) (t : TypedCandidate top) (was : Challenger
       (either Faces (same_edge top m || le (candidate_in k i).cost (add binary32 top.cost (whole 1))) _ _ tt
       (contested_typed (beaten was top) top (candidate_in k i) t))
 
-  chosen_faces : (current : Current) → Faces (chosen_by current k top was)
-  chosen_faces Current.Nothing = w
-  chosen_faces (Current.Is m) = kept_faces (kept_at k m) m
+  chosen_faces : (current : Option Matched) → Faces (chosen_by current k top was)
+  chosen_faces None = w
+  chosen_faces (Some m) = kept_faces (kept_at k m) m
 
 past_faces : (x : Option ℕ) (choice : Choice) (k : Kept) → Faces choice → Faces (past_by x choice k)
 past_faces None choice k t = t
@@ -297,7 +296,7 @@ more_byte n = by (ltb n 255) refl
 missed_typed : (m : Matcher) → TypedMatcher m → TypedMatcher (missed m)
 unfolding missed
 missed_typed m t = record {
-  current = either TypedCurrent (ltb (more m.misses) 3) m.current Current.Nothing t.current tt;
+  current = either TypedCurrent (ltb (more m.misses) 3) m.current None t.current tt;
   challenger = tt;
   misses = more_byte m.misses;
   run = t.run;

@@ -1,7 +1,8 @@
 -- A refused call of a part through C leaves the engine's words, the arena and a matcher's words as they were (`get_keeps`, `clear_keeps`, `load_keeps`, `load_from_keeps`, `update_keeps`,
--- `predict_keeps`; those of the engine's calls are crate terrain's KeepLaws). A road that is refused with Refusal.BadStart has moved clock and ages, as document 01 says. The idea: where words are no engine's it is
+-- `predict_keeps`; those of the engine's calls are crate terrain's KeepLaws). A road that is refused with 10 has moved clock and ages, as document 01 says. The idea: where words are no engine's it is
 -- so by definition; else the library's own refused call leaves the cache, and the words of an engine with its own cache are the engine's words.
 use Rattle.std.specs.Prelude.{Result, Ok, Err}
+use Rattle.refusal.specs.Refusal.{number_of}
 use Rattle.refusal.specs.declared.Refusal.{Refusal}
 use Rattle.std.proofs.Common.{Option, Some, None}
 use Prim.Native.Nat.{ℕ, ◌+◌}
@@ -44,7 +45,6 @@ use Rattle.matcher.specs.Gather.{Run, outcome, matching_by, run_over, update_ove
 use Rattle.matcher.specs.Score.{same_id}
 use Rattle.matcher.specs.Settle.{matched}
 use Rattle.matcher.specs.State as Matchers
-use Rattle.matcher.specs.declared.Current.{Current}
 use Rattle.matcher.specs.declared.Heading.{Heading}
 use Rattle.matcher.specs.declared.Kept.{Kept}
 use Rattle.matcher.specs.declared.Matched.{Matched}
@@ -160,19 +160,19 @@ module _ (c : Cache) (arena : List ℕ) where
   load_from_same h key pack = request_same (Caches.fetch c arena h key) h key pack
 
 -- a match
-abbrev MatchSame : Matcher → Cache → Matching'.Outcome → Matcher → Cache → Type 0
-MatchSame m c (Match.Refused n) w d = (w ≡ m) × (d ≡ c)
-MatchSame m c (Match.Found f) w d = Unit
-MatchSame m c Match.Nothing w d = Unit
-MatchSame m c (Match.Need key) w d = Unit
+abbrev MatchSame : Matcher → Cache → Result Matching'.Outcome Refusal → Matcher → Cache → Type 0
+MatchSame m c (Err n) w d = (w ≡ m) × (d ≡ c)
+MatchSame m c (Ok (Match.Found f)) w d = Unit
+MatchSame m c (Ok Match.Nothing) w d = Unit
+MatchSame m c (Ok (Match.Need key)) w d = Unit
 
 module _ (m : Matcher) (c : Cache) where
   abbrev Matches : Updated → Type 0
   Matches u = MatchSame m c u.answer u.matcher u.cache
 
-  outcome_same : (x : Current) (w : Matcher) (d : Cache) → MatchSame m c (outcome x) w d
-  outcome_same Current.Nothing w d = tt
-  outcome_same (Current.Is f) w d = tt
+  outcome_same : (x : Option Matched) (w : Matcher) (d : Cache) → MatchSame m c (outcome x) w d
+  outcome_same None w d = tt
+  outcome_same (Some f) w d = tt
 
   ending_same : (x : Ending) (k : Kept) (heading : Heading) (d : Cache)
       → MatchSame m c (matching_by x k m heading).answer (matching_by x k m heading).matcher (Gather.cache_after x c d)
@@ -189,12 +189,12 @@ module _ (m : Matcher) (c : Cache) where
       (ending_same r.end r.kept heading (looked c arena h.tile r.found)) (refl, refl))
       (refl, refl)
 
--- a road is refused with Refusal.BadStart or late with 12
-abbrev LateOnly : Roads'.Outcome → Type 0
-LateOnly (Road.Refused n) = (n ≡ 10 → ⊥) → n ≡ 12
-LateOnly (Road.Road p) = Unit
-LateOnly (Road.Need key) = Unit
-LateOnly Road.Rematch = Unit
+-- a road is refused with 10 or late with 12
+abbrev LateOnly : Result Roads'.Outcome Refusal → Type 0
+LateOnly (Err e) = (number_of e ≡ 10 → ⊥) → number_of e ≡ 12
+LateOnly (Ok (Road.Road p)) = Unit
+LateOnly (Ok (Road.Need key)) = Unit
+LateOnly (Ok Road.Rematch) = Unit
 
 ended_late : (x : Ends.Ending) (w : Walk) (t : Track) (b : Behind) → LateOnly (outcome_by x w t b)
 ended_late Ends'.Going w t b = tt
@@ -231,21 +231,21 @@ module _ {S : Type 0} (rd : Reader S) (n : ℕ) (samples behind : List ℤ) (m :
   unfolding forecast_over
   forecast_late h horizon s = directed_late m.forward h horizon s
 
-abbrev RoadSame : Cache → Roads'.Outcome → Cache → Type 0
-RoadSame c (Road.Refused n) d = (n ≡ 10 → ⊥) → d ≡ c
-RoadSame c (Road.Road p) d = Unit
-RoadSame c (Road.Need key) d = Unit
-RoadSame c Road.Rematch d = Unit
+abbrev RoadSame : Cache → Result Roads'.Outcome Refusal → Cache → Type 0
+RoadSame c (Err e) d = (number_of e ≡ 10 → ⊥) → d ≡ c
+RoadSame c (Ok (Road.Road p)) d = Unit
+RoadSame c (Ok (Road.Need key)) d = Unit
+RoadSame c (Ok Road.Rematch) d = Unit
 
 module _ (c : Cache) where
   abbrev Predicts : Predict.After → Type 0
   Predicts x = RoadSame c x.predicted.answer x.predicted.cache
 
-  late_same : (x : Roads'.Outcome) (d : Cache) → LateOnly x → RoadSame c x (Predict.cache_after x c d)
-  late_same (Road.Road p) d l = tt
-  late_same (Road.Need key) d l = tt
-  late_same Road.Rematch d l = tt
-  late_same (Road.Refused n) d l = λ no10. rw (eq-eqb n 12 (l no10))
+  late_same : (x : Result Roads'.Outcome Refusal) (d : Cache) → LateOnly x → RoadSame c x (Predict.cache_after x c d)
+  late_same (Ok (Road.Road p)) d l = tt
+  late_same (Ok (Road.Need key)) d l = tt
+  late_same (Ok Road.Rematch) d l = tt
+  late_same (Err e) d l = λ no10. rw (eq-eqb (number_of e) 12 (l no10))
 
   predict_same : (arena : List ℕ) (h : Header) (m : Matched) (horizon : Float) (samples behind : List ℤ) → Predicts (Predict.predict c arena h m horizon samples behind)
   unfolding Predict.predict predicted_in
@@ -271,17 +271,17 @@ load_told (Ok Progress.Done) c arena r e same = absurd (omega (arith, e))
 load_told (Ok Progress.More) c arena r e same = absurd (omega (arith, e))
 load_told (Ok (Progress.Failed n)) c arena r e same = absurd (omega (arith, e))
 
-match_told : (x : Matching'.Outcome) (m w : Matcher) (c d : Cache) → (Roads.updated_out x).outcome ≡ 3 → MatchSame m c x w d → (w ≡ m) × (d ≡ c)
-match_told (Match.Refused n) m w c d e same = same
-match_told (Match.Found f) m w c d e same = absurd (omega (arith, e))
-match_told Match.Nothing m w c d e same = absurd (omega (arith, e))
-match_told (Match.Need key) m w c d e same = absurd (omega (arith, e))
+match_told : (x : Result Matching'.Outcome Refusal) (m w : Matcher) (c d : Cache) → (Roads.updated_out x).outcome ≡ 3 → MatchSame m c x w d → (w ≡ m) × (d ≡ c)
+match_told (Err n) m w c d e same = same
+match_told (Ok (Match.Found f)) m w c d e same = absurd (omega (arith, e))
+match_told (Ok Match.Nothing) m w c d e same = absurd (omega (arith, e))
+match_told (Ok (Match.Need key)) m w c d e same = absurd (omega (arith, e))
 
-road_told : (x : Roads'.Outcome) (c d : Cache) → (Roads.predicted_out x).outcome ≡ 3 → (Roads.predicted_out x).number ≢ 10 → RoadSame c x d → d ≡ c
-road_told (Road.Refused n) c d e no10 same = same no10
-road_told (Road.Road p) c d e no10 same = absurd (omega (arith, e))
-road_told (Road.Need key) c d e no10 same = absurd (omega (arith, e))
-road_told Road.Rematch c d e no10 same = absurd (omega (arith, e))
+road_told : (x : Result Roads'.Outcome Refusal) (c d : Cache) → (Roads.predicted_out x).outcome ≡ 3 → (Roads.predicted_out x).number ≢ 10 → RoadSame c x d → d ≡ c
+road_told (Err n) c d e no10 same = same no10
+road_told (Ok (Road.Road p)) c d e no10 same = absurd (omega (arith, e))
+road_told (Ok (Road.Need key)) c d e no10 same = absurd (omega (arith, e))
+road_told (Ok Road.Rematch) c d e no10 same = absurd (omega (arith, e))
 
 module _ (ws : List ℕ) (arena : List ℕ) where
   -- words with their own cache are the words
@@ -342,7 +342,7 @@ module _ (ws : List ℕ) (arena : List ℕ) where
       m = matcher_of ms 0
 
       u : Bool → Updated
-      u b = cond b (Matching.update m (cache_of ws) arena h p (Roads.heading_of heading)) (Matchers.refused m (cache_of ws) 12)
+      u b = cond b (Matching.update m (cache_of ws) arena h p (Roads.heading_of heading)) (Matchers.refused m (cache_of ws) Refusal.BadState)
 
       by : (b : Bool) → Roads.can_match ms ws heading ≡ b → (Roads.updated_out (u b).answer).outcome ≡ 3
           → (cond b (after ws (u b).cache) ws ≡ ws) × (cond b (matcher_words (u b).matcher) ms ≡ ms)
@@ -362,7 +362,7 @@ module _ (ws : List ℕ) (arena : List ℕ) where
       x : Bool → Predict.After
       x b =
           cond b (Predict.predict (cache_of ws) arena h (Roads.given start) horizon samples behind)
-          (record { predicted = record { answer = Road.Refused 12; cache = cache_of ws }; samples = samples; behind = behind })
+          (record { predicted = record { answer = Err Refusal.BadState; cache = cache_of ws }; samples = samples; behind = behind })
 
       by : (b : Bool) → (Roads.predicted_out (x b).predicted.answer).outcome ≡ 3 → (Roads.predicted_out (x b).predicted.answer).number ≢ 10
           → cond b (after ws (x b).predicted.cache) ws ≡ ws

@@ -1,5 +1,6 @@
 -- Whatever words of 32 bits stand there, the engine and the matcher that are read from them are within their types (`read_typed`, `matcher_read`); and a matcher within its types is read back from
 -- its words, so that they are a matcher's (`matcher_words_lem`). The idea: a reader cuts what a field can't hold, and a matcher's 22 words are written out.
+use Rattle.tile.specs.declared.TileId.{TileId}
 use Rattle.std.specs.Prelude.{Option, Some, None}
 use Rattle.pack.specs.declared.TileKey.{TileKey}
 use Prim.Native.Nat.{ℕ, zero, suc, ◌+◌, ◌-◌, ◌*◌, ◌/◌, ◌%◌, ◌<◌}
@@ -17,12 +18,9 @@ use Rattle.cache.specs.Keys.{empty_place}
 use Rattle.cache.specs.Runs.{empty_slot}
 use Rattle.cache.specs.declared.Part.TheVariants as Part
 use Rattle.cache.specs.declared.Pending.TheVariants as Pending
-use Rattle.matcher.specs.declared.Challenger.{Challenger}
-use Rattle.matcher.specs.declared.Current.{Current}
 use Rattle.matcher.specs.declared.Heading.TheVariants as Heading
 use Rattle.matcher.specs.declared.Matched.{Matched}
 use Rattle.matcher.specs.declared.Matcher.{Matcher}
-use Rattle.engine.specs.declared.MaybeFix.TheVariants as MaybeFix
 use Rattle.terrain.specs.Roads as Roads
 use Rattle.words.specs.Typed.{Word, Byte, Height, Single, TypedKey, TypedMaybe, TypedHeader, TypedPart, TypedSlot, TypedPages, TypedRing, TypedLoading, TypedPending, TypedCache, TypedPoint, TypedFix, TypedPlaces, TypedHeading, TypedSight, TypedMatched, TypedCurrent, TypedChallenger, TypedMatcher, TypedDue, TypedAhead, Typed}
 use Rattle.words.specs.Words.{table, flat, from, is_set, float_of, float_word, height_of, key_of, maybe_key_of, header_by, part_of, slot_by, pages_of, place_by, ring_of, cache_of, shared_of, point_by, no_point, places_of, sight_of, current_words, current_by, challenger_words, matcher_words, matcher_of, due_of, heights_of, ahead_of, follower_of, engine_of}
@@ -109,7 +107,7 @@ module _ (ws : List ℕ) (all : AreWords ws) where
   sight_read : TypedSight (sight_of ws 539)
   unfolding sight_of
   sight_read = record {
-    fix = either TypedFix (is_set (get_or ws 539 0)) _ MaybeFix.Nothing (signed_read _ (all 540), signed_read _ (all 541)) tt;
+    fix = either TypedFix (is_set (get_or ws 539 0)) _ None (signed_read _ (all 540), signed_read _ (all 541)) tt;
     history = places_read;
     heading = either TypedHeading (is_set (get_or ws 577 0)) _ Heading.Nothing (float_read _) tt;
   }
@@ -119,7 +117,7 @@ module _ (ws : List ℕ) (all : AreWords ws) where
   current_read : (at : ℕ) → TypedCurrent (current_by (from ws at))
   unfolding current_by
   current_read at =
-      either TypedCurrent (is_set (get_or ws (at + 0) 0)) _ Current.Nothing
+      either TypedCurrent (is_set (get_or ws (at + 0) 0)) _ None
       (record {
         tile = (key_read _ (all (at + 1)), omega arith);
         edge = omega arith;
@@ -138,7 +136,7 @@ module _ (ws : List ℕ) (all : AreWords ws) where
   unfolding matcher_of
   matcher_read at = record {
     current = current_read at;
-    challenger = either TypedChallenger (is_set (get_or ws (at + 14 + 0) 0)) _ Challenger.Nothing
+    challenger = either TypedChallenger (is_set (get_or ws (at + 14 + 0) 0)) _ None
         ((key_read _ (all (at + 14 + 1)), omega arith), (omega arith, omega arith)) tt;
     misses = omega arith;
     run = float_read _;
@@ -184,18 +182,18 @@ module _ (ws : List ℕ) (all : AreWords ws) where
 -- ---- a matcher is read back from its words
 
 -- its 22 words
-abbrev written : Current → Challenger → ℕ → Float → List ℕ
+abbrev written : Option Matched → Option (TileId × ℕ × ℕ) → ℕ → Float → List ℕ
 written c d misses run = flat (current_words c ∷ challenger_words d ∷ (misses ∷ float_word run ∷ []) ∷ [])
 
 module _ (misses : ℕ) (run : Float) where
-  none_back : (d : Challenger) → current_by (from (written Current.Nothing d misses run) 0) ≡ Current.Nothing
+  none_back : (d : Option (TileId × ℕ × ℕ)) → current_by (from (written None d misses run) 0) ≡ None
   unfolding current_by
   none_back d = refl
 
-  match_back : (m : Matched) (d : Challenger) → TypedMatched m → current_by (from (written (Current.Is m) d misses run) 0) ≡ Current.Is m
+  match_back : (m : Matched) (d : Option (TileId × ℕ × ℕ)) → TypedMatched m → current_by (from (written (Some m) d misses run) 0) ≡ Some m
   unfolding current_by
   match_back m d t =
-      ap Current.Is
+      ap Some
       (rw (
         key_back m.tile.key t.tile.0,
         short_back m.tile.edges t.tile.1,
@@ -213,13 +211,13 @@ module _ (misses : ℕ) (run : Float) where
         float_back m.ridden_m t.ridden,
       )))
 
-  by_parts : (c : Current) (d : Challenger) → TypedCurrent c → TypedChallenger d → Byte misses → Single run
+  by_parts : (c : Option Matched) (d : Option (TileId × ℕ × ℕ)) → TypedCurrent c → TypedChallenger d → Byte misses → Single run
       → matcher_of (written c d misses run) 0 ≡ record { current = c; challenger = d; misses = misses; run_from_m = run }
   unfolding matcher_of
-  by_parts Current.Nothing Challenger.Nothing t u n r = rw (none_back Challenger.Nothing, byte_back misses n, float_back run r)
-  by_parts Current.Nothing (Challenger.Is i e k) t u n r =
+  by_parts None None t u n r = rw (none_back None, byte_back misses n, float_back run r)
+  by_parts None (Some (i, e, k)) t u n r =
       rw (
-        none_back (Challenger.Is i e k),
+        none_back (Some (i, e, k)),
         key_back i.key u.0.0,
         short_back i.edges u.0.1,
         short_back e u.1.0,
@@ -227,10 +225,10 @@ module _ (misses : ℕ) (run : Float) where
         byte_back misses n,
         float_back run r,
       )
-  by_parts (Current.Is m) Challenger.Nothing t u n r = rw (match_back m Challenger.Nothing t, byte_back misses n, float_back run r)
-  by_parts (Current.Is m) (Challenger.Is i e k) t u n r =
+  by_parts (Some m) None t u n r = rw (match_back m None t, byte_back misses n, float_back run r)
+  by_parts (Some m) (Some (i, e, k)) t u n r =
       rw (
-        match_back m (Challenger.Is i e k) t,
+        match_back m (Some (i, e, k)) t,
         key_back i.key u.0.0,
         short_back i.edges u.0.1,
         short_back e u.1.0,

@@ -1,5 +1,7 @@
 -- A road's heights and figures stay within their types, over any reader (`forecast_typed`): every height that is written is held to 16 bits or cut to them, and every distance is 0, the horizon,
 -- the metres ridden or a result of a float operation. The idea: a walk leaves its track alone but along an edge.
+use Rattle.refusal.specs.declared.Refusal.{Refusal}
+use Rattle.std.specs.Prelude.{Result, Ok, Err}
 use Rattle.std.proofs.Common.{Option, Some, None}
 use Prim.Native.Nat.{ℕ, zero, suc, ◌+◌, ◌-◌, ◌<◌}
 use mathlib.Core.Path.{◌≡◌, ◌∙◌}
@@ -26,12 +28,11 @@ use Rattle.matcher.specs.Score.{same_id}
 use Rattle.matcher.specs.declared.Matched.{Matched}
 use Rattle.predict.specs.Meets.{budget}
 use Rattle.predict.specs.Outgoing.{last_of}
-use Rattle.predict.specs.Start.{first_of, place}
 use Rattle.predict.specs.Predict as Start
 use Rattle.predict.specs.Predict.{track_from, walk_from, prediction, outcome_by, Forecast, forecast_of, trip_of, road_over, start_look, directed_over, forecast_over}
 use Rattle.predict.specs.Ridden.{Backs, Written, back_step, back_next, backs_to, backs, last_sample, no_mark, ridden}
 use Rattle.predict.specs.Samples.{Pushed, sample_at, height_at, push_from, pushed}
-use Rattle.predict.specs.Start.{start_ok}
+use Rattle.predict.specs.Start.{first_of, place, start_ok}
 use Rattle.predict.specs.Vertex as Vertex
 use Rattle.predict.specs.Vertex.{Along, step_of, passed, advanced, vertex_step, vertices, to_end}
 use Rattle.predict.specs.Walk.{Onto, entered, Run, begun, goes_on, leg_of, along, driven, edge_look, edge_step, walk_to, walk_over}
@@ -181,11 +182,11 @@ pub record FiguresTyped (p : Prediction) : Type 0 where
   pub end : Single p.end_m
   pub confidence : Byte p.confidence
 
-abbrev pub OutcomeTyped : Outcome → Type 0
-OutcomeTyped (Outcome.Road p) = FiguresTyped p
-OutcomeTyped (Outcome.Need key) = Unit
-OutcomeTyped Outcome.Rematch = Unit
-OutcomeTyped (Outcome.Refused number) = Unit
+abbrev pub OutcomeTyped : Result Outcome Refusal → Type 0
+OutcomeTyped (Ok (Outcome.Road p)) = FiguresTyped p
+OutcomeTyped (Ok (Outcome.Need key)) = Unit
+OutcomeTyped (Ok Outcome.Rematch) = Unit
+OutcomeTyped (Err number) = Unit
 
 outcome_typed : (ending : Ending) (w : Walk) (k : Track) (b : Behind) → Single k.distance → Single b.m → OutcomeTyped (outcome_by ending w k b)
 unfolding prediction
@@ -219,18 +220,18 @@ module _ {S : Type 0} (rd : Reader S) (n a b : ℕ) (samples behind : List ℤ) 
       (record { heights = pushed_typed a no_mark samples (whole 0) (pos 0) ahead; distance = single_whole 0 }) 2000)
       (ridden_typed b trip back_leg bs (Layout.head_of bs).lon_um m here behind gone back)
 
-  untouched : (x : Outcome) (s : S) → OutcomeTyped x → ForecastTyped {S = S} a b (record { answer = x; samples = samples; behind = behind; carried = s })
+  untouched : (x : Result Outcome Refusal) (s : S) → OutcomeTyped x → ForecastTyped {S = S} a b (record { answer = x; samples = samples; behind = behind; carried = s })
   untouched x s t = record { answer = t; samples = ahead; behind = back }
 
   start_typed : (l : Look) (h : Header) (forward : Bool) (horizon : Float) → Single horizon → (s : S)
       → ForecastTyped a b (start_look rd n l h m forward horizon s samples behind)
   start_typed (ready bs) h forward horizon single s =
       either (ForecastTyped a b) (same_id (Layout.id_of bs) m.tile) _ _
-      (either (ForecastTyped a b) (start_ok bs m) _ _ (road_typed (trip_of h m horizon) single forward _ bs) (untouched (Outcome.Refused 10) _ tt))
-      (untouched Outcome.Rematch _ tt)
-  start_typed missing h forward horizon single s = untouched Outcome.Rematch s tt
-  start_typed absent h forward horizon single s = untouched (Outcome.Need m.tile.key) s tt
-  start_typed stale h forward horizon single s = untouched (Outcome.Refused 12) s tt
+      (either (ForecastTyped a b) (start_ok bs m) _ _ (road_typed (trip_of h m horizon) single forward _ bs) (untouched (Err Refusal.BadStart) _ tt))
+      (untouched (Ok Outcome.Rematch) _ tt)
+  start_typed missing h forward horizon single s = untouched (Ok Outcome.Rematch) s tt
+  start_typed absent h forward horizon single s = untouched (Ok (Outcome.Need m.tile.key)) s tt
+  start_typed stale h forward horizon single s = untouched (Err Refusal.BadState) s tt
 
   directed_typed : (forward : Option Bool) (h : Header) (horizon : Float) → Single horizon → (s : S)
       → ForecastTyped a b (directed_over rd n forward h m horizon s samples behind)

@@ -214,7 +214,7 @@ answer_told (Direct.predicted x samples behind) = predicted (Roads.predicted_out
 unfoldable pub told : Call → World → HostAnswer
 told (Direct.read its_ahead) w = road_read (Host.ahead_told (Engines.ahead w.engine w.arena))
 told (Direct.read its_header) w =
-    header_read (Host.header_told (Host.known_told (Engines.header w.engine w.arena).answer) (Engines.header w.engine w.arena).header)
+    header_read (Host.header_told (Engines.header w.engine w.arena))
 told (Direct.nearby h p) w = near_read (Roads.near_out (Matching.nearby h p))
 told (Direct.read its_heading) w = answer_told (exec (Direct.read its_heading) w).answer
 told (Direct.read its_loads) w = answer_told (exec (Direct.read its_loads) w).answer

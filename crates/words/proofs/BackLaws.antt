@@ -1,5 +1,7 @@
 -- An engine is read back from its words (`engine_words`), so its words are accepted (`accepted-words`). The idea: dropping what stands before a piece leaves the piece and the rest; the
 -- piece's own reader then meets the piece's own words.
+use Rattle.engine.specs.declared.Fix.{Fix}
+use Rattle.tile.specs.declared.TileId.{TileId}
 use Rattle.std.specs.Prelude.{Option, Some, None}
 use Rattle.cache.specs.declared.Loading.{Loading}
 use Rattle.pack.specs.declared.TileKey.{TileKey}
@@ -15,8 +17,6 @@ use Rattle.cache.specs.declared.Pages.{Pages}
 use Rattle.cache.specs.declared.Pending.{Pending}
 use Rattle.cache.specs.declared.Ring.{Ring}
 use Rattle.cache.specs.declared.Slot.{Slot}
-use Rattle.matcher.specs.declared.Challenger.{Challenger}
-use Rattle.matcher.specs.declared.Current.{Current}
 use Rattle.matcher.specs.declared.Heading.{Heading}
 use Rattle.matcher.specs.declared.Matched.{Matched}
 use Rattle.matcher.specs.declared.Matcher.{Matcher}
@@ -24,8 +24,6 @@ use Rattle.engine.specs.declared.Ahead.{Ahead}
 use Rattle.engine.specs.declared.Due.{Due}
 use Rattle.engine.specs.declared.Engine.{Engine}
 use Rattle.engine.specs.declared.Follower.{Follower}
-use Rattle.engine.specs.declared.MaybeFix.{MaybeFix}
-use Rattle.engine.specs.declared.MaybeTime.{MaybeTime}
 use Rattle.engine.specs.declared.Places.{Places}
 use Rattle.engine.specs.declared.Shared.{Shared}
 use Rattle.engine.specs.declared.Sight.{Sight}
@@ -194,9 +192,9 @@ shared_back s t ws zs e =
 
 -- ---- the fixes
 
-fix_by_lem : (f : MaybeFix) → TypedFix f → (zs : List ℕ) → fix_by (λ (k : ℕ). get_or (fix_words f ++ zs) k 0) ≡ f
-fix_by_lem MaybeFix.Nothing t zs = refl
-fix_by_lem (MaybeFix.Is f) t zs = rw (signed_back f.lat t.0, signed_back f.lon t.1, long_back f.at_ms)
+fix_by_lem : (f : Option Fix) → TypedFix f → (zs : List ℕ) → fix_by (λ (k : ℕ). get_or (fix_words f ++ zs) k 0) ≡ f
+fix_by_lem None t zs = refl
+fix_by_lem (Some f) t zs = rw (signed_back f.lat t.0, signed_back f.lon t.1, long_back f.at_ms)
 
 point_by_lem : (p : Point) (w : ℕ → ℕ) → w 0 ≡ bits32 p.lat → w 1 ≡ bits32 p.lon → signed32 (bits32 p.lat) ≡ p.lat → signed32 (bits32 p.lon) ≡ p.lon
     → point_by w ≡ p
@@ -246,7 +244,7 @@ sight_back s t ws zs e =
 
 -- ---- the match
 
-matched_by_lem : (m : Matched) → TypedMatched m → (zs : List ℕ) → matched_by (λ (k : ℕ). get_or (current_words (Current.Is m) ++ zs) k 0) ≡ m
+matched_by_lem : (m : Matched) → TypedMatched m → (zs : List ℕ) → matched_by (λ (k : ℕ). get_or (current_words (Some m) ++ zs) k 0) ≡ m
 matched_by_lem m t zs =
     rw (
       key_back m.tile.key t.tile.0,
@@ -265,17 +263,17 @@ matched_by_lem m t zs =
       float_back m.ridden_m t.ridden,
     ))
 
-current_by_lem : (c : Current) → TypedCurrent c → (zs : List ℕ) → current_by (λ (k : ℕ). get_or (current_words c ++ zs) k 0) ≡ c
+current_by_lem : (c : Option Matched) → TypedCurrent c → (zs : List ℕ) → current_by (λ (k : ℕ). get_or (current_words c ++ zs) k 0) ≡ c
 unfolding current_by
-current_by_lem Current.Nothing t zs = refl
-current_by_lem (Current.Is m) t zs = ap Current.Is (matched_by_lem m t zs)
+current_by_lem None t zs = refl
+current_by_lem (Some m) t zs = ap Some (matched_by_lem m t zs)
 
-current_back : (c : Current) → TypedCurrent c → (ws : List ℕ) (at : ℕ) (zs : List ℕ) → drop at ws ≡ current_words c ++ zs → current_by (from ws at) ≡ c
+current_back : (c : Option Matched) → TypedCurrent c → (ws : List ℕ) (at : ℕ) (zs : List ℕ) → drop at ws ≡ current_words c ++ zs → current_by (from ws at) ≡ c
 current_back c t ws at zs e = ap current_by (from_is ws at (current_words c ++ zs) e) ∙ current_by_lem c t zs
 
-challenger_by_lem : (c : Challenger) → TypedChallenger c → (zs : List ℕ) → challenger_by (λ (k : ℕ). get_or (challenger_words c ++ zs) k 0) ≡ c
-challenger_by_lem Challenger.Nothing t zs = refl
-challenger_by_lem (Challenger.Is i e n) t zs =
+challenger_by_lem : (c : Option (TileId × ℕ × ℕ)) → TypedChallenger c → (zs : List ℕ) → challenger_by (λ (k : ℕ). get_or (challenger_words c ++ zs) k 0) ≡ c
+challenger_by_lem None t zs = refl
+challenger_by_lem (Some (i, e, n)) t zs =
     rw (key_back i.key t.0.0, short_back i.edges t.0.1, short_back e t.1.0, byte_back n t.1.1)
 
 matcher_back : (m : Matcher) → TypedMatcher m → (ws zs : List ℕ) → drop 581 ws ≡ matcher_words m ++ zs → matcher_of ws 581 ≡ m
@@ -294,9 +292,9 @@ matcher_back m t ws zs e =
 
 -- ---- what is due
 
-time_by : (m : MaybeTime) (zs : List ℕ) → time_of (get_or (time_words m ++ zs) 0 0) (get_or (time_words m ++ zs) 1 0) (get_or (time_words m ++ zs) 2 0) ≡ m
-time_by MaybeTime.Nothing zs = refl
-time_by (MaybeTime.At n) zs = ap MaybeTime.At (long_back n)
+time_by : (m : Option ℕ) (zs : List ℕ) → time_of (get_or (time_words m ++ zs) 0 0) (get_or (time_words m ++ zs) 1 0) (get_or (time_words m ++ zs) 2 0) ≡ m
+time_by None zs = refl
+time_by (Some n) zs = ap Some (long_back n)
 
 due_back : (d : Due) → TypedDue d → (ws zs : List ℕ) → drop 603 ws ≡ due_words d ++ zs → due_of ws 603 ≡ d
 unfolding due_words due_of

@@ -39,7 +39,6 @@ use Rattle.words.specs.Opens.{opened_as}
 use Rattle.words.specs.Put.{put}
 use Rattle.words.specs.Typed.{TypedKey}
 use Rattle.words.specs.Words.{from, key_word, maybe_key_of, header_by, due_of, loading_words, pending_words, slot_words, pages_of, cache_of, shared_of, follower_of, words, engine_of, accepted}
-use Rattle.words.specs.declared.deliver.Begins.{Begins}
 use Rattle.words.proofs.BackLaws.{SlotBack, PagesBack, typed_slot}
 use Rattle.cache.proofs.VictimLaws.{oldest_is}
 use Rattle.words.proofs.PageSetLaws.{slot_put, age_put, loading_there, pages_read, pages_again, accepted_again, engine_own, own_pages}
@@ -364,23 +363,23 @@ unfolding engine_of shared_of cache_of
 idle_in ws z = rw z
 
 module _ (ws : List ℕ) (failure : ℕ) (bs : List ℕ) where
-  abbrev made_of : Begins
+  abbrev made_of : Option (TileKey × ℕ × ℕ × ℕ)
   made_of = begins (engine_of ws) failure bs
 
-  pub begins_unread : eqb failure 0 ≡ false → Begins.Nothing ≡ made_of
+  pub begins_unread : eqb failure 0 ≡ false → None ≡ made_of
   unfolding begins
   begins_unread q = rw q
 
-  pub begins_short : eqb failure 0 ≡ true → eqb (length bs) 8 ≡ false → Begins.Nothing ≡ made_of
+  pub begins_short : eqb failure 0 ≡ true → eqb (length bs) 8 ≡ false → None ≡ made_of
   unfolding begins
   begins_short q r = rw (q, r)
 
   -- another tile is being loaded
-  pub begins_busy : accepted ws ≡ true → get_or ws 530 0 ≢ 0 → Begins.Nothing ≡ made_of
+  pub begins_busy : accepted ws ≡ true → get_or ws 530 0 ≢ 0 → None ≡ made_of
   unfolding begins
   begins_busy h z = by (eqb failure 0 && eqb (length bs) 8) (engine_of ws).shared.cache.loading refl
     where
-      by : (t : Bool) (m : Option Loading) → (engine_of ws).shared.cache.loading ≡ m → Begins.Nothing ≡ cond t (begins_over m (engine_of ws) bs) Begins.Nothing
+      by : (t : Bool) (m : Option Loading) → (engine_of ws).shared.cache.loading ≡ m → None ≡ cond t (begins_over m (engine_of ws) bs) None
       by true (Some l) q = refl
       by true None q = absurd (z (ap (λ (x : List ℕ). get_or x 530 0) (sym (words_engine ws h)) ∙ loading_there (engine_of ws) ∙ rw q))
       by false m q = refl
@@ -408,15 +407,15 @@ pub record Beginning (e : Engine) (failure : ℕ) (bs : List ℕ) (key : TileKey
   pub small : ltb 49152 len ≡ false
   pub room : victim e.shared.cache.pages (span len) ≡ Some slot
 
-abbrev is_at : Begins → Bool
-is_at Begins.Nothing = false
-is_at (Begins.At k s o l) = true
+abbrev is_at : Option (TileKey × ℕ × ℕ × ℕ) → Bool
+is_at None = false
+is_at (Some (k, s, o, l)) = true
 
 module _ (e : Engine) (failure : ℕ) (bs : List ℕ) (key : TileKey) (slot offset len : ℕ) where
-  abbrev At : Begins
-  At = Begins.At key slot offset len
+  abbrev At : Option (TileKey × ℕ × ℕ × ℕ)
+  At = Some (key, slot, offset, len)
 
-  none_not : Begins.Nothing ≡ At → ⊥
+  none_not : None ≡ At → ⊥
   none_not q = true≢false (sym (ap is_at q))
 
   module _ (k : TileKey) (o l : ℕ) (read : (eqb failure 0 && eqb (length bs) 8) ≡ true) (idle : e.shared.cache.loading ≡ None)
@@ -424,10 +423,11 @@ module _ (e : Engine) (failure : ℕ) (bs : List ℕ) (key : TileKey) (slot offs
     by_found : ltb 49152 l ≡ false → (f : Option ℕ) → victim e.shared.cache.pages (span l) ≡ f → begins_in f k o l ≡ At → Beginning e failure bs key slot offset len
     by_found small None room q = absurd (none_not q)
     by_found small (Some s) room q =
-        let a : k ≡ key = cc in
-        let b : s ≡ slot = cc in
-        let c : o ≡ offset = cc in
-        let d : l ≡ len = cc in
+        let same : ◌≡◌ {A = TileKey × ℕ × ℕ × ℕ} (k, s, o, l) (key, slot, offset, len) = cc in
+        let a = ap (λ (t : TileKey × ℕ × ℕ × ℕ). t.0) same in
+        let b = ap (λ (t : TileKey × ℕ × ℕ × ℕ). t.1) same in
+        let c = ap (λ (t : TileKey × ℕ × ℕ × ℕ). t.2) same in
+        let d = ap (λ (t : TileKey × ℕ × ℕ × ℕ). t.3) same in
         record {
           read = read;
           idle = idle;
@@ -437,7 +437,7 @@ module _ (e : Engine) (failure : ℕ) (bs : List ℕ) (key : TileKey) (slot offs
           room = ap (λ (n : ℕ). victim e.shared.cache.pages (span n)) (sym d) ∙ room ∙ ap Some b;
         }
 
-    by_len : (t : Bool) → ltb 49152 l ≡ t → cond t Begins.Nothing (begins_in (victim e.shared.cache.pages (span l)) k o l) ≡ At
+    by_len : (t : Bool) → ltb 49152 l ≡ t → cond t None (begins_in (victim e.shared.cache.pages (span l)) k o l) ≡ At
         → Beginning e failure bs key slot offset len
     by_len true large q = absurd (none_not q)
     by_len false small q = by_found small (victim e.shared.cache.pages (span l)) refl q
@@ -458,7 +458,7 @@ module _ (e : Engine) (failure : ℕ) (bs : List ℕ) (key : TileKey) (slot offs
   by_load read None idle q = by_need read idle e.follower.due.need refl q
   by_load read (Some l) idle q = absurd (none_not q)
 
-  by_answer : (t : Bool) → (eqb failure 0 && eqb (length bs) 8) ≡ t → cond t (begins_over e.shared.cache.loading e bs) Begins.Nothing ≡ At
+  by_answer : (t : Bool) → (eqb failure 0 && eqb (length bs) 8) ≡ t → cond t (begins_over e.shared.cache.loading e bs) None ≡ At
       → Beginning e failure bs key slot offset len
   by_answer true read q = by_load read e.shared.cache.loading refl q
   by_answer false read q = absurd (none_not q)
@@ -527,12 +527,12 @@ module _ (e : Engine) (arena bs : List ℕ) (failure : ℕ) (k : TileKey) (ok : 
   left_by x = over (loaded e₁ (Loads.told x)) x.arena
 
   abbrev made : Next → Bool → After
-  made n taken = cond taken (left_by (Loads.stepped c₁ n arena e.shared.header key failure bs)) (over (refused e₁ 11) arena)
+  made n taken = cond taken (left_by (Loads.stepped c₁ n arena e.shared.header key failure bs)) (over (refused e₁ Refusal.NotAsked) arena)
 
   entry_taken : Loads.takes Next.Entry e.shared.header key failure (length bs) ≡ true
   entry_taken = rw (inside, and_left (eqb failure 0) _ b.read, and_right (eqb failure 0) _ b.read)
 
-  pub entry_begins : need_came e₁ arena failure bs ≡ over (record { answer = Status.Working; engine = begun e key slot offset len }) arena
+  pub entry_begins : need_came e₁ arena failure bs ≡ over (record { answer = Ok Status.Working; engine = begun e key slot offset len }) arena
   entry_begins =
       ap (λ (n : Option TileKey). need_came_by n e₁ arena failure bs) b.needed
       ∙ part_is e₁ arena key failure bs inside

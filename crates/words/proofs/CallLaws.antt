@@ -1,6 +1,8 @@
 -- The matcher's and predict's own calls on the cache that words hold: number 12's causes one by one (`given_is`), and both calls by them (`update_is`, `predict_is`); the words that a call
 -- leaves where it leaves the cache (`left_kept`), and where it changes clock and ages (`left_uses`); and a road over the numbers that its lookups go by (`predict_looks`), after which clock and
 -- ages are put but for the late 12 (`left_stale`, `left-road`).
+use Rattle.refusal.specs.declared.Refusal.{Refusal}
+use Rattle.std.specs.Prelude.{Result, Ok, Err}
 use Rattle.std.proofs.Common.{◌≡◌, ℕ, Bool, true, false, cond, ◌&&◌, List, [], ◌∷◌, length, get_or, ℤ, sym, refl, ap, ◌∙◌}
 use lib.Ieee.{Float}
 use Rattle.pack.specs.Grid.{in_grid}
@@ -43,11 +45,11 @@ within true b x y = refl
 within false b x y = refl
 
 -- after a late 12 the state is the one given
-stale_keeps : (o : Outcome) (c d : Cache) → cache_after o c d ≡ cond (is_stale o) c d
-stale_keeps (Outcome.Road p) c d = refl
-stale_keeps (Outcome.Need key) c d = refl
-stale_keeps Outcome.Rematch c d = refl
-stale_keeps (Outcome.Refused number) c d = refl
+stale_keeps : (o : Result Outcome Refusal) (c d : Cache) → cache_after o c d ≡ cond (is_stale o) c d
+stale_keeps (Ok (Outcome.Road p)) c d = refl
+stale_keeps (Ok (Outcome.Need key)) c d = refl
+stale_keeps (Ok Outcome.Rematch) c d = refl
+stale_keeps (Err number) c d = refl
 
 module _ (ws : List ℕ) where
   abbrev here : Cache
@@ -85,12 +87,12 @@ module _ (ws : List ℕ) where
 
       module _ (m : Matcher) (fix : Point) (heading : Heading) where
         pub update_is : Calls.update ws arena m h fix heading
-            ≡ cond (given_tested ws h (length arena) && matcher_ok m h) (update_tested m here arena h fix heading) (refused m here 12)
+            ≡ cond (given_tested ws h (length arena) && matcher_ok m h) (update_tested m here arena h fix heading) (refused m here Refusal.BadState)
         unfolding Calls.update given_tested Matching.update call_ok
         update_is =
-            within (accepted ws) (call_ok m here h (length arena)) (update_tested m here arena h fix heading) (refused m here 12)
+            within (accepted ws) (call_ok m here h (length arena)) (update_tested m here arena h fix heading) (refused m here Refusal.BadState)
             ∙ ap
-            (λ (t : Bool). cond t (update_tested m here arena h fix heading) (refused m here 12))
+            (λ (t : Bool). cond t (update_tested m here arena h fix heading) (refused m here Refusal.BadState))
             (and_assoc (accepted ws) (cache_ok here h (length arena)) (matcher_ok m h))
 
         -- of the cache clock and ages alone are changed
@@ -105,10 +107,10 @@ module _ (ws : List ℕ) where
 
       module _ (m : Matched) (horizon : Float) (samples behind : List ℤ) where
         pub predict_is : Calls.predict ws arena h m horizon samples behind
-            ≡ cond (given_tested ws h (length arena)) (predict_tested here arena h m horizon samples behind) (untouched (Predict.refused here 12) samples behind)
+            ≡ cond (given_tested ws h (length arena)) (predict_tested here arena h m horizon samples behind) (untouched (Predict.refused here Refusal.BadState) samples behind)
         unfolding Calls.predict given_tested Predict.predict
         predict_is =
-            within (accepted ws) (cache_ok here h (length arena)) (predict_tested here arena h m horizon samples behind) (untouched (Predict.refused here 12) samples behind)
+            within (accepted ws) (cache_ok here h (length arena)) (predict_tested here arena h m horizon samples behind) (untouched (Predict.refused here Refusal.BadState) samples behind)
 
         module _ (given : given_tested ws h (length arena) ≡ true) (grid : in_grid h m.tile.key ≡ true) where
           abbrev road : Forecast (List ℕ)

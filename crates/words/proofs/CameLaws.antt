@@ -2,11 +2,9 @@
 -- Which definition that is, by the tests: number 12 (`deliver_tested`, `deliver_refused`, `step_refused`), a chunk that leaves more to come (`chunk_goes_on`), a read from a lent pack (`read_there`,
 -- `read_past`), and what a step over one leaves open (`step_fetches`, `step_works`). The idea of the first: accepted words are an engine's (`words_engine`), and a piece that is put gives
 -- the words of that engine with the piece (`SetLaws`).
-use Rattle.std.specs.Prelude.{Option, Some, None}
-use Rattle.std.specs.Prelude.{Ok, Err}
+use Rattle.std.specs.Prelude.{Result, Option, Some, None, Ok, Err}
 use Rattle.refusal.specs.declared.Refusal.{Refusal}
-use Rattle.std.proofs.Common.{◌≡◌, ℕ, ◌+◌, ◌-◌, ◌%◌, ◌<◌, ◌≤◌, Bool, true, false, cond, ◌&&◌, eqb, ltb, ◌⊎◌, List, [], ◌∷◌, length, get_or, take, drop, sym, refl, ap, ◌∙◌, true≢false, arith, ltb-true, eqb-true}
-use denote.Enum.Declared.{tag_of}
+use Rattle.std.proofs.Common.{◌≡◌, ℕ, ◌+◌, ◌-◌, ◌%◌, ◌<◌, ◌≤◌, Bool, true, false, cond, ◌&&◌, eqb, ltb, List, [], ◌∷◌, length, get_or, take, drop, sym, refl, ap, ◌∙◌, true≢false, arith, ltb-true, eqb-true}
 use Rattle.pack.specs.Grid.{read}
 use Rattle.pack.specs.declared.Header.{Header}
 use Rattle.pack.specs.declared.TileKey.{TileKey}
@@ -28,8 +26,6 @@ use Rattle.engine.specs.declared.Phase.{Phase}
 use Rattle.engine.specs.declared.Status.{Status}
 use Rattle.engine.specs.declared.Stepped.{Stepped}
 use Rattle.engine.specs.declared.plan.Plan.{Plan}
-use Rattle.engine.specs.contracts.Status as Statuses
-use Rattle.engine.proofs.StepNeeds.{step_over}
 use Rattle.engine.proofs.SummaryLaws.{chunk_more}
 use Rattle.engine_states.proofs.EngineClosed.{step_ok}
 use Rattle.words.specs.Calls as Calls
@@ -121,11 +117,11 @@ module _ (ws : List ℕ) (h : accepted ws ≡ true) where
       ∙ ap (put 1147 ((failures + 1) ∷ [])) (steps_put _ (after (get_or ws 1149 0)))
       ∙ failures_put _ (failures + 1))
 
-  pub failed_tells : (c : Cache) → ltb failures 7 ≡ true → (load_failed e₀ c).answer ≡ Status.Working
+  pub failed_tells : (c : Cache) → ltb failures 7 ≡ true → (load_failed e₀ c).answer ≡ Ok Status.Working
   unfolding engine_of follower_of load_failed
   failed_tells c few = rw few
 
-  pub eighth_tells : (c : Cache) → ltb failures 7 ≡ false → (load_failed e₀ c).answer ≡ Status.NoPack
+  pub eighth_tells : (c : Cache) → ltb failures 7 ≡ false → (load_failed e₀ c).answer ≡ Ok Status.NoPack
   unfolding engine_of follower_of load_failed
   eighth_tells c many = rw many
 
@@ -155,12 +151,12 @@ module _ (ws : List ℕ) (h : accepted ws ≡ true) where
 module _ (e : Engine) (failure : ℕ) where
   pub header_tried : eqb failure 1 ≡ true → ltb e.follower.failures 7 ≡ true
       → header_failed (opened_as e Pending.Header) failure
-      ≡ record { answer = Status.Working; engine = Came.phased e Phase.Unread e.shared.header (e.follower.failures + 1) }
+      ≡ record { answer = Ok Status.Working; engine = Came.phased e Phase.Unread e.shared.header (e.follower.failures + 1) }
   unfolding header_failed
   header_tried missed few = rw (missed, few)
 
   abbrev fails : Type 0
-  fails = header_failed (opened_as e Pending.Header) failure ≡ record { answer = Status.NoPack; engine = Came.phased e Phase.Failed e.shared.header e.follower.failures }
+  fails = header_failed (opened_as e Pending.Header) failure ≡ record { answer = Ok Status.NoPack; engine = Came.phased e Phase.Failed e.shared.header e.follower.failures }
 
   failed_by : (b d : Bool) → (b && d) ≡ false → eqb failure 1 ≡ b → ltb e.follower.failures 7 ≡ d → fails
   unfolding header_failed
@@ -180,7 +176,7 @@ module _ (ws : List ℕ) (p : Pending) (arena : List ℕ) (failure : ℕ) (bs : 
   abbrev e₁ : Engine
   e₁ = opened_as (engine_of ws) p
 
-  pub none_came : (engine_of ws).follower.due.need ≡ None → need_came e₁ arena failure bs ≡ over (refused e₁ 11) arena
+  pub none_came : (engine_of ws).follower.due.need ≡ None → need_came e₁ arena failure bs ≡ over (refused e₁ Refusal.NotAsked) arena
   none_came q = ap (λ (k : Option TileKey). need_came_by k e₁ arena failure bs) q
 
   pub some_came : {key : TileKey} → (engine_of ws).follower.due.need ≡ Some key
@@ -198,7 +194,7 @@ tile_less {m} {l} q = chunk_less l
 module _ (e : Engine) (arena bs : List ℕ) (failure : ℕ) (ok : engine_ok (opened_as e Pending.Chunk) (length arena) ≡ true)
     {l : Loading} (loads : e.shared.cache.loading ≡ Some l) (more : Came.is_more l failure (length bs) ≡ true) where
   pub chunk_goes_on : need_came (opened_as e Pending.Chunk) arena failure bs
-      ≡ over (record { answer = Status.Working; engine = Came.further e l (l.done + chunk_len l) }) (Loads.put arena l.slot l.done bs)
+      ≡ over (record { answer = Ok Status.Working; engine = Came.further e l (l.done + chunk_len l) }) (Loads.put arena l.slot l.done bs)
   unfolding delivered moved
   chunk_goes_on =
       let rest = and_right (eqb failure 0) _ more in
@@ -226,17 +222,9 @@ module _ (e : Engine) (arena : List ℕ) (offset len : ℕ) (pack : List ℕ) (o
   read_past past = rw (past, ok)
 
 -- the read that a fetch asks for, and what follows it
-pub fetch_follows : (e : Engine) (p : Pending) (arena pack : List ℕ) {offset len : ℕ} → request_of e.shared p ≡ Status.Fetch offset len
+pub fetch_follows : (e : Engine) (p : Pending) (arena pack : List ℕ) {offset len : ℕ} → request_of e.shared p ≡ Ok (Status.Fetch offset len)
     → Engines.step_from_by (opened e p).answer (opened e p) arena pack ≡ Engines.answered_from (opened_as e p) arena offset len pack
-fetch_follows e p arena pack q = ap (λ (a : Status). Engines.step_from_by a (opened e p) arena pack) q
-
-abbrev status_tag : Status → ℕ
-status_tag a = tag_of Statuses.the_type a
-
-pub fetch_over : (e : Engine) (p : Pending) (arena pack : List ℕ) {r : Status} → r ≡ request_of e.shared p
-    → (status_tag r ≡ 0) ⊎ ((status_tag r ≡ 1) ⊎ ((status_tag r ≡ 2) ⊎ ((status_tag r ≡ 3) ⊎ (status_tag r ≡ 5))))
-    → Engines.step_from_by (opened e p).answer (opened e p) arena pack ≡ over (opened e p) arena
-fetch_over e p arena pack {r} q other = ap (λ (a : Status). Engines.step_from_by a (opened e p) arena pack) (sym q) ∙ step_over r other (opened e p) arena pack
+fetch_follows e p arena pack q = ap (λ (a : Result Status Refusal). Engines.step_from_by a (opened e p) arena pack) q
 
 -- ---- number 12
 
@@ -279,9 +267,11 @@ module _ (ws arena : List ℕ) where
     step_by true true q r t = absurd (true≢false t)
     step_by true false q r t = rw (q, r) (ap (λ (x : List ℕ). Calls.keeps x arena) (words_engine ws q))
 
-    pub step_refused : planned ws size ≡ Planned.Refused → Calls.step_from ws arena pack ≡ Calls.keeps ws arena
+    pub step_refused : {refusal : Refusal} → planned ws size ≡ Err refusal → (Calls.step_from ws arena pack ≡ Calls.keeps ws arena) × (Refusal.BadState ≡ refusal)
     unfolding tested
-    step_refused q = step_by (accepted ws) (engine_ok (engine_of ws) size) refl refl (planned_refused ws size q)
+    step_refused q =
+        let told = planned_refused ws size q in
+        (step_by (accepted ws) (engine_ok (engine_of ws) size) refl refl told.0, told.1)
 
     abbrev goes_on : Stepped → Calls.Delivered
     goes_on s = Calls.delivered (Engines.step_from_by s.answer s arena pack)
@@ -291,21 +281,21 @@ module _ (ws arena : List ℕ) where
     step_tested t = rw (accepted_in t, ok_in t)
 
     -- a fetch is open, or opened: its read follows
-    pub step_fetches : {p : Pending} → planned ws size ≡ Planned.Opens p → Calls.step_from ws arena pack ≡ goes_on (opened (engine_of ws) p)
+    pub step_fetches : {p : Pending} → planned ws size ≡ Ok (Planned.Opens p) → Calls.step_from ws arena pack ≡ goes_on (opened (engine_of ws) p)
     step_fetches q = step_tested (planned-opens ws size q).0 ∙ ap goes_on (leaves_open ws arena q)
 
     -- none is
-    pub step_works : {p : Plan} → planned ws size ≡ Planned.Works p → Calls.step_from ws arena pack ≡ Calls.delivered (over (stepped (engine_of ws) arena) arena)
+    pub step_works : {p : Plan} → planned ws size ≡ Ok (Planned.Works p) → Calls.step_from ws arena pack ≡ Calls.delivered (over (stepped (engine_of ws) arena) arena)
     step_works q =
         let told = planned_works ws size q in
         let closed = closed_step (engine_of ws) arena size (ok_in told.0) (ap is_open told.1.0) in
         step_tested told.0 ∙ ap Calls.delivered (no_fetch (stepped (engine_of ws) arena).answer (stepped (engine_of ws) arena) arena pack closed)
 
   -- number 12 does not name an engine with a fetch that a step leaves open
-  pub opened_ok : {p : Pending} → planned ws size ≡ Planned.Opens p → engine_ok (opened_as (engine_of ws) p) size ≡ true
+  pub opened_ok : {p : Pending} → planned ws size ≡ Ok (Planned.Opens p) → engine_ok (opened_as (engine_of ws) p) size ≡ true
   unfolding Engines.step
   opened_ok {p} q =
       let e = engine_of ws in
       let t = (planned-opens ws size q).0 in
-      let left : Engines.step e arena ≡ opened e p = ap (λ (b : Bool). cond b (stepped e arena) (refused e 12)) (ok_in t) ∙ leaves_open ws arena q in
+      let left : Engines.step e arena ≡ opened e p = ap (λ (b : Bool). cond b (stepped e arena) (refused e Refusal.BadState)) (ok_in t) ∙ leaves_open ws arena q in
       sym (ap (λ (s : Stepped). engine_ok s.engine size) left) ∙ step_ok e arena size (ok_in t)

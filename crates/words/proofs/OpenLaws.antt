@@ -1,8 +1,8 @@
 -- A step that leaves a fetch open does nothing else (`opens_step`), and one that opens none asks for no read (`closed_step`). The idea: by the open fetch, else by the plan; towards a
 -- tile by the cache's next step, and where that makes no read the cache settles the tile (`need_settled`).
+use Rattle.refusal.specs.Refusal.{number_of}
 use Rattle.refusal.specs.declared.Refusal.{Refusal}
-use Rattle.std.specs.Prelude.{Result, Ok, Err}
-use Rattle.std.specs.Prelude.{Option, Some, None}
+use Rattle.std.specs.Prelude.{Result, Ok, Err, Option, Some, None}
 use Rattle.std.proofs.Common.{◌≡◌, ℕ, ◌+◌, Bool, true, false, cond, eqb, ltb, List, [], replicate, pos, sym, refl, ap, ◌∙◌, true≢false}
 use Rattle.pack.specs.Grid.{key_of, in_grid}
 use Rattle.pack.specs.declared.TileKey.{TileKey}
@@ -15,7 +15,6 @@ use Rattle.cache.specs.declared.Loaded.{Loaded}
 use Rattle.cache.specs.declared.Pending.{Pending}
 use Rattle.cache.specs.declared.Progress.{Progress}
 use Rattle.cache.specs.declared.next.Next.{Next}
-use Rattle.matcher.specs.declared.Current.{Current}
 use Rattle.matcher.specs.declared.Matched.{Matched}
 use Rattle.matcher.specs.declared.Updated.{Updated}
 use Rattle.matcher.specs.declared.Outcome as MatchOutcome
@@ -35,7 +34,6 @@ use Rattle.engine.specs.declared.Due.{Due}
 use Rattle.engine.specs.declared.Engine.{Engine}
 use Rattle.engine.specs.declared.Fix.{Fix}
 use Rattle.engine.specs.declared.Follower.{Follower}
-use Rattle.engine.specs.declared.MaybeFix.{MaybeFix}
 use Rattle.engine.specs.declared.Phase.{Phase}
 use Rattle.engine.specs.declared.Status.{Status}
 use Rattle.engine.specs.declared.Stepped.{Stepped}
@@ -61,23 +59,23 @@ is_need (Plan.Road fix found) = false
 is_need Plan.Roadless = false
 is_need (Plan.Off fix) = false
 
-no_road : (m : Current) (fix : Fix) → is_need (of_road m fix) ≡ false
-no_road (Current.Is found) fix = refl
-no_road Current.Nothing fix = refl
+no_road : (m : Option Matched) (fix : Fix) → is_need (of_road m fix) ≡ false
+no_road (Some found) fix = refl
+no_road None fix = refl
 
-no_due : (matching road : Bool) (m : Current) (fix : Fix) → is_need (cond matching (Plan.Match fix) (cond road (of_road m fix) Plan.Rest)) ≡ false
+no_due : (matching road : Bool) (m : Option Matched) (fix : Fix) → is_need (cond matching (Plan.Match fix) (cond road (of_road m fix) Plan.Rest)) ≡ false
 no_due true road m fix = refl
 no_due false true m fix = no_road m fix
 no_due false false m fix = refl
 
-no_fix : (k : Option TileKey) (fix : Fix) (due : Due) (m : Current) → is_need (of_fix k fix due m) ≡ false
+no_fix : (k : Option TileKey) (fix : Fix) (due : Due) (m : Option Matched) → is_need (of_fix k fix due m) ≡ false
 no_fix (Some key) fix due m = no_due due.matching due.road m fix
 no_fix None fix due m = refl
 
 module _ (e : Engine) where
-  no_sight : (f : MaybeFix) → is_need (of_sight f e.shared.header e.follower.due e.follower.matcher.current) ≡ false
-  no_sight MaybeFix.Nothing = refl
-  no_sight (MaybeFix.Is fix) = no_fix (key_of e.shared.header fix.lat fix.lon) fix e.follower.due e.follower.matcher.current
+  no_sight : (f : Option Fix) → is_need (of_sight f e.shared.header e.follower.due e.follower.matcher.current) ≡ false
+  no_sight None = refl
+  no_sight (Some fix) = no_fix (key_of e.shared.header fix.lat fix.lon) fix e.follower.due e.follower.matcher.current
 
   -- the planned tile is the needed one
   needed_by : (n : Option TileKey) (key : TileKey)
@@ -119,22 +117,22 @@ module _ (e : Engine) where
   unfolding opens
   closed_plan t = (closed_by e.shared.cache.pending t).1
 
-abbrev pub is_fetch : Status → Bool
-is_fetch (Status.Fetch offset len) = true
-is_fetch Status.Idle = false
-is_fetch Status.Working = false
-is_fetch Status.NoPack = false
-is_fetch Status.OffMap = false
-is_fetch (Status.Refused number) = false
+abbrev pub is_fetch : Result Status Refusal → Bool
+is_fetch (Ok (Status.Fetch offset len)) = true
+is_fetch (Ok Status.Idle) = false
+is_fetch (Ok Status.Working) = false
+is_fetch (Ok Status.NoPack) = false
+is_fetch (Ok Status.OffMap) = false
+is_fetch (Err number) = false
 
 -- a delivery follows a fetch alone
-pub no_fetch : (a : Status) (s : Stepped) (arena pack : List ℕ) → is_fetch a ≡ false → step_from_by a s arena pack ≡ over s arena
-no_fetch (Status.Fetch offset len) s arena pack q = absurd (true≢false q)
-no_fetch Status.Idle s arena pack q = refl
-no_fetch Status.Working s arena pack q = refl
-no_fetch Status.NoPack s arena pack q = refl
-no_fetch Status.OffMap s arena pack q = refl
-no_fetch (Status.Refused number) s arena pack q = refl
+pub no_fetch : (a : Result Status Refusal) (s : Stepped) (arena pack : List ℕ) → is_fetch a ≡ false → step_from_by a s arena pack ≡ over s arena
+no_fetch (Ok (Status.Fetch offset len)) s arena pack q = absurd (true≢false q)
+no_fetch (Ok Status.Idle) s arena pack q = refl
+no_fetch (Ok Status.Working) s arena pack q = refl
+no_fetch (Ok Status.NoPack) s arena pack q = refl
+no_fetch (Ok Status.OffMap) s arena pack q = refl
+no_fetch (Err number) s arena pack q = refl
 
 module _ (e : Engine) (arena : List ℕ) (size : ℕ) (ok : engine_ok e size ≡ true) where
   abbrev c₁ : Cache
@@ -176,23 +174,23 @@ module _ (e : Engine) (arena : List ℕ) (size : ℕ) (ok : engine_ok e size ≡
 
   -- ---- a step that opens none
 
-  closed_match : (a : MatchOutcome.Outcome) (f : Follower) (fix : Fix) (u : Updated) → is_fetch (match_ended_by a e f fix u).answer ≡ false
-  closed_match (Found.Found m) f fix u = refl
-  closed_match Found.Nothing f fix u = refl
-  closed_match (Found.Need key) f fix u = either_idle (may_ask f.due u.cache.pages.count)
+  closed_match : (a : Result MatchOutcome.Outcome Refusal) (f : Follower) (fix : Fix) (u : Updated) → is_fetch (match_ended_by a e f fix u).answer ≡ false
+  closed_match (Ok (Found.Found m)) f fix u = refl
+  closed_match (Ok Found.Nothing) f fix u = refl
+  closed_match (Ok (Found.Need key)) f fix u = either_idle (may_ask f.due u.cache.pages.count)
     where
-      either_idle : (b : Bool) → is_fetch (cond b Status.Working Status.Idle) ≡ false
+      either_idle : (b : Bool) → is_fetch (cond b (Ok Status.Working) (Ok Status.Idle)) ≡ false
       either_idle true = refl
       either_idle false = refl
-  closed_match (Found.Refused number) f fix u = refl
+  closed_match (Err refusal) f fix u = refl
 
-  closed_road : (a : RoadOutcome.Outcome) (f : Follower) (fix : Fix) (m : Matched) (x : After) → is_fetch (road_ended_by a e f fix m x).answer ≡ false
-  closed_road (Road.Road r) f fix m x = refl
-  closed_road (Road.Need key) f fix m x = refl
-  closed_road Road.Rematch f fix m x = refl
-  closed_road (Road.Refused number) f fix m x = by (eqb number 10)
+  closed_road : (a : Result RoadOutcome.Outcome Refusal) (f : Follower) (fix : Fix) (m : Matched) (x : After) → is_fetch (road_ended_by a e f fix m x).answer ≡ false
+  closed_road (Ok (Road.Road r)) f fix m x = refl
+  closed_road (Ok (Road.Need key)) f fix m x = refl
+  closed_road (Ok Road.Rematch) f fix m x = refl
+  closed_road (Err refusal) f fix m x = by (eqb (number_of refusal) 10)
     where
-      by : (b : Bool) → is_fetch (cond b (ended e x.predicted.cache (rematch f) Status.Working) (refused e number)).answer ≡ false
+      by : (b : Bool) → is_fetch (cond b (ended e x.predicted.cache (rematch f) (Ok Status.Working)) (refused e refusal)).answer ≡ false
       by true = refl
       by false = refl
 
@@ -202,7 +200,7 @@ module _ (e : Engine) (arena : List ℕ) (size : ℕ) (ok : engine_ok e size ≡
   closed_load (Ok Progress.More) c = refl
   closed_load (Ok (Progress.Failed number)) c = by (ltb e.follower.failures 7) (counted e.follower)
     where
-      by : (b : Bool) (f : Follower) → is_fetch (cond b (ended e c (failing f (f.failures + 1)) Status.Working) (failed_pack e c (failing f 8))).answer ≡ false
+      by : (b : Bool) (f : Follower) → is_fetch (cond b (ended e c (failing f (f.failures + 1)) (Ok Status.Working)) (failed_pack e c (failing f 8))).answer ≡ false
       by true f = refl
       by false f = refl
   closed_load (Err number) c = refl

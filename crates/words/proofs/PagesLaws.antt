@@ -1,8 +1,7 @@
 -- Pages and ring read where they stand among the words: which slot and which key stand at a place (`slot_at_lem`, `place_at`), and each test of them as a test of their words (`held_key`,
 -- `ready_is`, `run_is`, `loads_is`). A key's word has row and column, so equal words are equal keys (`same_key`). Then the searches of `in_ring` and `ready_at` by word (`ring_is`,
 -- `ready_at_is`); what `page_ok` asks of a page's words (`page_asks`), and the turn of `pages_ok` (`page_fails`, `slots_more`, `turn_run`, `turn_on`).
-use Rattle.std.specs.Prelude.{Option, Some, None}
-use Rattle.std.specs.Prelude.{is_some}
+use Rattle.std.specs.Prelude.{Option, Some, None, is_some}
 use Rattle.std.proofs.Common.{◌≡◌, ℕ, ◌+◌, ◌-◌, ◌*◌, ◌/◌, ◌%◌, ◌<◌, ◌≤◌, Bool, true, false, cond, not, ◌&&◌, ◌||◌, eqb, ltb, leb, List, length, get_or, sym, refl, ap, ◌∙◌, true≢false, add-zero, add-one, arith, ltb-false, ltb-true, lt-ltb, eq-eqb, ne_eqb, eqb-true, leb-false, leb-true}
 use mathlib.Core.Bool.{and-true, and-false}
 use lib.ListN.{get_or-eq_default}

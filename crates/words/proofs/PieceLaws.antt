@@ -1,5 +1,8 @@
 -- The pieces of each struct's words, with their lengths: put one behind the other they are the struct's words (`pages_put`, .., `engine_put`), held one behind the
 -- other they are held as one (`pages_held`, .., `engine_held`), and an engine has 1,150 words (`words-length`), whatever its arrays hold.
+use Rattle.engine.specs.declared.Fix.{Fix}
+use Rattle.tile.specs.declared.TileId.{TileId}
+use Rattle.matcher.specs.declared.Matched.{Matched}
 use Rattle.std.specs.Prelude.{Option, Some, None}
 use Rattle.cache.specs.declared.Loading.{Loading}
 use Rattle.pack.specs.declared.TileKey.{TileKey}
@@ -11,16 +14,12 @@ use Rattle.cache.specs.declared.Pages.{Pages}
 use Rattle.cache.specs.declared.Pending.{Pending}
 use Rattle.cache.specs.declared.Ring.{Ring}
 use Rattle.cache.specs.declared.Slot.{Slot}
-use Rattle.matcher.specs.declared.Challenger.{Challenger}
-use Rattle.matcher.specs.declared.Current.{Current}
 use Rattle.matcher.specs.declared.Heading.{Heading}
 use Rattle.matcher.specs.declared.Matcher.{Matcher}
 use Rattle.engine.specs.declared.Ahead.{Ahead}
 use Rattle.engine.specs.declared.Due.{Due}
 use Rattle.engine.specs.declared.Engine.{Engine}
 use Rattle.engine.specs.declared.Follower.{Follower}
-use Rattle.engine.specs.declared.MaybeFix.{MaybeFix}
-use Rattle.engine.specs.declared.MaybeTime.{MaybeTime}
 use Rattle.engine.specs.declared.Places.{Places}
 use Rattle.engine.specs.declared.Shared.{Shared}
 use Rattle.engine.specs.declared.Sight.{Sight}
@@ -70,25 +69,25 @@ pending_long Pending.Header = refl
 pending_long (Pending.Entry k) = refl
 pending_long Pending.Chunk = refl
 
-pub fix_long : (f : MaybeFix) → length (fix_words f) ≡ 5
-fix_long MaybeFix.Nothing = refl
-fix_long (MaybeFix.Is f) = refl
+pub fix_long : (f : Option Fix) → length (fix_words f) ≡ 5
+fix_long None = refl
+fix_long (Some f) = refl
 
 pub heading_long : (h : Heading) → length (heading_words h) ≡ 2
 heading_long Heading.Nothing = refl
 heading_long (Heading.Degrees d) = refl
 
-pub current_long : (c : Current) → length (current_words c) ≡ 14
-current_long Current.Nothing = refl
-current_long (Current.Is m) = refl
+pub current_long : (c : Option Matched) → length (current_words c) ≡ 14
+current_long None = refl
+current_long (Some m) = refl
 
-pub challenger_long : (c : Challenger) → length (challenger_words c) ≡ 6
-challenger_long Challenger.Nothing = refl
-challenger_long (Challenger.Is t e n) = refl
+pub challenger_long : (c : Option (TileId × ℕ × ℕ)) → length (challenger_words c) ≡ 6
+challenger_long None = refl
+challenger_long (Some (t, e, n)) = refl
 
-pub time_long : (t : MaybeTime) → length (time_words t) ≡ 3
-time_long MaybeTime.Nothing = refl
-time_long (MaybeTime.At t) = refl
+pub time_long : (t : Option ℕ) → length (time_words t) ≡ 3
+time_long None = refl
+time_long (Some t) = refl
 
 -- ---- pages
 

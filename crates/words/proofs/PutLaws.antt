@@ -1,8 +1,7 @@
 -- Pieces put one behind the other are put as one (`put_after`, `together`), those of a loop too (`put-spread`), and all of the words in their place are they (`put_all`).
 -- The idea: what stands before a piece and the piece itself is a front of known length, which the next piece leaves alone.
 use Rattle.std.proofs.Common.{◌≡◌, ℕ, zero, suc, ◌+◌, ◌*◌, ◌≤◌, List, [], ◌∷◌, ◌++◌, length, take, drop, sym, ap, ◌∙◌, append_assoc, append-nil, add-zero, arith, length-append, take-append-drop, drop_of_length-le, length-take-le, drop-drop, take_at}
-use lib.Seq.{drop-append-add, take-length}
-use lib.Seq.{paste}
+use lib.Seq.{drop-append-add, take-length, paste}
 use Rattle.num.specs.Fold.{up_to}
 use Rattle.words.specs.Put.{put}
 use Rattle.words.specs.Words.{flat, spread}

@@ -1,8 +1,10 @@
 -- What a match and a road leave on words. What is read from words is what their engine has (`cache_in`, .., `horizon_in`); the parts that change, each put at its place, give the words of the
--- engine that is left (`asked_words`, .., `gone_words`); and the engine's own definitions by what the code tests (`matched_found`, .., `road_rematches`), and over the numbers that a road's lookups go by (`road_looked`). The idea: accepted words are those of
+-- engine that is left (`asked_words`, .., `gone_words`); and the engine's own definitions by what the code tests (`matched_found`, .., `road_refuses`), and over the numbers that a road's lookups go by (`road_looked`). The idea: accepted words are those of
 -- their engine, and a piece put at its place gives the words of the engine with that part (`SetLaws`).
-use Rattle.std.proofs.Common.{◌≡◌, ℕ, ◌+◌, Bool, true, false, cond, eqb, ◌⊎◌, List, [], ◌∷◌, get_or, replicate, ℤ, pos, sym, refl, ap, ◌∙◌, ⊎_elim, true≢false, arith, eqb-true}
-use denote.Enum.Declared.{tag_of}
+use Rattle.refusal.specs.Refusal.{number_of}
+use Rattle.refusal.specs.declared.Refusal.{Refusal}
+use Rattle.std.specs.Prelude.{Option, Some, None, Result, Ok, Err}
+use Rattle.std.proofs.Common.{◌≡◌, ℕ, ◌+◌, Bool, true, false, cond, eqb, ◌⊎◌, inl, inr, List, [], ◌∷◌, get_or, replicate, ℤ, pos, sym, refl, ap, ◌∙◌, ⊎_elim, true≢false, eqb-true}
 use Rattle.pack.specs.declared.TileKey.{TileKey}
 use Rattle.cache.specs.Ages as Ages
 use Rattle.cache.specs.Ages.{lookups_of, uses_from}
@@ -12,21 +14,18 @@ use Rattle.cache.specs.Uses.{with_uses}
 use Rattle.cache.specs.declared.Aging.{Aging}
 use Rattle.cache.specs.declared.Cache.{Cache}
 use Rattle.matcher.specs.Calls.{reset}
-use Rattle.matcher.specs.declared.Current.{Current}
 use Rattle.matcher.specs.declared.Made.{Made}
 use Rattle.matcher.specs.declared.Matched.{Matched}
 use Rattle.matcher.specs.declared.Matcher.{Matcher}
 use Rattle.matcher.specs.declared.Outcome.{Outcome}
 use Rattle.matcher.specs.declared.Updated.{Updated}
-use Rattle.matcher.specs.contracts.Outcome as Outcomes
 use Rattle.predict.specs.Predict.{Forecast, After, after_of, from_looks}
 use Rattle.predict.specs.declared.End.TheVariants as End
 use Rattle.predict.specs.declared.Outcome as RoadOutcome
 use Rattle.predict.specs.declared.Outcome.TheVariants as Road
 use Rattle.predict.specs.declared.Prediction.{Prediction}
 use Rattle.predict.proofs.InCache.{looks_predict}
-use Rattle.predict.specs.contracts.Outcome as RoadOutcomes
-use Rattle.engine.specs.Plans.{left_map, road_dropped, match_made, matched_due, asking_due, road_fails, road_number}
+use Rattle.engine.specs.Plans.{left_map, road_dropped, match_made, matched_due, asking_due, road_refusal}
 use Rattle.engine.specs.Publish.{with_match}
 use Rattle.engine.specs.State.{refused}
 use Rattle.engine.specs.Work.{asking, counted, ended, emptied, is_matched, may_ask, matched, matched_by, match_asks, match_done, match_ended_by, matching_off, matching_on, off_map, published, rematch, road_done, road_ended_by, road_off, road_step, with_matcher, with_due, with_ahead, with_heights}
@@ -35,8 +34,8 @@ use Rattle.engine.specs.declared.Due.{Due}
 use Rattle.engine.specs.declared.Engine.{Engine}
 use Rattle.engine.specs.declared.Fix.{Fix}
 use Rattle.engine.specs.declared.Follower.{Follower}
-use Rattle.engine.specs.declared.Status.TheVariants as Status
-use Rattle.engine.proofs.StepNeeds.{road_refused, road_ended, road_left}
+use Rattle.engine.specs.declared.Status.{Status}
+use Rattle.engine.proofs.StepNeeds.{road_refused}
 use Rattle.words.specs.Put.{put, uses_in}
 use Rattle.words.specs.Words as Words
 use Rattle.words.specs.Words.{from, float_of, header_by, pages_of, cache_of, shared_of, heading_of, sight_of, current_by, matcher_of, due_of, ahead_of, follower_of, engine_of, used_words, matcher_words, due_words, ahead_words, words, accepted}
@@ -92,7 +91,7 @@ module _ (ws : List ℕ) where
   unfolding current_by
   is_published = ap is_matched (sym published_in) ∙ by (eqb (get_or ws 614 0) 1)
     where
-      by : (b : Bool) → is_matched (cond b (Current.Is (Words.matched_by (from ws 614))) Current.Nothing) ≡ b
+      by : (b : Bool) → is_matched (cond b (Some (Words.matched_by (from ws 614))) None) ≡ b
       by true = refl
       by false = refl
 
@@ -203,18 +202,18 @@ gone_words ws h at =
 
 -- ---- how a match ends
 
-abbrev due_for : Current → Follower → Fix → Due
+abbrev due_for : Option Matched → Follower → Fix → Due
 due_for o f fix = matched_due f.due o f.ahead.matched fix.at_ms
 
 module _ (f : Follower) (m : Matcher) (fix : Fix) where
-  by_found : (o : Current) → is_matched o ≡ true → matched_by o f m fix ≡ with_due (with_matcher f m) (due_for o f fix)
-  by_found Current.Nothing q = absurd (true≢false (sym q))
-  by_found (Current.Is found) q = refl
+  by_found : (o : Option Matched) → is_matched o ≡ true → matched_by o f m fix ≡ with_due (with_matcher f m) (due_for o f fix)
+  by_found None q = absurd (true≢false (sym q))
+  by_found (Some found) q = refl
 
-  by_none : (o : Current) → is_matched o ≡ false
+  by_none : (o : Option Matched) → is_matched o ≡ false
       → matched_by o f m fix ≡ with_due (with_ahead (with_matcher f m) (emptied f.ahead fix.at_ms End.Uncertain)) (due_for o f fix)
-  by_none Current.Nothing q = refl
-  by_none (Current.Is found) q = absurd (true≢false q)
+  by_none None q = refl
+  by_none (Some found) q = absurd (true≢false q)
 
   -- with a match
   pub matched_found : is_matched m.current ≡ true → matched f m fix ≡ with_due (with_matcher f m) (due_for m.current f fix)
@@ -231,23 +230,24 @@ module _ (f : Follower) (m : Matcher) (fix : Fix) where
   pub matched_still : is_matched m.current ≡ false → is_matched f.ahead.matched ≡ false → matched f m fix ≡ with_due (with_matcher f m) (due_for m.current f fix)
   matched_still q none = matched_lost q ∙ rw none
 
-abbrev outcome_tag : Outcome → ℕ
-outcome_tag o = tag_of Outcomes.the_type o
-
-made_by : (o : Outcome) → (outcome_tag o ≡ 0) ⊎ (outcome_tag o ≡ 1) → (e : Engine) (f : Follower) (fix : Fix) (u : Updated)
-    → match_ended_by o e f fix u ≡ ended e u.cache (matched f u.matcher fix) Status.Working
-made_by (Outcome.Found m) h e f fix u = refl
-made_by Outcome.Nothing h e f fix u = refl
-made_by (Outcome.Need key) h e f fix u = absurd (⊎_elim (λ z. omega arith) (λ z. omega arith) h)
-made_by (Outcome.Refused number) h e f fix u = absurd (⊎_elim (λ z. omega arith) (λ z. omega arith) h)
+made_by : (o : Outcome) → ((m : Matched) × (o ≡ Outcome.Found m)) ⊎ (o ≡ Outcome.Nothing) → (e : Engine) (f : Follower) (fix : Fix) (u : Updated)
+    → match_ended_by (Ok o) e f fix u ≡ ended e u.cache (matched f u.matcher fix) (Ok Status.Working)
+made_by o (inl found) e f fix u = rw found.1
+made_by o (inr q) e f fix u = rw q
 
 -- with a match or without one
-pub match_made_lem : (e : Engine) (fix : Fix) (u : Made) → (outcome_tag u.answer ≡ 0) ⊎ (outcome_tag u.answer ≡ 1)
-    → match_made e fix u ≡ ended e (with_uses e.shared.cache u.uses) (matched (counted e.follower) u.matcher fix) Status.Working
-match_made_lem e fix u h =
-    made_by u.answer h e (counted e.follower) fix (record { answer = u.answer; matcher = u.matcher; cache = with_uses e.shared.cache u.uses })
+pub match_made_lem : (e : Engine) (fix : Fix) (u : Made) {o : Outcome} → u.answer ≡ Ok o → ((f : Matched) × (o ≡ Outcome.Found f)) ⊎ (o ≡ Outcome.Nothing)
+    → match_made e fix u ≡ ended e (with_uses e.shared.cache u.uses) (matched (counted e.follower) u.matcher fix) (Ok Status.Working)
+match_made_lem e fix u {o} a h =
+    ap (λ (x : Result Outcome Refusal). match_ended_by x e (counted e.follower) fix (record { answer = u.answer; matcher = u.matcher; cache = with_uses e.shared.cache u.uses })) a
+    ∙ made_by o h e (counted e.follower) fix (record { answer = u.answer; matcher = u.matcher; cache = with_uses e.shared.cache u.uses })
 
--- for want of a tile: what is due, by the one test
+-- for want of a tile: what the step tells, by the one test
+pub asks_told : (b : Bool) → ◌≡◌ {A = Result Status Refusal} (Ok (cond b Status.Working Status.Idle)) (cond b (Ok Status.Working) (Ok Status.Idle))
+asks_told true = refl
+asks_told false = refl
+
+-- and what is due
 pub asks_due : (f : Follower) (pages : ℕ) (key : TileKey) → match_asks f pages key ≡ with_due f (asking_due f.due pages key)
 asks_due f pages key = by (may_ask f.due pages) (asking f.due key (f.due.reloads + 1)) (match_done f.due f.due.road)
   where
@@ -264,14 +264,11 @@ pub road_published : (f : Follower) (samples behind : List ℤ) (fix : Fix) (m :
 unfolding published with_match
 road_published f samples behind fix m p = refl
 
-abbrev road_tag : RoadOutcome.Outcome → ℕ
-road_tag o = tag_of RoadOutcomes.the_type o
-
 module _ (e : Engine) (fix : Fix) (m : Matched) where
   abbrev next : Follower
   next = counted e.follower
 
-  module _ (answer : RoadOutcome.Outcome) (uses : Aging) (samples behind : List ℤ) where
+  module _ (answer : Result RoadOutcome.Outcome Refusal) (uses : Aging) (samples behind : List ℤ) where
     abbrev left : Cache
     left = with_uses e.shared.cache uses
 
@@ -279,31 +276,23 @@ module _ (e : Engine) (fix : Fix) (m : Matched) where
     worked = record { predicted = record { answer = answer; cache = left }; samples = samples; behind = behind }
 
     -- one that refuses the step
-    pub road_refuses : road_fails answer ≡ true → Worked.road_ended e fix m answer uses samples behind ≡ refused e (road_number answer)
-    road_refuses fails = road_refused answer fails e next fix m worked
-
-    -- one that has the fix matched again
-    pub road_rematches : road_fails answer ≡ false → (road_tag answer ≡ 2) ⊎ (road_tag answer ≡ 3)
-        → Worked.road_ended e fix m answer uses samples behind ≡ ended e left (rematch next) Status.Working
-    road_rematches stays h =
-        road_ended answer stays e next fix m worked
-        ∙ ap (λ (f : Follower). ended e left f Status.Working)
-        (road_left answer h next (with_heights e.follower.ahead samples behind) left.pages.count fix m)
+    pub road_refuses : {refusal : Refusal} → road_refusal answer ≡ Some refusal → Worked.road_ended e fix m answer uses samples behind ≡ refused e refusal
+    road_refuses {refusal} fails = road_refused answer refusal fails e next fix m worked
 
   -- after a late 12 the step is refused: so clock and ages may be put beside every other answer
-  road_closed : (o : RoadOutcome.Outcome) (looks : List ℕ) (samples behind : List ℤ)
+  road_closed : (o : Result RoadOutcome.Outcome Refusal) (looks : List ℕ) (samples behind : List ℤ)
       → Worked.road_ended e fix m o (uses_from looks) samples behind
       ≡ road_ended_by o e next fix m (after_of e.shared.cache (record { answer = o; samples = samples; behind = behind; carried = looks }))
   unfolding Ages.aged
-  road_closed (Road.Road p) looks samples behind = refl
-  road_closed (Road.Need key) looks samples behind = refl
-  road_closed Road.Rematch looks samples behind = refl
-  road_closed (Road.Refused number) looks samples behind = by (eqb number 10) refl
+  road_closed (Ok (Road.Road p)) looks samples behind = refl
+  road_closed (Ok (Road.Need key)) looks samples behind = refl
+  road_closed (Ok Road.Rematch) looks samples behind = refl
+  road_closed (Err refusal) looks samples behind = by (eqb (number_of refusal) 10) refl
     where
-      by : (t : Bool) → eqb number 10 ≡ t
-          → cond t (ended e (with_uses e.shared.cache (uses_from looks)) (rematch next) Status.Working) (refused e number)
-          ≡ cond t (ended e (cond (eqb number 12) e.shared.cache (Ages.aged e.shared.cache looks)) (rematch next) Status.Working) (refused e number)
-      by true q = let ten : number ≡ 10 = eqb-true number 10 q in rw ten
+      by : (t : Bool) → eqb (number_of refusal) 10 ≡ t
+          → cond t (ended e (with_uses e.shared.cache (uses_from looks)) (rematch next) (Ok Status.Working)) (refused e refusal)
+          ≡ cond t (ended e (cond (eqb (number_of refusal) 12) e.shared.cache (Ages.aged e.shared.cache looks)) (rematch next) (Ok Status.Working)) (refused e refusal)
+      by true q = let ten : number_of refusal ≡ 10 = eqb-true (number_of refusal) 10 q in rw ten
       by false q = refl
 
   -- a road over the numbers that its lookups go by

@@ -1,6 +1,7 @@
 -- The calls on words. A step, a delivery and a step over a lent pack: the engine's own call (`Calls` of the engine) on the engine that the words are, and what it leaves as words again.
 -- Words that are no engine's are refused with 12, and nothing lent is changed.
-use Rattle.std.specs.Prelude.{ℕ, cond, List, ℤ, Float}
+use Rattle.refusal.specs.declared.Refusal.{Refusal}
+use Rattle.std.specs.Prelude.{Result, Err, ℕ, cond, List, ℤ, Float}
 use Rattle.pack.specs.declared.Header.{Header}
 use Rattle.geo.specs.declared.Point.{Point}
 use Rattle.cache.specs.declared.Cache.{Cache}
@@ -21,11 +22,11 @@ use Rattle.words.specs.Words.{words, engine_of, cache_of, accepted}
 
 -- an answer, and the words and the arena that are left
 pub record Moved : Type 0 where
-  pub answer : Status
+  pub answer : Result Status Refusal
   pub words : List ℕ
 
 pub record Delivered : Type 0 where
-  pub answer : Status
+  pub answer : Result Status Refusal
   pub words : List ℕ
   pub arena : List ℕ
 
@@ -36,10 +37,10 @@ abbrev pub delivered : Deliver.After → Delivered
 delivered a = record { answer = a.answer; words = words a.engine; arena = a.arena }
 
 abbrev pub stays : List ℕ → Moved
-stays ws = record { answer = Status.Refused 12; words = ws }
+stays ws = record { answer = Err Refusal.BadState; words = ws }
 
 abbrev pub keeps : List ℕ → List ℕ → Delivered
-keeps ws arena = record { answer = Status.Refused 12; words = ws; arena = arena }
+keeps ws arena = record { answer = Err Refusal.BadState; words = ws; arena = arena }
 
 unfoldable pub step : List ℕ → List ℕ → Moved
 step ws arena = cond (accepted ws) (moved (Calls.step (engine_of ws) arena)) (stays ws)
@@ -60,10 +61,10 @@ abbrev pub left : List ℕ → Cache → List ℕ
 left ws c = cond (accepted ws) (words (with_cache c (engine_of ws))) ws
 
 unfoldable pub update : List ℕ → List ℕ → Matcher → Header → Point → Heading → Updated
-update ws arena m h fix heading = cond (accepted ws) (Matching.update m (cache_of ws 15) arena h fix heading) (refused m (cache_of ws 15) 12)
+update ws arena m h fix heading = cond (accepted ws) (Matching.update m (cache_of ws 15) arena h fix heading) (refused m (cache_of ws 15) Refusal.BadState)
 
 unfoldable pub predict : List ℕ → List ℕ → Header → Matched → Float → List ℤ → List ℤ → After
 predict ws arena h m horizon samples behind =
     cond (accepted ws)
     (Predict.predict (cache_of ws 15) arena h m horizon samples behind)
-    (Predict.untouched (Predict.refused (cache_of ws 15) 12) samples behind)
+    (Predict.untouched (Predict.refused (cache_of ws 15) Refusal.BadState) samples behind)

@@ -1,7 +1,6 @@
 -- What the answer to a fetch leaves, by the parts that are put: this restates private code (`deliver.rt`), each as the engine's own definitions say it (`Deliver` of the engine).
-use Rattle.std.specs.Prelude.{Option, Some, None, Result, Ok, Err}
 use Rattle.refusal.specs.declared.Refusal.{Refusal}
-use Rattle.std.specs.Prelude.{ℕ, ◌+◌, Bool, cond, ◌&&◌, List, [], length, ◌==◌, nat_lt}
+use Rattle.std.specs.Prelude.{Option, Some, None, Result, Ok, Err, ℕ, ◌+◌, Bool, cond, ◌&&◌, List, [], length, ◌==◌, nat_lt}
 use Rattle.pack.specs.Grid.{locate_of}
 use Rattle.pack.specs.declared.Header.{Header}
 use Rattle.pack.specs.declared.TileKey.{TileKey}
@@ -20,7 +19,6 @@ use Rattle.engine.specs.declared.Engine.{Engine}
 use Rattle.engine.specs.declared.Phase.{Phase}
 use Rattle.engine.specs.declared.Status.TheVariants as Status
 use Rattle.engine.specs.declared.Stepped.{Stepped}
-use Rattle.words.specs.declared.deliver.Begins.{Begins}
 
 -- the pack in another phase, with no fetch open and so many failures
 abbrev pub phased : Engine → Phase → Header → ℕ → Engine
@@ -30,10 +28,10 @@ phased e phase h failures = record {
 }
 
 abbrev pub done : Engine → Cache → Engine
-done e c = (ended e c (failing (with_due (counted e.follower) (needless e.follower.due)) 0) Status.Working).engine
+done e c = (ended e c (failing (with_due (counted e.follower) (needless e.follower.due)) 0) (Ok Status.Working)).engine
 
 abbrev pub more : Engine → Cache → Engine
-more e c = (ended e c (counted e.follower) Status.Working).engine
+more e c = (ended e c (counted e.follower) (Ok Status.Working)).engine
 
 -- the load with so many bytes of its tile, and no fetch open
 abbrev pub load_with : Loading → ℕ → Loading
@@ -77,28 +75,28 @@ with_pages e g = record {
   follower = e.follower;
 }
 
-abbrev pub begins_in : Option ℕ → TileKey → ℕ → ℕ → Begins
-begins_in None key offset len = Begins.Nothing
-begins_in (Some slot) key offset len = Begins.At key slot offset len
+abbrev pub begins_in : Option ℕ → TileKey → ℕ → ℕ → Option (TileKey × ℕ × ℕ × ℕ)
+begins_in None key offset len = None
+begins_in (Some slot) key offset len = Some (key, slot, offset, len)
 
-abbrev pub begins_at : Engine → TileKey → ℕ → ℕ → Begins
-begins_at e key offset len = cond (nat_lt 49152 len) Begins.Nothing (begins_in (victim e.shared.cache.pages (span len)) key offset len)
+abbrev pub begins_at : Engine → TileKey → ℕ → ℕ → Option (TileKey × ℕ × ℕ × ℕ)
+begins_at e key offset len = cond (nat_lt 49152 len) None (begins_in (victim e.shared.cache.pages (span len)) key offset len)
 
-abbrev pub begins_by : Result (Option (ℕ × ℕ)) Refusal → Engine → TileKey → Begins
-begins_by (Ok None) e key = Begins.Nothing
-begins_by (Err number) e key = Begins.Nothing
+abbrev pub begins_by : Result (Option (ℕ × ℕ)) Refusal → Engine → TileKey → Option (TileKey × ℕ × ℕ × ℕ)
+begins_by (Ok None) e key = None
+begins_by (Err refusal) e key = None
 begins_by (Ok (Some (offset, len))) e key = begins_at e key offset len
 
-abbrev pub begins_for : Option TileKey → Engine → List ℕ → Begins
-begins_for None e bs = Begins.Nothing
+abbrev pub begins_for : Option TileKey → Engine → List ℕ → Option (TileKey × ℕ × ℕ × ℕ)
+begins_for None e bs = None
 begins_for (Some key) e bs = begins_by (locate_of e.shared.header bs) e key
 
-abbrev pub begins_over : Option Loading → Engine → List ℕ → Begins
+abbrev pub begins_over : Option Loading → Engine → List ℕ → Option (TileKey × ℕ × ℕ × ℕ)
 begins_over None e bs = begins_for e.follower.due.need e bs
-begins_over (Some l) e bs = Begins.Nothing
+begins_over (Some l) e bs = None
 
-unfoldable pub begins : Engine → ℕ → List ℕ → Begins
-begins e failure bs = cond (failure == 0 && length bs == 8) (begins_over e.shared.cache.loading e bs) Begins.Nothing
+unfoldable pub begins : Engine → ℕ → List ℕ → Option (TileKey × ℕ × ℕ × ℕ)
+begins e failure bs = cond (failure == 0 && length bs == 8) (begins_over e.shared.cache.loading e bs) None
 
 abbrev pub begun_cache : Cache → TileKey → ℕ → ℕ → ℕ → Cache
 begun_cache c key slot offset len = record {

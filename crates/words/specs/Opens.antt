@@ -1,5 +1,6 @@
 -- Number 12's test on words, and which fetch a step leaves open: this restates private code (`pages.rt`, `steps.rt`, `calls.rt`). `OpenLaws` says that a step which opens or repeats one does nothing else.
-use Rattle.std.specs.Prelude.{ℕ, Bool, cond, ◌&&◌, List}
+use Rattle.refusal.specs.declared.Refusal.{Refusal}
+use Rattle.std.specs.Prelude.{Result, Ok, Err, ℕ, Bool, cond, ◌&&◌, List}
 use Rattle.pack.specs.declared.Header.{Header}
 use Rattle.pack.specs.declared.TileKey.{TileKey}
 use Rattle.cache.specs.Lookups.{next_step}
@@ -63,8 +64,8 @@ planned_for (Pending.Entry key) plan = Planned.Opens (Pending.Entry key)
 planned_for Pending.Chunk plan = Planned.Opens Pending.Chunk
 
 -- nothing, where number 12 refuses it
-unfoldable pub planned : List ℕ → ℕ → Planned
-planned ws size = let e = engine_of ws in cond (tested ws size) (planned_for (opens e) (plan_of e)) Planned.Refused
+unfoldable pub planned : List ℕ → ℕ → Result Planned Refusal
+planned ws size = let e = engine_of ws in cond (tested ws size) (Ok (planned_for (opens e) (plan_of e))) (Err Refusal.BadState)
 
 -- the engine with a fetch open
 abbrev pub opened_as : Engine → Pending → Engine

@@ -1,8 +1,8 @@
 -- What the Rust types say of an engine, as far as writing it as words asks it: each number that could be cut within its field, each float a single float, each array of its length; and that the counts that the Rust has as `usize` fit a word, which
 -- number 12 says of them (`small` of the proofs). An engine that the code holds is so by its types; that every call's definition leaves one so is `typed_kept` of crate terrain_lists.
-use Rattle.std.specs.Prelude.{Option, Some, None}
+use Rattle.engine.specs.declared.Fix.{Fix}
 use Rattle.cache.specs.declared.Loading.{Loading}
-use Rattle.std.specs.Prelude.{◌≡◌, ℕ, ◌<◌, T, length, get_or, ℤ, pos, slice_index_or, Float}
+use Rattle.std.specs.Prelude.{Option, Some, None, ◌≡◌, ℕ, ◌<◌, T, length, get_or, ℤ, pos, slice_index_or, Float}
 use Rattle.std.specs.Float.{binary32}
 use Rattle.std.specs.Float.Ieee.{fits}
 use Rattle.std.specs.Int.Signed.{mag}
@@ -18,8 +18,6 @@ use Rattle.cache.specs.declared.Pages.{Pages}
 use Rattle.cache.specs.declared.Pending.{Pending}
 use Rattle.cache.specs.declared.Ring.{Ring}
 use Rattle.cache.specs.declared.Slot.{Slot}
-use Rattle.matcher.specs.declared.Challenger.{Challenger}
-use Rattle.matcher.specs.declared.Current.{Current}
 use Rattle.matcher.specs.declared.Heading.{Heading}
 use Rattle.matcher.specs.declared.Matched.{Matched}
 use Rattle.matcher.specs.declared.Matcher.{Matcher}
@@ -27,7 +25,6 @@ use Rattle.engine.specs.declared.Ahead.{Ahead}
 use Rattle.engine.specs.declared.Due.{Due}
 use Rattle.engine.specs.declared.Engine.{Engine}
 use Rattle.engine.specs.declared.Follower.{Follower}
-use Rattle.engine.specs.declared.MaybeFix.{MaybeFix}
 use Rattle.engine.specs.declared.Places.{Places}
 use Rattle.engine.specs.declared.Shared.{Shared}
 use Rattle.engine.specs.declared.Sight.{Sight}
@@ -111,9 +108,9 @@ pub record TypedCache (c : Cache) : Type 0 where
 abbrev pub TypedPoint : Point → Type 0
 TypedPoint p = Signed p.lat × Signed p.lon
 
-abbrev pub TypedFix : MaybeFix → Type 0
-TypedFix MaybeFix.Nothing = Unit
-TypedFix (MaybeFix.Is f) = Signed f.lat × Signed f.lon
+abbrev pub TypedFix : Option Fix → Type 0
+TypedFix None = Unit
+TypedFix (Some f) = Signed f.lat × Signed f.lon
 
 pub record TypedPlaces (h : Places) : Type 0 where
   pub v : length h.v ≡ 16
@@ -146,13 +143,13 @@ pub record TypedMatched (m : Matched) : Type 0 where
   pub confidence : Byte m.confidence
   pub ridden : Single m.ridden_m
 
-abbrev pub TypedCurrent : Current → Type 0
-TypedCurrent Current.Nothing = Unit
-TypedCurrent (Current.Is m) = TypedMatched m
+abbrev pub TypedCurrent : Option Matched → Type 0
+TypedCurrent None = Unit
+TypedCurrent (Some m) = TypedMatched m
 
-abbrev pub TypedChallenger : Challenger → Type 0
-TypedChallenger Challenger.Nothing = Unit
-TypedChallenger (Challenger.Is t e n) = TypedId t × (Short e × Byte n)
+abbrev pub TypedChallenger : Option (TileId × ℕ × ℕ) → Type 0
+TypedChallenger None = Unit
+TypedChallenger (Some (t, e, n)) = TypedId t × (Short e × Byte n)
 
 pub record TypedMatcher (m : Matcher) : Type 0 where
   pub current : TypedCurrent m.current

@@ -7,6 +7,7 @@
 --
 -- `engine_of` reads every field at its place, whatever stands there: it cuts what a field can't hold, and takes an unknown tag for the first variant. Nobody needs to believe it:
 -- words are accepted only where the words of what was read are the same again (`words_engine`), and of an engine within its types it is the way back (`engine_words`).
+use Rattle.engine.specs.declared.Fix.{Fix}
 use Rattle.cache.specs.declared.Loading.{Loading}
 use Rattle.std.specs.Prelude.{ℕ, zero, suc, ◌+◌, ◌-◌, ◌*◌, ◌/◌, ◌%◌, Bool, true, false, cond, ◌&&◌, List, [], ◌∷◌, ◌++◌, get_or, ℤ, pos, ◌==◌, from_bits, slice_index, slice_index_or, to_bits, Float, Option, Some, None}
 use Rattle.std.specs.Float.{binary32}
@@ -24,8 +25,6 @@ use Rattle.cache.specs.declared.Part.{Part}
 use Rattle.cache.specs.declared.Pending.{Pending}
 use Rattle.cache.specs.declared.Ring.{Ring}
 use Rattle.cache.specs.declared.Slot.{Slot}
-use Rattle.matcher.specs.declared.Challenger.{Challenger}
-use Rattle.matcher.specs.declared.Current.{Current}
 use Rattle.matcher.specs.declared.Heading.{Heading}
 use Rattle.matcher.specs.declared.Matched.{Matched}
 use Rattle.matcher.specs.declared.Matcher.{Matcher}
@@ -34,8 +33,6 @@ use Rattle.engine.specs.declared.Ahead.{Ahead}
 use Rattle.engine.specs.declared.Due.{Due}
 use Rattle.engine.specs.declared.Engine.{Engine}
 use Rattle.engine.specs.declared.Follower.{Follower}
-use Rattle.engine.specs.declared.MaybeFix.{MaybeFix}
-use Rattle.engine.specs.declared.MaybeTime.{MaybeTime}
 use Rattle.engine.specs.declared.Phase.{Phase}
 use Rattle.engine.specs.declared.Places.{Places}
 use Rattle.engine.specs.declared.Shared.{Shared}
@@ -254,13 +251,13 @@ shared_of ws = record { phase = phase_of (from ws 0 1); header = header_by (from
 -- ---- the fixes
 
 -- 5 words
-abbrev pub fix_words : MaybeFix → List ℕ
-fix_words MaybeFix.Nothing = 0 ∷ 0 ∷ 0 ∷ 0 ∷ 0 ∷ []
-fix_words (MaybeFix.Is f) = 1 ∷ bits32 f.lat ∷ bits32 f.lon ∷ low_word f.at_ms ∷ high_word f.at_ms ∷ []
+abbrev pub fix_words : Option Fix → List ℕ
+fix_words None = 0 ∷ 0 ∷ 0 ∷ 0 ∷ 0 ∷ []
+fix_words (Some f) = 1 ∷ bits32 f.lat ∷ bits32 f.lon ∷ low_word f.at_ms ∷ high_word f.at_ms ∷ []
 
-abbrev pub fix_by : (ℕ → ℕ) → MaybeFix
+abbrev pub fix_by : (ℕ → ℕ) → Option Fix
 fix_by w =
-    cond (is_set (w 0)) (MaybeFix.Is (record { lat = signed32 (w 1); lon = signed32 (w 2); at_ms = long_of (w 3) (w 4) })) MaybeFix.Nothing
+    cond (is_set (w 0)) (Some (record { lat = signed32 (w 1); lon = signed32 (w 2); at_ms = long_of (w 3) (w 4) })) None
 
 -- 2 words
 abbrev pub point_words : Point → List ℕ
@@ -354,20 +351,20 @@ matched_by w = record {
   ridden_m = float_of (w 13);
 }
 
-abbrev pub current_words : Current → List ℕ
-current_words Current.Nothing = 0 ∷ 0 ∷ 0 ∷ 0 ∷ 0 ∷ 0 ∷ 0 ∷ 0 ∷ 0 ∷ 0 ∷ 0 ∷ 0 ∷ 0 ∷ 0 ∷ []
-current_words (Current.Is m) = 1 ∷ matched_words m
+abbrev pub current_words : Option Matched → List ℕ
+current_words None = 0 ∷ 0 ∷ 0 ∷ 0 ∷ 0 ∷ 0 ∷ 0 ∷ 0 ∷ 0 ∷ 0 ∷ 0 ∷ 0 ∷ 0 ∷ 0 ∷ []
+current_words (Some m) = 1 ∷ matched_words m
 
-unfoldable pub current_by : (ℕ → ℕ) → Current
-current_by w = cond (is_set (w 0)) (Current.Is (matched_by w)) Current.Nothing
+unfoldable pub current_by : (ℕ → ℕ) → Option Matched
+current_by w = cond (is_set (w 0)) (Some (matched_by w)) None
 
 -- 6 words
-abbrev pub challenger_words : Challenger → List ℕ
-challenger_words Challenger.Nothing = 0 ∷ 0 ∷ 0 ∷ 0 ∷ 0 ∷ 0 ∷ []
-challenger_words (Challenger.Is tile edge count) = 1 ∷ key_word tile.key ∷ tile.crc ∷ tile.edges ∷ edge ∷ count ∷ []
+abbrev pub challenger_words : Option (TileId × ℕ × ℕ) → List ℕ
+challenger_words None = 0 ∷ 0 ∷ 0 ∷ 0 ∷ 0 ∷ 0 ∷ []
+challenger_words (Some (tile, edge, count)) = 1 ∷ key_word tile.key ∷ tile.crc ∷ tile.edges ∷ edge ∷ count ∷ []
 
-abbrev pub challenger_by : (ℕ → ℕ) → Challenger
-challenger_by w = cond (is_set (w 0)) (Challenger.Is (id_of (w 1) (w 2) (w 3)) (w 4 % 0x1_0000) (w 5 % 256)) Challenger.Nothing
+abbrev pub challenger_by : (ℕ → ℕ) → Option (TileId × ℕ × ℕ)
+challenger_by w = cond (is_set (w 0)) (Some (id_of (w 1) (w 2) (w 3), w 4 % 0x1_0000, w 5 % 256)) None
 
 -- 22 words
 unfoldable pub matcher_words : Matcher → List ℕ
@@ -384,12 +381,12 @@ matcher_of ws at = record {
 -- ---- what is due
 
 -- 3 words
-abbrev pub time_words : MaybeTime → List ℕ
-time_words MaybeTime.Nothing = 0 ∷ 0 ∷ 0 ∷ []
-time_words (MaybeTime.At at) = 1 ∷ low_word at ∷ high_word at ∷ []
+abbrev pub time_words : Option ℕ → List ℕ
+time_words None = 0 ∷ 0 ∷ 0 ∷ []
+time_words (Some at) = 1 ∷ low_word at ∷ high_word at ∷ []
 
-abbrev pub time_of : ℕ → ℕ → ℕ → MaybeTime
-time_of tag low high = cond (is_set tag) (MaybeTime.At (long_of low high)) MaybeTime.Nothing
+abbrev pub time_of : ℕ → ℕ → ℕ → Option ℕ
+time_of tag low high = cond (is_set tag) (Some (long_of low high)) None
 
 -- 8 words
 unfoldable pub due_words : Due → List ℕ

@@ -1,12 +1,13 @@
 -- What a match and a road leave, by the parts that are put: this restates private code (`work.rt`, `calls.rt`), each as the engine's own definitions say it (`Work`, `Plans` of the engine).
-use Rattle.std.specs.Prelude.{ℕ, Bool, false, List, ℤ, ◌==◌}
+use Rattle.refusal.specs.Refusal.{number_of}
+use Rattle.refusal.specs.declared.Refusal.{Refusal}
+use Rattle.std.specs.Prelude.{Some, Result, Ok, Err, ℕ, Bool, false, List, ℤ, ◌==◌}
 use Rattle.pack.specs.declared.TileKey.{TileKey}
 use Rattle.cache.specs.Lookups.{after}
 use Rattle.cache.specs.Uses.{with_uses}
 use Rattle.cache.specs.declared.Aging.{Aging}
 use Rattle.cache.specs.declared.Cache.{Cache}
 use Rattle.matcher.specs.Calls.{reset}
-use Rattle.matcher.specs.declared.Current.TheVariants as Current
 use Rattle.matcher.specs.declared.Matched.{Matched}
 use Rattle.matcher.specs.declared.Matcher.{Matcher}
 use Rattle.predict.specs.declared.End.TheVariants as End
@@ -22,7 +23,7 @@ use Rattle.engine.specs.declared.Status.TheVariants as Status
 use Rattle.engine.specs.declared.Stepped.{Stepped}
 
 abbrev pub leaves : Engine → Cache → Follower → Engine
-leaves e c f = (ended e c f Status.Working).engine
+leaves e c f = (ended e c f (Ok Status.Working)).engine
 
 -- ---- a match, once clock and ages are put
 
@@ -56,7 +57,7 @@ abbrev pub road_of : ℕ → ℕ → Matched → Prediction → List ℤ → Lis
 road_of generation at m p samples behind = record {
   generation = after generation;
   at_ms = at;
-  matched = Current.Is m;
+  matched = Some m;
   start_z_dm = m.z_dm;
   samples = samples;
   len = p.len;
@@ -68,17 +69,15 @@ road_of generation at m p samples behind = record {
   confidence = p.confidence;
 }
 
-abbrev pub road_ended : Engine → Fix → Matched → Outcome → Aging → List ℤ → List ℤ → Stepped
+abbrev pub road_ended : Engine → Fix → Matched → Result Outcome Refusal → Aging → List ℤ → List ℤ → Stepped
 road_ended e fix m answer uses samples behind =
     road_ended_by answer e (counted e.follower) fix m
     (record { predicted = record { answer = answer; cache = with_uses e.shared.cache uses }; samples = samples; behind = behind })
 
 -- the late 12, after which clock and ages stay as they were
-abbrev pub is_stale : Outcome → Bool
-is_stale (Outcome.Road p) = false
-is_stale (Outcome.Need key) = false
-is_stale Outcome.Rematch = false
-is_stale (Outcome.Refused number) = number == 12
+abbrev pub is_stale : Result Outcome Refusal → Bool
+is_stale (Ok outcome) = false
+is_stale (Err refusal) = number_of refusal == 12
 
 -- ---- off the map: a road that is published goes, and its match
 

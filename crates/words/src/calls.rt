@@ -1,6 +1,5 @@
 // The matcher's and predict's own calls on the cache in an engine's words. Number 12 is tested on the words, and of them clock and ages alone are written.
 ghost use Rattle.std.specs.Prelude.{◌≡◌};
-ghost use Rattle.matcher.specs.declared.Outcome.TheVariants as Outcomes;
 ghost use Rattle.words.specs.Calls as Calls;
 ghost use Rattle.words.specs.Opens as Opens;
 ghost use Rattle.words.specs.Worked as Worked;
@@ -10,11 +9,12 @@ use geo::Point;
 use matcher::{Heading, Matched, Matcher};
 use pack::Header;
 use predict::Outcome;
+use refusal::Refusal;
 
 // An answer, and the matcher after it.
 #[derive(Clone, Copy)]
 pub struct Matching {
-    pub answer: matcher::Outcome,
+    pub answer: Result<matcher::Outcome, Refusal>,
     pub matcher: Matcher,
 }
 
@@ -35,12 +35,12 @@ fn given_ok(ws: &[u32; crate::WORDS], header: Header, size: usize) -> bool
     decode::size(ws[399]) <= size / cache::PAGE_BYTES
 }
 
-fn refused(m: Matcher, number: u32) -> Matching
-    ensures answer_value { result.answer ≡ Outcomes.Refused number }
+fn refused(m: Matcher, refusal: Refusal) -> Matching
+    ensures answer_value { result.answer ≡ Err refusal }
     ensures matcher_value { result.matcher ≡ m }
 {
     Matching {
-        answer: matcher::Outcome::Refused(number),
+        answer: Err(refusal),
         matcher: m,
     }
 }
@@ -59,16 +59,16 @@ pub fn update(
     ensures ws_after { ws.new ≡ Calls.left ws.old (Calls.update ws.old arena.now m header fix heading).cache }
 {
     if !given_ok(&*ws, header, arena.len()) {
-        return refused(m, 12);
+        return refused(m, Refusal::BadState);
     }
     if !matcher::state::matcher_ok(m, header) {
-        return refused(m, 12);
+        return refused(m, Refusal::BadState);
     }
     if !pack::grid::is_point(fix.lat, fix.lon) {
-        return refused(m, 8);
+        return refused(m, Refusal::OutOfRange);
     }
     if !matcher::state::heading_ok(heading) {
-        return refused(m, 8);
+        return refused(m, Refusal::OutOfRange);
     }
     let near = matcher::near::near_of(header, fix);
     let at = crate::look::landings(&*ws, near);
@@ -80,14 +80,12 @@ pub fn update(
 }
 
 // Whether clock and ages stay as they were: after a late 12.
-fn is_stale(answer: Outcome) -> bool
+fn is_stale(answer: Result<Outcome, Refusal>) -> bool
     ensures { result ≡ Worked.is_stale answer }
 {
     match answer {
-        Outcome::Road(_) => false,
-        Outcome::Need(_) => false,
-        Outcome::Rematch => false,
-        Outcome::Refused(number) => number == 12,
+        Ok(_) => false,
+        Err(refusal) => refusal.number() == 12,
     }
 }
 
@@ -100,18 +98,18 @@ pub fn predict(
     horizon_m: f32,
     samples: &mut [i16],
     behind: &mut [i16],
-) -> Outcome
+) -> Result<Outcome, Refusal>
     ensures value { result ≡ (Calls.predict ws.old arena.now header start horizon_m samples.old behind.old).predicted.answer }
     ensures ws_after { ws.new ≡ Calls.left ws.old (Calls.predict ws.old arena.now header start horizon_m samples.old behind.old).predicted.cache }
     ensures samples_after { samples.new ≡ (Calls.predict ws.old arena.now header start horizon_m samples.old behind.old).samples }
     ensures behind_after { behind.new ≡ (Calls.predict ws.old arena.now header start horizon_m samples.old behind.old).behind }
 {
     if !given_ok(&*ws, header, arena.len()) {
-        return Outcome::Refused(12);
+        return Err(Refusal::BadState);
     }
     let id = start.tile;
     if !pack::grid::in_grid(header, id.key) {
-        return Outcome::Refused(9);
+        return Err(Refusal::OutsideGrid);
     }
     let mut looks = crate::look::lookups(&*ws);
     let answer = predict::road::from_looks(

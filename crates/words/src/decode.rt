@@ -6,11 +6,9 @@ ghost use Rattle.words.specs.Words as Words;
 
 use cache::{Cache, Loading, Pages, Part, Pending, Ring, Slot};
 use engine::summary::Summary;
-use engine::{
-    Ahead, Due, Engine, Fix, Follower, MaybeFix, MaybeTime, Phase, Places, Shared, Sight,
-};
+use engine::{Ahead, Due, Engine, Fix, Follower, Phase, Places, Shared, Sight};
 use geo::Point;
-use matcher::{Challenger, Current, Heading, Matched, Matcher};
+use matcher::{Heading, Matched, Matcher};
 use pack::{Header, TileKey};
 use predict::End;
 use tile::TileId;
@@ -242,17 +240,17 @@ fn shared(ws: &[u32; crate::WORDS]) -> Shared
 
 // ---- the fixes
 
-pub(crate) fn fix(ws: &[u32; crate::WORDS]) -> MaybeFix
+pub(crate) fn fix(ws: &[u32; crate::WORDS]) -> Option<Fix>
     ensures { result ≡ Words.fix_by (Words.from ws.now 539) }
 {
     if ws[539] == 1 {
-        return MaybeFix::Is(Fix {
+        return Some(Fix {
             lat: pack::bytes::signed_32(ws[540]),
             lon: pack::bytes::signed_32(ws[541]),
             at_ms: long(ws[542], ws[543]),
         });
     }
-    MaybeFix::Nothing
+    None
 }
 
 // The place whose words begin at `at`.
@@ -352,25 +350,25 @@ fn matched(ws: &[u32; crate::WORDS], at: usize) -> Matched
 }
 
 // Tag and match, 14 words from `at` on.
-pub(crate) fn current(ws: &[u32; crate::WORDS], at: usize) -> Current
+pub(crate) fn current(ws: &[u32; crate::WORDS], at: usize) -> Option<Matched>
     requires { at + 14 ≤ 1150 }
     ensures { result ≡ Words.current_by (Words.from ws.now at) }
 {
     if ws[at] == 1 {
         let found = matched(ws, at);
-        return Current::Is(found);
+        return Some(found);
     }
-    Current::Nothing
+    None
 }
 
-pub(crate) fn challenger(ws: &[u32; crate::WORDS]) -> Challenger
+pub(crate) fn challenger(ws: &[u32; crate::WORDS]) -> Option<(TileId, u16, u8)>
     ensures { result ≡ Words.challenger_by (Words.from ws.now 595) }
 {
     if ws[595] == 1 {
         let tile = id(ws[596], ws[597], ws[598]);
-        return Challenger::Is(tile, short(ws[599]), byte(ws[600]));
+        return Some((tile, short(ws[599]), byte(ws[600])));
     }
-    Challenger::Nothing
+    None
 }
 
 pub(crate) fn matcher(ws: &[u32; crate::WORDS]) -> Matcher
@@ -388,13 +386,13 @@ pub(crate) fn matcher(ws: &[u32; crate::WORDS]) -> Matcher
 
 // ---- what is due
 
-pub(crate) fn time(tag: u32, low: u32, high: u32) -> MaybeTime
+pub(crate) fn time(tag: u32, low: u32, high: u32) -> Option<u64>
     ensures { result ≡ Words.time_of tag low high }
 {
     if tag == 1 {
-        return MaybeTime::At(long(low, high));
+        return Some(long(low, high));
     }
-    MaybeTime::Nothing
+    None
 }
 
 pub(crate) fn due(ws: &[u32; crate::WORDS]) -> Due

@@ -16,15 +16,20 @@ use crate::{decode, encode, steps};
 use cache::{Cache, Loaded, Loading, Pending, Progress};
 use engine::{Due, Header, Phase, Status};
 use pack::TileKey;
+use refusal::Refusal;
 
 // Refused: the fetch stays open.
-fn refused(ws: &mut [u32; crate::WORDS], pending: Pending, number: u32) -> Status
+fn refused(
+    ws: &mut [u32; crate::WORDS],
+    pending: Pending,
+    refusal: Refusal,
+) -> Result<Status, Refusal>
     requires { Words.accepted ws.old ≡ true }
-    ensures value { result ≡ (State.refused (Opens.opened_as (Words.engine_of ws.old) pending) number).answer }
+    ensures value { result ≡ (State.refused (Opens.opened_as (Words.engine_of ws.old) pending) refusal).answer }
     ensures ws_after { ws.new ≡ Words.words (Opens.opened_as (Words.engine_of ws.old) pending) }
 {
     encode::put_pending(pending, ws);
-    Status::Refused(number)
+    Err(refusal)
 }
 
 // ---- the header
@@ -51,7 +56,7 @@ fn put_read(ws: &mut [u32; crate::WORDS], header: Header)
 }
 
 // No readable header: a missed read is tried again, up to the eighth.
-fn header_failed(ws: &mut [u32; crate::WORDS], failure: u32) -> Status
+fn header_failed(ws: &mut [u32; crate::WORDS], failure: u32) -> Result<Status, Refusal>
     requires { Words.accepted ws.old ≡ true }
     ensures value { result ≡ (Deliver.header_failed (Opens.opened_as (Words.engine_of ws.old) Pendings.Header) failure).answer }
     ensures ws_after { ws.new ≡ Words.words (Deliver.header_failed (Opens.opened_as (Words.engine_of ws.old) Pendings.Header) failure).engine }
@@ -60,15 +65,15 @@ fn header_failed(ws: &mut [u32; crate::WORDS], failure: u32) -> Status
     if failure == 1 {
         if failures < 7 {
             put_phase(ws, Phase::Unread, failures + 1);
-            return Status::Working;
+            return Ok(Status::Working);
         }
     }
     put_phase(ws, Phase::Failed, failures);
-    Status::NoPack
+    Ok(Status::NoPack)
 }
 
 // The header came.
-fn header_came(ws: &mut [u32; crate::WORDS], failure: u32, bytes: &[u8]) -> Status
+fn header_came(ws: &mut [u32; crate::WORDS], failure: u32, bytes: &[u8]) -> Result<Status, Refusal>
     requires { Words.accepted ws.old ≡ true }
     ensures value { result ≡ (Deliver.header_came (Opens.opened_as (Words.engine_of ws.old) Pendings.Header) failure bytes.now).answer }
     ensures ws_after { ws.new ≡ Words.words (Deliver.header_came (Opens.opened_as (Words.engine_of ws.old) Pendings.Header) failure bytes.now).engine }
@@ -80,7 +85,7 @@ fn header_came(ws: &mut [u32; crate::WORDS], failure: u32, bytes: &[u8]) -> Stat
     match Header::parse(&sector) {
         Ok(header) => {
             put_read(ws, header);
-            Status::Working
+            Ok(Status::Working)
         }
         Err(refusal) => header_failed(ws, refusal.number()),
     }
@@ -120,7 +125,7 @@ fn put_more(ws: &mut [u32; crate::WORDS], c: Cache)
 }
 
 // A part failed: the eighth failure fails the pack.
-fn put_failed(ws: &mut [u32; crate::WORDS], c: Cache) -> Status
+fn put_failed(ws: &mut [u32; crate::WORDS], c: Cache) -> Result<Status, Refusal>
     requires { Words.accepted ws.old ≡ true }
     ensures value { result ≡ (Deliver.load_failed (Words.engine_of ws.old) c).answer }
     ensures ws_after { ws.new ≡ Words.words (Deliver.load_failed (Words.engine_of ws.old) c).engine }
@@ -131,15 +136,15 @@ fn put_failed(ws: &mut [u32; crate::WORDS], c: Cache) -> Status
     encode::put_word(ws, 1149, n);
     if failures < 7 {
         encode::put_word(ws, 1147, encode::byte(failures + 1));
-        return Status::Working;
+        return Ok(Status::Working);
     }
     encode::put_word(ws, 1147, 8);
     encode::put_word(ws, 1, 2);
-    Status::NoPack
+    Ok(Status::NoPack)
 }
 
 // What a step of the load leaves.
-fn left(ws: &mut [u32; crate::WORDS], pending: Pending, l: Loaded) -> Status
+fn left(ws: &mut [u32; crate::WORDS], pending: Pending, l: Loaded) -> Result<Status, Refusal>
     requires { Words.accepted ws.old ≡ true }
     ensures value { result ≡ (Deliver.loaded (Opens.opened_as (Words.engine_of ws.old) pending) l).answer }
     ensures ws_after { ws.new ≡ Words.words (Deliver.loaded (Opens.opened_as (Words.engine_of ws.old) pending) l).engine }
@@ -149,19 +154,23 @@ fn left(ws: &mut [u32; crate::WORDS], pending: Pending, l: Loaded) -> Status
     match answer {
         Ok(Progress::Done) => {
             put_done(ws, c);
-            Status::Working
+            Ok(Status::Working)
         }
         Ok(Progress::More) => {
             put_more(ws, c);
-            Status::Working
+            Ok(Status::Working)
         }
         Ok(Progress::Failed(_)) => put_failed(ws, c),
-        Err(refusal) => refused(ws, pending, refusal.number()),
+        Err(refusal) => refused(ws, pending, refusal),
     }
 }
 
 // The tile that is needed is settled without a read.
-pub(crate) fn settled(ws: &mut [u32; crate::WORDS], arena: &[u8], key: TileKey) -> Status
+pub(crate) fn settled(
+    ws: &mut [u32; crate::WORDS],
+    arena: &[u8],
+    key: TileKey,
+) -> Result<Status, Refusal>
     requires { Words.accepted ws.old ≡ true }
     ensures value { result ≡ (Came.settled (Words.engine_of ws.old) arena.now key).answer }
     ensures ws_after { ws.new ≡ Words.words (Came.settled (Words.engine_of ws.old) arena.now key).engine }
@@ -180,7 +189,7 @@ fn part_came(
     pending: Pending,
     failure: u32,
     bytes: &[u8],
-) -> Status
+) -> Result<Status, Refusal>
     requires { Words.accepted ws.old ≡ true }
     ensures value { result ≡ (Deliver.need_came (Opens.opened_as (Words.engine_of ws.old) pending) arena.old failure bytes.now).answer }
     ensures ws_after { ws.new ≡ Words.words (Deliver.need_came (Opens.opened_as (Words.engine_of ws.old) pending) arena.old failure bytes.now).engine }
@@ -189,7 +198,7 @@ fn part_came(
     let due = decode::due(&*ws);
     let need = due.need;
     match need {
-        None => refused(ws, pending, 11),
+        None => refused(ws, pending, Refusal::NotAsked),
         Some(key) => {
             let before = decode::cache(&*ws);
             let c = engine::fetch::with_pending(before, pending);
@@ -200,46 +209,49 @@ fn part_came(
     }
 }
 
-// An entry that begins a load: nothing else is being loaded, and there is room for the tile.
-#[derive(Drop)]
-enum Begins {
-    Nothing,
-    At(TileKey, usize, u32, u32),
-}
-
-fn begins_at(ws: &[u32; crate::WORDS], key: TileKey, offset: u32, len: u32) -> Begins
+// The load that an entry begins, by key, page, offset and length: where nothing else is being loaded and there is room for the tile.
+fn begins_at(
+    ws: &[u32; crate::WORDS],
+    key: TileKey,
+    offset: u32,
+    len: u32,
+) -> Option<(TileKey, usize, u32, u32)>
     ensures { result ≡ Came.begins_at (Words.engine_of ws.now) key offset len }
 {
     if cache::MAX_TILE_BYTES < len as usize {
-        return Begins::Nothing;
+        return None;
     }
     match crate::begin::victim_of(ws, len as u16) {
-        None => Begins::Nothing,
-        Some(slot) => Begins::At(key, slot, offset, len),
+        None => None,
+        Some(slot) => Some((key, slot, offset, len)),
     }
 }
 
-fn entry_begins(ws: &[u32; crate::WORDS], failure: u32, bytes: &[u8]) -> Begins
+fn entry_begins(
+    ws: &[u32; crate::WORDS],
+    failure: u32,
+    bytes: &[u8],
+) -> Option<(TileKey, usize, u32, u32)>
     requires { Words.accepted ws.now ≡ true }
     ensures { result ≡ Came.begins (Words.engine_of ws.now) failure bytes.now }
 {
     if failure != 0 {
-        return Begins::Nothing;
+        return None;
     }
     if bytes.len() != 8 {
-        return Begins::Nothing;
+        return None;
     }
     if ws[530] != 0 {
-        return Begins::Nothing;
+        return None;
     }
     let need = decode::maybe_key(ws[608], ws[609]);
     match need {
-        None => Begins::Nothing,
+        None => None,
         Some(key) => {
             let entry = cache::step::entry_bytes(bytes);
             match pack::grid::locate_of(decode::header(ws), &entry) {
-                Ok(None) => Begins::Nothing,
-                Err(_) => Begins::Nothing,
+                Ok(None) => None,
+                Err(_) => None,
                 Ok(Some((offset, len))) => begins_at(ws, key, offset, len),
             }
         }
@@ -272,7 +284,7 @@ fn entry_came(
     key: TileKey,
     failure: u32,
     bytes: &[u8],
-) -> Status
+) -> Result<Status, Refusal>
     requires ws_value { Words.accepted ws.old ≡ true }
     requires arena_value { State.engine_ok (Opens.opened_as (Words.engine_of ws.old) (Pendings.Entry key)) (length arena.old) ≡ true }
     ensures value { result ≡ (Deliver.need_came (Opens.opened_as (Words.engine_of ws.old) (Pendings.Entry key)) arena.old failure bytes.now).answer }
@@ -280,10 +292,10 @@ fn entry_came(
     ensures arena_after { arena.new ≡ (Deliver.need_came (Opens.opened_as (Words.engine_of ws.old) (Pendings.Entry key)) arena.old failure bytes.now).arena }
 {
     match entry_begins(&*ws, failure, bytes) {
-        Begins::Nothing => part_came(ws, arena, Pending::Entry(key), failure, bytes),
-        Begins::At(needed, slot, offset, len) => {
+        None => part_came(ws, arena, Pending::Entry(key), failure, bytes),
+        Some((needed, slot, offset, len)) => {
             put_begun(ws, needed, slot, offset, len);
-            Status::Working
+            Ok(Status::Working)
         }
     }
 }
@@ -322,7 +334,12 @@ fn is_more(l: Loading, failure: u32, len: usize) -> bool
 }
 
 // A chunk came. One that leaves more to come changes nothing of the pages.
-fn chunk_came(ws: &mut [u32; crate::WORDS], arena: &mut [u8], failure: u32, bytes: &[u8]) -> Status
+fn chunk_came(
+    ws: &mut [u32; crate::WORDS],
+    arena: &mut [u8],
+    failure: u32,
+    bytes: &[u8],
+) -> Result<Status, Refusal>
     requires ws_value { Words.accepted ws.old ≡ true }
     requires arena_value { State.engine_ok (Opens.opened_as (Words.engine_of ws.old) Pendings.Chunk) (length arena.old) ≡ true }
     ensures value { result ≡ (Deliver.need_came (Opens.opened_as (Words.engine_of ws.old) Pendings.Chunk) arena.old failure bytes.now).answer }
@@ -334,7 +351,7 @@ fn chunk_came(ws: &mut [u32; crate::WORDS], arena: &mut [u8], failure: u32, byte
         if is_more(l, failure, bytes.len()) {
             cache::step::put(arena, l.slot, l.done, bytes);
             put_further(ws, l, l.done + cache::step::chunk_len(l));
-            return Status::Working;
+            return Ok(Status::Working);
         }
     }
     part_came(ws, arena, Pending::Chunk, failure, bytes)
@@ -349,7 +366,7 @@ fn came(
     pending: Pending,
     failure: u32,
     bytes: &[u8],
-) -> Status
+) -> Result<Status, Refusal>
     requires ws_value { Words.accepted ws.old ≡ true }
     requires arena_value { State.engine_ok (Opens.opened_as (Words.engine_of ws.old) pending) (length arena.old) ≡ true }
     ensures value { result ≡ (Deliver.delivered (Opens.opened_as (Words.engine_of ws.old) pending) arena.old failure bytes.now).answer }
@@ -357,12 +374,12 @@ fn came(
     ensures arena_after { arena.new ≡ (Deliver.delivered (Opens.opened_as (Words.engine_of ws.old) pending) arena.old failure bytes.now).arena }
 {
     match pending {
-        Pending::Nothing => refused(ws, pending, 11),
+        Pending::Nothing => refused(ws, pending, Refusal::NotAsked),
         Pending::Header => {
             if engine::deliver::fits_header(failure, bytes.len()) {
                 return header_came(ws, failure, bytes);
             }
-            refused(ws, pending, 11)
+            refused(ws, pending, Refusal::NotAsked)
         }
         Pending::Entry(key) => entry_came(ws, arena, key, failure, bytes),
         Pending::Chunk => chunk_came(ws, arena, failure, bytes),
@@ -370,13 +387,18 @@ fn came(
 }
 
 // The open fetch answered: by its bytes with failure 0, or by failure 1 (missed) or 2 (past the pack's end).
-pub fn deliver(ws: &mut [u32; crate::WORDS], arena: &mut [u8], failure: u32, bytes: &[u8]) -> Status
+pub fn deliver(
+    ws: &mut [u32; crate::WORDS],
+    arena: &mut [u8],
+    failure: u32,
+    bytes: &[u8],
+) -> Result<Status, Refusal>
     ensures value { result ≡ (Calls.deliver ws.old arena.old failure bytes.now).answer }
     ensures ws_after { ws.new ≡ (Calls.deliver ws.old arena.old failure bytes.now).words }
     ensures arena_after { arena.new ≡ (Calls.deliver ws.old arena.old failure bytes.now).arena }
 {
     if !steps::tested(&*ws, arena.len()) {
-        return Status::Refused(12);
+        return Err(Refusal::BadState);
     }
     let pending = decode::pending(ws[536], ws[537]);
     came(ws, arena, pending, failure, bytes)
@@ -390,7 +412,7 @@ fn answered(
     offset: u64,
     len: usize,
     pack: &[u8],
-) -> Status
+) -> Result<Status, Refusal>
     requires ws_value { Words.accepted ws.old ≡ true }
     requires arena_value { State.engine_ok (Opens.opened_as (Words.engine_of ws.old) pending) (length arena.old) ≡ true }
     ensures value { result ≡ (Engines.answered_from (Opens.opened_as (Words.engine_of ws.old) pending) arena.old offset len pack.now).answer }
@@ -404,7 +426,13 @@ fn answered(
 }
 
 // A step that fetches, over a pack that is lent whole.
-fn fetched(ws: &mut [u32; crate::WORDS], arena: &mut [u8], pending: Pending, pack: &[u8]) -> Status
+#[tactic(auto, using(crate::proofs::CameLaws::open_put))]
+fn fetched(
+    ws: &mut [u32; crate::WORDS],
+    arena: &mut [u8],
+    pending: Pending,
+    pack: &[u8],
+) -> Result<Status, Refusal>
     requires ws_value { Words.accepted ws.old ≡ true }
     requires arena_value { State.engine_ok (Opens.opened_as (Words.engine_of ws.old) pending) (length arena.old) ≡ true }
     ensures value { result ≡ (Engines.step_from_by (Steps.opened (Words.engine_of ws.old) pending).answer (Steps.opened (Words.engine_of ws.old) pending) arena.old pack.now).answer }
@@ -412,23 +440,24 @@ fn fetched(ws: &mut [u32; crate::WORDS], arena: &mut [u8], pending: Pending, pac
     ensures arena_after { arena.new ≡ (Engines.step_from_by (Steps.opened (Words.engine_of ws.old) pending).answer (Steps.opened (Words.engine_of ws.old) pending) arena.old pack.now).arena }
 {
     let request = steps::request(&*ws, pending);
-    match request {
-        Status::Fetch(offset, len) => answered(ws, arena, pending, offset, len, pack),
-        Status::Idle | Status::Working | Status::NoPack | Status::OffMap | Status::Refused(_) => {
-            encode::put_pending(pending, ws);
-            request
-        }
+    if let Ok(Status::Fetch(offset, len)) = request {
+        return answered(ws, arena, pending, offset, len, pack);
     }
+    encode::put_pending(pending, ws);
+    request
 }
 
 // One step over a pack that is lent whole.
-pub fn step_from(ws: &mut [u32; crate::WORDS], arena: &mut [u8], pack: &[u8]) -> Status
+pub fn step_from(
+    ws: &mut [u32; crate::WORDS],
+    arena: &mut [u8],
+    pack: &[u8],
+) -> Result<Status, Refusal>
     ensures value { result ≡ (Calls.step_from ws.old arena.old pack.now).answer }
     ensures ws_after { ws.new ≡ (Calls.step_from ws.old arena.old pack.now).words }
     ensures arena_after { arena.new ≡ (Calls.step_from ws.old arena.old pack.now).arena }
 {
-    match steps::plan_step(&*ws, arena.len()) {
-        Planned::Refused => Status::Refused(12),
+    match steps::plan_step(&*ws, arena.len())? {
         Planned::Opens(pending) => fetched(ws, arena, pending, pack),
         Planned::Works(plan) => steps::worked(ws, &arena[..], plan),
     }

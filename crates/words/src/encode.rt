@@ -5,11 +5,12 @@ ghost use Rattle.words.specs.Put.{put, uses_in};
 ghost use Rattle.words.specs.Words as Words;
 
 use cache::{Aging, Cache, Loading, Pages, Part, Pending, Ring, Slot};
-use engine::{Ahead, Due, Engine, Follower, MaybeFix, MaybeTime, Phase, Places, Shared, Sight};
+use engine::{Ahead, Due, Engine, Fix, Follower, Phase, Places, Shared, Sight};
 use geo::Point;
-use matcher::{Challenger, Current, Heading, Matched, Matcher};
+use matcher::{Heading, Matched, Matcher};
 use pack::{Header, TileKey};
 use predict::End;
+use tile::TileId;
 
 // The words of one piece, at their place.
 fn put(out: &mut [u32; crate::WORDS], at: usize, piece: &[u32])
@@ -313,12 +314,12 @@ fn put_shared(s: Shared, out: &mut [u32; crate::WORDS])
 
 // ---- the fixes
 
-pub(crate) fn fix(fix: MaybeFix) -> [u32; 5]
+pub(crate) fn fix(fix: Option<Fix>) -> [u32; 5]
     ensures { result ≡ Words.fix_words fix }
 {
     match fix {
-        MaybeFix::Nothing => [0, 0, 0, 0, 0],
-        MaybeFix::Is(f) => [
+        None => [0, 0, 0, 0, 0],
+        Some(f) => [
             1,
             num::cast::u32_of_i32(f.lat),
             num::cast::u32_of_i32(f.lon),
@@ -421,21 +422,21 @@ fn matched(m: Matched) -> [u32; 14]
     ]
 }
 
-pub fn current(c: Current) -> [u32; 14]
+pub fn current(c: Option<Matched>) -> [u32; 14]
     ensures { result ≡ Words.current_words c }
 {
     match c {
-        Current::Nothing => [0, 0, 0, 0, 0, 0, 0, 0, 0, 0, 0, 0, 0, 0],
-        Current::Is(m) => matched(m),
+        None => [0, 0, 0, 0, 0, 0, 0, 0, 0, 0, 0, 0, 0, 0],
+        Some(m) => matched(m),
     }
 }
 
-pub fn challenger(c: Challenger) -> [u32; 6]
+pub fn challenger(c: Option<(TileId, u16, u8)>) -> [u32; 6]
     ensures { result ≡ Words.challenger_words c }
 {
     match c {
-        Challenger::Nothing => [0, 0, 0, 0, 0, 0],
-        Challenger::Is(tile, edge, count) => {
+        None => [0, 0, 0, 0, 0, 0],
+        Some((tile, edge, count)) => {
             let key = tile.key;
             [
                 1,
@@ -466,12 +467,12 @@ pub(crate) fn put_matcher(m: Matcher, out: &mut [u32; crate::WORDS])
 
 // ---- what is due
 
-pub(crate) fn time(t: MaybeTime) -> [u32; 3]
+pub(crate) fn time(t: Option<u64>) -> [u32; 3]
     ensures { result ≡ Words.time_words t }
 {
     match t {
-        MaybeTime::Nothing => [0, 0, 0],
-        MaybeTime::At(at) => [1, low(at), high(at)],
+        None => [0, 0, 0],
+        Some(at) => [1, low(at), high(at)],
     }
 }
 

@@ -15,11 +15,11 @@ use cache::next::Next;
 use engine::Status;
 use engine::plan::Plan;
 use pack::TileKey;
+use refusal::Refusal;
 
-// What a step is to do: nothing, since number 12 refuses it; leave a fetch open; work by a plan that opens none.
+// What a step is to do: leave a fetch open; work by a plan that opens none.
 #[derive(Drop)]
 pub(crate) enum Planned {
-    Refused,
     Opens(Pending),
     Works(Plan),
 }
@@ -85,23 +85,23 @@ fn planned_by(ws: &[u32; crate::WORDS], pending: Pending, plan: Plan) -> Planned
 }
 
 // What a step is to do: 12, if the test refuses the words.
-pub(crate) fn plan_step(ws: &[u32; crate::WORDS], size: usize) -> Planned
+pub(crate) fn plan_step(ws: &[u32; crate::WORDS], size: usize) -> Result<Planned, Refusal>
     ensures { result ≡ Opens.planned ws.now size }
 {
     if !crate::pages::cache_ok(ws) {
-        return Planned::Refused;
+        return Err(Refusal::BadState);
     }
     let s = decode::summary(ws);
     if !engine::summary::passes(s, size) {
-        return Planned::Refused;
+        return Err(Refusal::BadState);
     }
     let plan = engine::summary::plan(s);
     let pending = s.pending;
-    planned_by(ws, pending, plan)
+    Ok(planned_by(ws, pending, plan))
 }
 
 // The read that a fetch asks for.
-pub(crate) fn request(ws: &[u32; crate::WORDS], pending: Pending) -> Status
+pub(crate) fn request(ws: &[u32; crate::WORDS], pending: Pending) -> Result<Status, Refusal>
     ensures { result ≡ Steps.request_of (Words.engine_of ws.now).shared pending }
 {
     let header = decode::header(ws);
@@ -110,7 +110,7 @@ pub(crate) fn request(ws: &[u32; crate::WORDS], pending: Pending) -> Status
 }
 
 // A fetch opened, and its read.
-fn opened(ws: &mut [u32; crate::WORDS], pending: Pending) -> Status
+fn opened(ws: &mut [u32; crate::WORDS], pending: Pending) -> Result<Status, Refusal>
     requires { Words.accepted ws.old ≡ true }
     ensures value { result ≡ (Steps.opened (Words.engine_of ws.old) pending).answer }
     ensures ws_after { ws.new ≡ Words.words (Steps.opened (Words.engine_of ws.old) pending).engine }
@@ -124,7 +124,7 @@ fn opened(ws: &mut [u32; crate::WORDS], pending: Pending) -> Status
 fn rested(ws: &mut [u32; crate::WORDS]) -> Status
     requires { Words.accepted ws.old ≡ true }
     ensures value { result ≡ Statuses.Idle }
-    ensures ws_after { ws.new ≡ Words.words (Work.ended (Words.engine_of ws.old) (Words.engine_of ws.old).shared.cache (Work.counted (Words.engine_of ws.old).follower) Statuses.Idle).engine }
+    ensures ws_after { ws.new ≡ Words.words (Work.ended (Words.engine_of ws.old) (Words.engine_of ws.old).shared.cache (Work.counted (Words.engine_of ws.old).follower) (Ok Statuses.Idle)).engine }
 {
     let n = std::num::wrapping_add_u32(ws[1149], 1);
     encode::put_word(ws, 1149, n);
@@ -132,30 +132,33 @@ fn rested(ws: &mut [u32; crate::WORDS]) -> Status
 }
 
 // A step that opens no fetch.
-pub(crate) fn worked(ws: &mut [u32; crate::WORDS], arena: &[u8], plan: Plan) -> Status
-    requires { Opens.planned ws.old (length arena.now) ≡ Planneds.Works plan }
+pub(crate) fn worked(
+    ws: &mut [u32; crate::WORDS],
+    arena: &[u8],
+    plan: Plan,
+) -> Result<Status, Refusal>
+    requires { Opens.planned ws.old (length arena.now) ≡ Ok (Planneds.Works plan) }
     ensures value { result ≡ (Steps.stepped (Words.engine_of ws.old) arena.now).answer }
     ensures ws_after { ws.new ≡ Words.words (Steps.stepped (Words.engine_of ws.old) arena.now).engine }
 {
     match plan {
-        Plan::Rest => rested(ws),
+        Plan::Rest => Ok(rested(ws)),
         Plan::Match(fix) => crate::work::match_step(ws, arena, fix),
         Plan::Road(fix, found) => crate::work::road_step(ws, arena, fix, found),
-        Plan::NoPack => Status::NoPack,
-        Plan::Header => Status::Refused(12),
+        Plan::NoPack => Ok(Status::NoPack),
+        Plan::Header => Err(Refusal::BadState),
         Plan::Need(key) => crate::deliver::settled(ws, arena, key),
-        Plan::Roadless => crate::work::road_dropped(ws),
-        Plan::Off(fix) => crate::work::left_map(ws, fix),
+        Plan::Roadless => Ok(crate::work::road_dropped(ws)),
+        Plan::Off(fix) => Ok(crate::work::left_map(ws, fix)),
     }
 }
 
 // One bounded unit of work.
-pub fn step(ws: &mut [u32; crate::WORDS], arena: &[u8]) -> Status
+pub fn step(ws: &mut [u32; crate::WORDS], arena: &[u8]) -> Result<Status, Refusal>
     ensures value { result ≡ (Calls.step ws.old arena.now).answer }
     ensures ws_after { ws.new ≡ (Calls.step ws.old arena.now).words }
 {
-    match plan_step(&*ws, arena.len()) {
-        Planned::Refused => Status::Refused(12),
+    match plan_step(&*ws, arena.len())? {
         Planned::Opens(pending) => opened(ws, pending),
         Planned::Works(plan) => worked(ws, arena, plan),
     }

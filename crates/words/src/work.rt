@@ -11,10 +11,11 @@ ghost use Rattle.words.specs.Worked as Worked;
 
 use crate::{decode, encode};
 use cache::Aging;
-use engine::{Ahead, Current, Due, Fix, Matched, Status};
+use engine::{Ahead, Due, Fix, Matched, Status};
 use geo::Point;
 use matcher::{Landings, Matcher, Searched};
 use predict::{End, Outcome, Prediction};
+use refusal::Refusal;
 
 // ---- a match
 
@@ -70,34 +71,41 @@ fn match_made(ws: &mut [u32; crate::WORDS], fix: Fix, m: Matcher)
 }
 
 // How a step that matched ends: clock and ages first, and then what goes by the match. On the late 12 nothing changes.
-fn match_ended(ws: &mut [u32; crate::WORDS], fix: Fix, at: Landings, u: Searched) -> Status
+fn match_ended(
+    ws: &mut [u32; crate::WORDS],
+    fix: Fix,
+    at: Landings,
+    u: Searched,
+) -> Result<Status, Refusal>
     requires ws_value { Words.accepted ws.old ≡ true }
     requires tiles_bound { u.tiles ≤ 4 }
     ensures value { result ≡ (Plans.match_made (Words.engine_of ws.old) fix (Gather.made_by at (Uses.uses_of (Words.engine_of ws.old).shared.cache) u)).answer }
     ensures ws_after { ws.new ≡ Words.words (Plans.match_made (Words.engine_of ws.old) fix (Gather.made_by at (Uses.uses_of (Words.engine_of ws.old).shared.cache) u)).engine }
 {
-    let answer = u.answer;
     let m = u.matcher;
-    match answer {
-        matcher::Outcome::Refused(number) => Status::Refused(number),
+    let outcome = u.answer?;
+    crate::look::use_tiles(ws, at, u.tiles);
+    match outcome {
         matcher::Outcome::Found(_) | matcher::Outcome::Nothing => {
-            crate::look::use_tiles(ws, at, u.tiles);
             match_made(ws, fix, m);
-            Status::Working
+            Ok(Status::Working)
         }
         matcher::Outcome::Need(key) => {
-            crate::look::use_tiles(ws, at, u.tiles);
             let due = decode::due(&*ws);
             let pages = decode::size(ws[399]);
             let asked = engine::work::asking_due(due, pages, key);
             asks(ws, asked);
-            engine::work::match_tells(due, pages, answer)
+            Ok(engine::work::match_tells(due, pages, u.answer))
         }
     }
 }
 
 // The newest fix matched.
-pub(crate) fn match_step(ws: &mut [u32; crate::WORDS], arena: &[u8], fix: Fix) -> Status
+pub(crate) fn match_step(
+    ws: &mut [u32; crate::WORDS],
+    arena: &[u8],
+    fix: Fix,
+) -> Result<Status, Refusal>
     requires { Words.accepted ws.old ≡ true }
     ensures value { result ≡ (Work.match_step (Words.engine_of ws.old) arena.now (Work.counted (Words.engine_of ws.old).follower) fix).answer }
     ensures ws_after { ws.new ≡ Words.words (Work.match_step (Words.engine_of ws.old) arena.now (Work.counted (Words.engine_of ws.old).follower) fix).engine }
@@ -147,7 +155,7 @@ fn road_of(
     Ahead {
         generation: std::num::wrapping_add_u32(generation, 1),
         at_ms,
-        matched: Current::Is(found),
+        matched: Some(found),
         start_z_dm: found.z_dm,
         samples,
         len: p.len,
@@ -205,31 +213,31 @@ fn road_ended(
     ws: &mut [u32; crate::WORDS],
     fix: Fix,
     found: Matched,
-    answer: Outcome,
+    answer: Result<Outcome, Refusal>,
     uses: Aging,
     samples: [i16; predict::MAX_SAMPLES],
     behind: [i16; predict::BEHIND_SAMPLES],
-) -> Status
+) -> Result<Status, Refusal>
     requires { Words.accepted ws.old ≡ true }
     ensures value { result ≡ (Worked.road_ended (Words.engine_of ws.old) fix found answer uses samples behind).answer }
     ensures ws_after { ws.new ≡ Words.words (Worked.road_ended (Words.engine_of ws.old) fix found answer uses samples behind).engine }
 {
-    if engine::work::road_fails(answer) {
-        return Status::Refused(engine::work::road_number(answer));
+    if let Some(refusal) = engine::work::road_refusal(answer) {
+        return Err(refusal);
     }
     match answer {
-        Outcome::Road(r) => {
+        Ok(Outcome::Road(r)) => {
             let road = road_of(ws[611], fix.at_ms, found, r, samples, behind);
             road_publish(ws, uses, fix.at_ms, road);
-            Status::Working
+            Ok(Status::Working)
         }
-        Outcome::Need(key) => {
+        Ok(Outcome::Need(key)) => {
             road_needs(ws, uses, fix, found, key);
-            Status::Working
+            Ok(Status::Working)
         }
-        Outcome::Rematch | Outcome::Refused(_) => {
+        Ok(Outcome::Rematch) | Err(_) => {
             road_rematch(ws, uses);
-            Status::Working
+            Ok(Status::Working)
         }
     }
 }
@@ -240,7 +248,7 @@ pub(crate) fn road_step(
     arena: &[u8],
     fix: Fix,
     found: Matched,
-) -> Status
+) -> Result<Status, Refusal>
     requires { Words.accepted ws.old ≡ true }
     ensures value { result ≡ (Work.road_step (Words.engine_of ws.old) arena.now (Work.counted (Words.engine_of ws.old).follower) fix found).answer }
     ensures ws_after { ws.new ≡ Words.words (Work.road_step (Words.engine_of ws.old) arena.now (Work.counted (Words.engine_of ws.old).follower) fix found).engine }

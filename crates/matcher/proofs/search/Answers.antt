@@ -1,5 +1,6 @@
 -- `matcher::search` meets its contract. The loop's invariant: the candidates kept so far are the definition's after as many turns, in eight places. An
 -- edge out of reach adds nothing (`skips`), and neither does one that is too dear.
+use Rattle.std.specs.Prelude.{Some, None}
 use Prim.Native.Nat.{ℕ}
 use mathlib.Core.Path.{◌≡◌, sym, ap, ◌∙◌}
 use mathlib.Core.List.{List}
@@ -10,7 +11,6 @@ use Rattle.tile.specs.declared.TileId.{TileId}
 use Rattle.matcher.specs.declared.Kept.{Kept}
 use Rattle.matcher.specs.declared.Nearest.{Nearest}
 use Rattle.matcher.specs.declared.Query.{Query}
-use Rattle.matcher.specs.declared.scan.MaybeNearest.TheVariants as MaybeNearest
 use Rattle.matcher.specs.Scan.{scan}
 use Rattle.matcher.specs.Keeping.{insert}
 use Rattle.matcher.specs.Tile as Tile
@@ -19,12 +19,12 @@ use Rattle.matcher.proofs.PlaceLaws.{insert-written, insert_dropped}
 use Rattle.matcher.proofs.search.Goals as goal
 
 module _ (k : Kept) (q : Query) (id : TileId) (lon_um : ℕ) (bs : List ℕ) (number : ℕ) where
-  skips : scan q.header bs id.key (Layout.edge_of bs number) q.fix lon_um ≡ MaybeNearest.Nothing → Tile.edge_step k q id lon_um bs number ≡ k
+  skips : scan q.header bs id.key (Layout.edge_of bs number) q.fix lon_um ≡ None → Tile.edge_step k q id lon_um bs number ≡ k
   unfolding Tile.edge_step
   skips e = rw e
 
-  keeps : (n : Nearest) → scan q.header bs id.key (Layout.edge_of bs number) q.fix lon_um ≡ MaybeNearest.At n
-      → Tile.edge_step k q id lon_um bs number ≡ Tile.kept_with (MaybeNearest.At n) k q id lon_um bs number
+  keeps : (n : Nearest) → scan q.header bs id.key (Layout.edge_of bs number) q.fix lon_um ≡ Some n
+      → Tile.edge_step k q id lon_um bs number ≡ Tile.kept_with (Some n) k q id lon_um bs number
   unfolding Tile.edge_step
   keeps n e = rw e
 
@@ -50,7 +50,7 @@ loop-number-preserved-then-place-ge8 c =
     let id = c.id-id.result in
     let head = c.head-head.result in
     let args = c.args in
-    let told = sym c.reached.ensures ∙ c.in-At.is in (
+    let told = sym c.reached.ensures ∙ c.in-Some.is in (
       at_loop.invariant.0,
       rw (up_turn, ← at_loop.invariant.1, keeps at_loop.d args.q id head.lon_um args.bytes.now at_loop.number _ told)
           (insert_dropped at_loop.d c.candidate_at-c.result at_loop.invariant.0 (rw c.place_of-place.ensures at c.if-place-ge8.true)
@@ -64,7 +64,7 @@ loop-number-preserved c =
     let id = c.id-id.result in
     let head = c.head-head.result in
     let args = c.args in
-    let told = sym c.reached.ensures ∙ c.in-At.is in (
+    let told = sym c.reached.ensures ∙ c.in-Some.is in (
       length-set at_loop.d.v place.result c.candidate_at-c.result ∙ at_loop.invariant.0,
       rw (
         up_turn,

@@ -3,7 +3,7 @@ use Rattle.engine.proofs.StepNeeds.{load_ended}
 use Rattle.engine.proofs.deliver.loaded.Goals as goal
 
 pub returns-in-Err : goal.returns-in-Err
-returns-in-Err c = rw (c.refused.ensures, c.number.ensures, c.in-Err.is)
+returns-in-Err c = rw (c.refused.ensures, c.in-Err.is)
 
 pub returns : goal.returns
 returns c =

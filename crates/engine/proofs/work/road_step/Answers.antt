@@ -4,12 +4,12 @@ use Rattle.engine.proofs.StepNeeds.{road_refused, road_ended}
 use Rattle.engine.specs.Work.{road_step}
 use Rattle.engine.proofs.work.road_step.Goals as goal
 
-pub returns-then-road_fails : goal.returns-then-road_fails
+pub returns-in-Some : goal.returns-in-Some
 unfolding road_step
-returns-then-road_fails c =
+returns-in-Some c =
     let road = rw c.requires at c.predicted-p.ensures.value in
-    let fails = rw road at (sym c.road_fails.ensures ∙ c.if-road_fails.true) in
-    rw (c.refused.ensures, c.road_number.ensures, road, road_refused _ fails c.args.e _ c.args.fix c.args.found _)
+    let fails = rw road at (sym c.road_refusal.ensures ∙ c.in-Some.is) in
+    rw (c.refused.ensures, road_refused _ _ fails c.args.e _ c.args.fix c.args.found _)
 
 pub returns : goal.returns
 unfolding road_step
@@ -17,5 +17,5 @@ returns c =
     let road = rw c.requires at c.predicted-p.ensures.value in
     let samples = rw c.requires at c.predicted-p.ensures.samples_after in
     let behind = rw c.requires at c.predicted-p.ensures.behind_after in
-    let stays = rw road at (sym c.road_fails.ensures ∙ c.if-road_fails.false) in
+    let stays = rw road at (sym c.road_refusal.ensures ∙ c.in_default.is) in
     rw (c.road_leaves-after.ensures, c.counted-f.ensures, road, samples, behind, road_ended _ stays c.args.e _ c.args.fix c.args.found _)

@@ -2,11 +2,11 @@
 use Rattle.matcher.proofs.ScoreLiterals.{literal_40}
 use Rattle.matcher.proofs.scan.is_closer.Goals as goal
 
-pub returns-in-Nothing : goal.returns-in-Nothing
-returns-in-Nothing c = rw (← literal_40, c.if-distance.true, c.in-Nothing.is)
+pub returns-in-None : goal.returns-in-None
+returns-in-None c = rw (← literal_40, c.if-distance.true, c.in-None.is)
 
-pub returns-in-At : goal.returns-in-At
-returns-in-At c = rw (← literal_40, c.if-distance.true, c.in-At.is)
+pub returns-in-Some : goal.returns-in-Some
+returns-in-Some c = rw (← literal_40, c.if-distance.true, c.in-Some.is)
 
 pub returns : goal.returns
 returns c = rw (← literal_40, c.if-distance.false)

@@ -1,9 +1,7 @@
 -- `matcher::scan::rejected` meets its contract: each return by the pairs of tests before it, one of which failed in each.
 use Rattle.matcher.proofs.ScoreLiterals.{literal_40}
 use Rattle.matcher.proofs.scan.rejected.Goals as goal
-use Rattle.matcher.proofs.scan.rejected.Goals.{else-a-3-via-then-a-3+else-b-3, else-a-3-via-else-a-3}
-use Rattle.matcher.proofs.scan.rejected.Goals.{else-a-2-via-then-a-2+else-b-2, else-a-2-via-else-a-2}
-use Rattle.matcher.proofs.scan.rejected.Goals.{else-a-via-then-a+else-b, else-a-via-else-a}
+use Rattle.matcher.proofs.scan.rejected.Goals.{else-a-3-via-then-a-3+else-b-3, else-a-3-via-else-a-3, else-a-2-via-then-a-2+else-b-2, else-a-2-via-else-a-2, else-a-via-then-a+else-b, else-a-via-else-a}
 
 pub returns-then-b : goal.returns-then-b
 returns-then-b c = rw (← literal_40, c.if-a.true, c.if-b.true)

@@ -1,5 +1,6 @@
 -- `matcher::scan::scan` meets its contract. The loop's invariant: the scan so far is the definition's after as many turns; the turn that
 -- leaves is the one at the edge's last segment.
+use Rattle.std.specs.Prelude.{None}
 use Prim.Native.Nat.{ℕ, ◌+◌}
 use mathlib.Core.Path.{◌≡◌, ap, ◌∙◌}
 use mathlib.Core.List.{List}
@@ -9,7 +10,6 @@ use Rattle.pack.specs.declared.TileKey.{TileKey}
 use Rattle.tile.specs.declared.Edge.{Edge}
 use Rattle.geo.specs.declared.Point.{Point}
 use Rattle.geo.specs.Flat.{metres_of}
-use Rattle.matcher.specs.declared.scan.MaybeNearest.TheVariants as MaybeNearest
 use Rattle.matcher.specs.declared.scan.Scanned.{Scanned}
 use Rattle.matcher.specs.Scan.{point_of, segment_step, scanned, scan}
 use Rattle.num.proofs.FoldLaws.{up_start, up_turn}
@@ -17,7 +17,7 @@ use Rattle.matcher.proofs.scan.scan.Goals as goal
 
 -- the definition's start, one turn of it, and the scan after the last
 module _ (h : Header) (bs : List ℕ) (key : TileKey) (e : Edge) (fix : Point) (lon_um : ℕ) where
-  scan_start : scanned h bs key e fix lon_um 0 ≡ record { at = metres_of (point_of h bs key e 0) fix lon_um; nearest = MaybeNearest.Nothing }
+  scan_start : scanned h bs key e fix lon_um 0 ≡ record { at = metres_of (point_of h bs key e 0) fix lon_um; nearest = None }
   unfolding scanned
   scan_start = up_start _ _
 

@@ -8,8 +8,7 @@ use Rattle.predict.proofs.WayLaws.{not_both, not_first}
 use Rattle.predict.specs.Consider.{is_way_on}
 use Rattle.predict.specs.Cost.{has_flag}
 use Rattle.predict.proofs.consider.is_way_on.Goals as goal
-use Rattle.predict.proofs.consider.is_way_on.Goals.{then-entry+else-has_flag, else-entry}
-use Rattle.predict.proofs.consider.is_way_on.Goals.{then-entry-way+else-same_key, else-entry-way}
+use Rattle.predict.proofs.consider.is_way_on.Goals.{then-entry+else-has_flag, else-entry, then-entry-way+else-same_key, else-entry-way}
 
 pub returns-then-same_key : goal.returns-then-same_key
 unfolding is_way_on

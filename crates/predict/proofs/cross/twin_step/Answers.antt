@@ -1,12 +1,11 @@
 -- `predict::cross::twin_step` meets its contract: each return by where the tile lies; what its lookup gives and leaves is what the reader
 -- gives and carries.
 use Rattle.refusal.specs.declared.Refusal.{Refusal}
-use Rattle.std.specs.Prelude.{Result}
 use Prim.Native.Nat.{ℕ}
 use mathlib.Core.Path.{◌≡◌, refl, sym, ◌∙◌}
 use mathlib.Core.List.{List}
 use lib.IntN.{pos, ◌+ℤ◌}
-use Rattle.std.specs.Prelude.{Some}
+use Rattle.std.specs.Prelude.{Result, Some}
 use Rattle.pack.specs.Grid.{checked_of}
 use Rattle.pack.specs.declared.TileKey.{TileKey}
 use Rattle.cache.specs.Direct.{Look, ready, missing, absent, stale}

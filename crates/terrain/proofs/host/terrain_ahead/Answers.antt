@@ -6,8 +6,8 @@ use Rattle.terrain.proofs.host.terrain_ahead.Goals as goal
 
 pub returns-then-not-r : goal.returns-then-not-r
 unfolding ahead
-returns-then-not-r c = rw (sym c.read-r.ensures.0 ∙ not-true _ c.if-not-r.true, c.road.ensures, c.no_road-none.ensures)
+returns-then-not-r c = rw (sym c.read-r.ensures.0 ∙ not-true _ c.if-not-r.true, c.ahead.ensures)
 
 pub returns : goal.returns
 unfolding ahead
-returns c = rw (sym c.read-r.ensures.0 ∙ not-false _ c.if-not-r.false, c.road-2.ensures, c.known-k.ensures, c.ahead-a.ensures, c.read-r.ensures.1)
+returns c = rw (sym c.read-r.ensures.0 ∙ not-false _ c.if-not-r.false, c.ahead-3.ensures, c.ahead-2.ensures, c.read-r.ensures.1)

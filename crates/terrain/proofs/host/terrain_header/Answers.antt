@@ -6,8 +6,8 @@ use Rattle.terrain.proofs.host.terrain_header.Goals as goal
 
 pub returns-then-not-r : goal.returns-then-not-r
 unfolding header
-returns-then-not-r c = rw (sym c.read-r.ensures.0 ∙ not-true _ c.if-not-r.true, c.header.ensures, c.no_header-none.ensures, c.known-k.ensures)
+returns-then-not-r c = rw (sym c.read-r.ensures.0 ∙ not-true _ c.if-not-r.true, c.header.ensures)
 
 pub returns : goal.returns
 unfolding header
-returns c = rw (sym c.read-r.ensures.0 ∙ not-false _ c.if-not-r.false, c.header-2.ensures, c.known-k-2.ensures, c.header-h.ensures, c.read-r.ensures.1)
+returns c = rw (sym c.read-r.ensures.0 ∙ not-false _ c.if-not-r.false, c.header-3.ensures, c.header-2.ensures, c.read-r.ensures.1)

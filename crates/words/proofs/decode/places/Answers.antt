@@ -1,10 +1,9 @@
 -- `decode::places` meets its contract. The loop's invariant: the places so far are those of as many turns.
-use Rattle.words.specs.Words.{places_of}
 use Rattle.words.proofs.ArrayLaws.{places_read}
 use Rattle.num.proofs.FoldLaws.{up_start, up_turn}
 use Rattle.std.proofs.Common.{◌≡◌, sym, arith, rules}
 use lib.ListN.{length-replicate}
-use Rattle.words.specs.Words.{no_point}
+use Rattle.words.specs.Words.{places_of, no_point}
 use Rattle.geo.specs.declared.Point.{Point}
 use Rattle.words.proofs.decode.places.Goals as goal
 

@@ -5,10 +5,10 @@ use Rattle.words.proofs.BeginLaws.{beginning, entry_begins}
 use Rattle.words.proofs.deliver.entry_came.Goals as goal
 
 pub put_begun-requires : goal.put_begun-requires
-put_begun-requires c = (c.requires.ws_value, ltb-false 49152 _ (beginning (engine_of c.args.ws.now) c.args.failure c.args.bytes.now _ _ _ _ (sym c.entry_begins.ensures ∙ c.in-At.is)).small)
+put_begun-requires c = (c.requires.ws_value, ltb-false 49152 _ (beginning (engine_of c.args.ws.now) c.args.failure c.args.bytes.now _ _ _ _ (sym c.entry_begins.ensures ∙ c.in-Some.is)).small)
 
-pub returns-in-At : goal.returns-in-At
-returns-in-At c = let e = engine_of c.args.ws.now in let begun = beginning e c.args.failure c.args.bytes.now _ _ _ _ (sym c.entry_begins.ensures ∙ c.in-At.is) in let came = entry_begins e c.args.arena.now c.args.bytes.now c.args.failure c.args.key c.requires.arena_value _ _ _ _ begun in
+pub returns-in-Some : goal.returns-in-Some
+returns-in-Some c = let e = engine_of c.args.ws.now in let begun = beginning e c.args.failure c.args.bytes.now _ _ _ _ (sym c.entry_begins.ensures ∙ c.in-Some.is) in let came = entry_begins e c.args.arena.now c.args.bytes.now c.args.failure c.args.key c.requires.arena_value _ _ _ _ begun in
     record {
       value = rw came;
       ws_after = rw came c.put_begun.ensures;

@@ -1,5 +1,7 @@
 -- `steps::plan_step` meets its contract: number 12 first, then by the summary.
-use Rattle.std.proofs.Common.{sym, ◌∙◌}
+use Rattle.std.specs.Prelude.{Ok}
+use Rattle.std.proofs.Common.{sym, ap, ◌∙◌}
+use Rattle.words.specs.declared.steps.Planned.{Planned}
 use Rattle.words.proofs.StepLaws.{tested_is, planned_not, planned_by}
 use Rattle.words.proofs.steps.plan_step.Goals as goal
 
@@ -12,4 +14,4 @@ returns-then-not-passes c = let args = c.args in rw (planned_not args.ws.now arg
 pub returns : goal.returns
 returns c =
     let args = c.args in
-    rw (planned_by args.ws.now args.size (rw (tested_is args.ws.now args.size, sym c.cache_ok.ensures ∙ c.if-not-cache_ok.false, ← c.summary-s.ensures, sym c.passes.ensures ∙ c.if-not-passes.false)) c.summary-s.ensures, ← c.plan-plan.ensures) c.planned_by.ensures
+    rw (planned_by args.ws.now args.size (rw (tested_is args.ws.now args.size, sym c.cache_ok.ensures ∙ c.if-not-cache_ok.false, ← c.summary-s.ensures, sym c.passes.ensures ∙ c.if-not-passes.false)) c.summary-s.ensures, ← c.plan-plan.ensures) (ap (λ (planned : Planned). Ok planned) c.planned_by.ensures)

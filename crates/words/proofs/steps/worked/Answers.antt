@@ -26,7 +26,7 @@ pub returns-in-Rest : goal.returns-in-Rest
 returns-in-Rest c =
     let works = works_by_plan c.args.ws.now c.args.arena.now c.requires c.in-Rest.is in
     record {
-      value = rw works c.rested.ensures.value;
+      value = rw (c.rested.ensures.value, works);
       ws_after = rw works c.rested.ensures.ws_after;
     }
 
@@ -69,7 +69,7 @@ pub returns-in-Roadless : goal.returns-in-Roadless
 returns-in-Roadless c =
     let works = works_by_plan c.args.ws.now c.args.arena.now c.requires c.in-Roadless.is in
     record {
-      value = rw works c.road_dropped.ensures.value;
+      value = rw (c.road_dropped.ensures.value, works);
       ws_after = rw works c.road_dropped.ensures.ws_after;
     }
 
@@ -77,6 +77,6 @@ pub returns-in-Off : goal.returns-in-Off
 returns-in-Off c =
     let works = works_by_plan c.args.ws.now c.args.arena.now c.requires c.in-Off.is in
     record {
-      value = rw works c.left_map.ensures.value;
+      value = rw (c.left_map.ensures.value, works);
       ws_after = rw works c.left_map.ensures.ws_after;
     }
