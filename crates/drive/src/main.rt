@@ -43,9 +43,7 @@ fn drive(rt: &impl Print, card: Card<'_>, text: &[u8], arena: &mut [u8]) -> io::
     let engine = Engine::new(&arena[..], HORIZON);
     let mut ride = Ride { engine, reads: 0 };
     let mut at = 0;
-    let mut number: u16 = 0;
-    while number < 65535 {
-        number += 1;
+    for number in 1..=65535u16 {
         let line = fixes::read_line(text, at);
         match line {
             Line::Fix(fix, next) => {
@@ -80,18 +78,15 @@ fn drive_file(rt: &impl Print, card: Card<'_>, mut list: File) -> io::Result<()>
     drive(rt, card, &text[..n], &mut arena)
 }
 
-// Which reads are to be missed: the third argument, or none.
-fn missed(rt: &impl Env) -> fixes::Number {
+// Which reads are to be missed: every K-th by the third argument, 0 for none without it; nothing where it is no number.
+fn missed(rt: &impl Env) -> Option<u64> {
     if !reading::has_argument(rt, 3) {
-        return fixes::Number {
-            is: true,
-            value: 0,
-            next: 0,
-        };
+        return Some(0);
     }
     let mut word = [0u8; 4096];
     let n = reading::argument(rt, 3, &mut word);
-    fixes::read_number(&word[..n], 0, 0)
+    let (every, _) = fixes::read_number(&word[..n], 0, 0)?;
+    Some(every)
 }
 
 // A file that an argument names, opened; none where it can't be, and that is told.
@@ -113,19 +108,15 @@ fn main(rt: HostRuntime) -> io::Result<()> {
     if !reading::has_argument(&rt, 2) || reading::has_argument(&rt, 4) {
         return say(&rt, "usage: drive PACK DRIVE [K]");
     }
-    let every = missed(&rt);
-    if !every.is {
+    let Some(every) = missed(&rt) else {
         return say(&rt, "K is not a number");
-    }
+    };
     let Some(pack) = opened(&rt, 1)? else {
         return Ok(());
     };
     let Some(list) = opened(&rt, 2)? else {
         return Ok(());
     };
-    let card = Card {
-        file: &pack,
-        every: every.value,
-    };
+    let card = Card { file: &pack, every };
     drive_file(&rt, card, list)
 }

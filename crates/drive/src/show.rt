@@ -13,6 +13,7 @@ pub fn heading(rt: &impl Print) -> io::Result<()> {
     println!(rt; "fix status row col edge way offset samples end confidence")
 }
 
+// Both enums are of other crates, so no `From` can stand here; nor for the ends of a road.
 fn status_of(status: Result<Status, Refusal>) -> profile_text::drive::Status {
     match status {
         Ok(Status::Idle) => profile_text::drive::Status::Idle,
@@ -36,10 +37,7 @@ fn end_of(end: engine::End) -> profile_text::drive::End {
 
 // A number held to 16 bits.
 fn short(n: u64) -> u16 {
-    if 65535 < n {
-        return 65535;
-    }
-    n as u16
+    u16::try_from(n).unwrap_or(u16::MAX)
 }
 
 // Metres in decimetres, cut.
@@ -48,20 +46,16 @@ fn decimetres(m: f32) -> u16 {
 }
 
 fn place_of(matched: Option<Matched>) -> Option<Place> {
-    match matched {
-        None => None,
-        Some(m) => {
-            let tile = m.tile;
-            let key = tile.key;
-            Some(Place {
-                row: key.row,
-                col: key.col,
-                edge: m.edge,
-                forward: m.forward,
-                offset_dm: decimetres(m.offset_m),
-            })
-        }
-    }
+    let m = matched?;
+    let tile = m.tile;
+    let key = tile.key;
+    Some(Place {
+        row: key.row,
+        col: key.col,
+        edge: m.edge,
+        forward: m.forward,
+        offset_dm: decimetres(m.offset_m),
+    })
 }
 
 fn put(rt: &impl Print, line: FixLine) -> io::Result<()> {
@@ -105,10 +99,8 @@ fn heights(a: Ahead) -> [u8; 1002]
     ensures { 1002 ≡ length result }
 {
     let mut out = [0u8; 1002];
-    for i in 0..501 {
-        let n = num::cast::u16_of_i16(a.samples[i]);
-        out[i * 2] = (n % 256) as u8;
-        out[i * 2 + 1] = (n / 256) as u8;
+    for (pair, z) in out.chunks_exact_mut(2).zip(a.samples) {
+        pair.copy_from_slice(&z.to_le_bytes());
     }
     out
 }
@@ -117,10 +109,7 @@ fn heights(a: Ahead) -> [u8; 1002]
 fn byte_count(heights: usize) -> usize
     ensures { result ≤ 1002 }
 {
-    if 501 < heights {
-        return 1002;
-    }
-    heights * 2
+    heights.min(501) * 2
 }
 
 fn put_heights(rt: &impl Print, input: &[u8]) -> io::Result<()> {

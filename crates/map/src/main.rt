@@ -88,8 +88,7 @@ fn drawn(
     if PLACES < page::places(h) {
         return say(err, "the grid has more than 1048576 places");
     }
-    let bad = trip::first_bad(text);
-    if bad != 0 {
+    if let Some(bad) = trip::first_bad(text) {
         return println!(err; "map: line {bad} is not latitude, longitude and time");
     }
     let mut arena = [0u8; ARENA];
@@ -105,7 +104,7 @@ fn pack_file(
     text: &[u8],
 ) -> io::Result<()> {
     let mut sector = [0u8; 512];
-    if ride::host::read_at(file, 0, &mut sector) != 0 {
+    if ride::host::read_at(file, 0, &mut sector).is_err() {
         return say(err, "the pack is shorter than its header");
     }
     match Header::parse(&sector) {

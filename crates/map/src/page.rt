@@ -24,10 +24,7 @@ pub struct Frame {
 pub fn short(n: u64) -> u32
     ensures { result ≡ min n Page.reach }
 {
-    if 0xffff_ffff < n {
-        return 0xffff_ffff;
-    }
-    n as u32
+    u32::try_from(n).unwrap_or(u32::MAX)
 }
 
 // A product, which 64 bits hold with some room.
@@ -57,11 +54,7 @@ pub fn across(f: Frame, east: u64) -> u64
 pub fn down(f: Frame, north: u64) -> u64
     ensures { result ≡ Page.down f.bottom f.over north }
 {
-    let up = units(LAT_UM, f.over, north);
-    if f.bottom < up {
-        return 0;
-    }
-    f.bottom - up
+    f.bottom.saturating_sub(units(LAT_UM, f.over, north))
 }
 
 // Micro-degrees from the grid's corner to a place of a tile: its row or column, the tile's size, and the place within.
@@ -79,17 +72,14 @@ pub fn node_y(h: Header, f: Frame, key: TileKey, n: Node) -> u64 {
 
 // How far a lies above b, which is not above it.
 pub fn past(a: i32, b: i32) -> u64 {
-    std::num::wrapping_sub_u32(num::cast::u32_of_i32(a), num::cast::u32_of_i32(b)) as u64
+    a.abs_diff(b) as u64
 }
 
 // A unit of the page has as much ground that the grid takes no more than it may, either way.
 fn over_of(east: u64, north: u64, lon_um: u32) -> u32 {
     let wide = units(lon_um, 16999, east);
     let high = units(LAT_UM, 16999, north);
-    if wide < high {
-        return short(high);
-    }
-    short(wide)
+    short(wide.max(high))
 }
 
 // The middle of a grid, for the scale of its longitudes.

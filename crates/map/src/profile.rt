@@ -24,19 +24,10 @@ struct Heights {
 }
 
 fn widened(r: Heights, z: i16) -> Heights {
-    if z < r.low {
-        return Heights {
-            low: z,
-            high: r.high,
-        };
+    Heights {
+        low: r.low.min(z),
+        high: r.high.max(z),
     }
-    if r.high < z {
-        return Heights {
-            low: r.low,
-            high: z,
-        };
-    }
-    r
 }
 
 // The heights' range, which holds 0.
@@ -52,19 +43,15 @@ fn range(heights: &[i16]) -> Heights {
 fn above(low: i16, z: i16) -> u64
     ensures { result ≤ 65535 }
 {
-    let n = num::cast::u16_of_i16(z);
-    std::num::wrapping_sub_u16(n, num::cast::u16_of_i16(low)) as u64
+    z.abs_diff(low) as u64
 }
 
 // Where sample i of so many lies.
 fn across(i: usize, count: usize) -> u64 {
-    if MOST < i {
+    if MOST < i || count < 2 {
         return LEFT;
     }
-    if count < 2 {
-        return LEFT;
-    }
-    std::num::wrapping_add_u64(LEFT, (i as u64) * WIDE / ((count - 1) as u64))
+    LEFT + (i as u64) * WIDE / ((count - 1) as u64)
 }
 
 // Where a height of the range lies: at most 3,600 above the lowest line.
@@ -90,7 +77,7 @@ fn tick(rt: &impl Print, x: u64, metres: u64, z: i16) -> io::Result<()> {
     svg::field(rt, b"\" y=\"25650\">", metres)?;
     svg::field(rt, b"</text><text class=\"tick\" x=\"", x)?;
     svg::put(rt, b"\" y=\"26050\">")?;
-    svg::signed(rt, profile_text::whole_metres(z))?;
+    rt.print(profile_text::whole_metres(z))?;
     svg::put(rt, b"</text>\n")
 }
 

@@ -5,30 +5,17 @@ pub fn put(rt: &impl Print, text: &[u8]) -> io::Result<()> {
     rt.write_all(text)
 }
 
-pub fn number(rt: &impl Print, n: u64) -> io::Result<()> {
-    rt.print(n)
-}
-
 // An attribute's number.
 pub fn field(rt: &impl Print, before: &[u8], n: u64) -> io::Result<()> {
     put(rt, before)?;
-    number(rt, n)
+    rt.print(n)
 }
 
 // A point of a line.
 pub fn point(rt: &impl Print, x: u64, y: u64) -> io::Result<()> {
-    number(rt, x)?;
+    rt.print(x)?;
     field(rt, b",", y)?;
     put(rt, b" ")
-}
-
-// A number with its sign where it is negative.
-pub fn signed(rt: &impl Print, z: i16) -> io::Result<()> {
-    let n = num::cast::u16_of_i16(z);
-    if n < 32768 {
-        return number(rt, n as u64);
-    }
-    field(rt, b"-", 65536 - (n as u64))
 }
 
 fn is_lead(b: u8) -> bool {
@@ -43,19 +30,19 @@ fn is_follow(b: u8) -> bool {
 fn is_plain(text: &[u8], i: usize) -> bool {
     let b = pack::bytes::byte_at(text, i);
     if is_lead(b) {
-        return is_follow(pack::bytes::byte_at(text, std::num::wrapping_add_usize(i, 1)));
+        return is_follow(pack::bytes::byte_at(text, i.wrapping_add(1)));
     }
     if is_follow(b) {
-        return is_lead(pack::bytes::byte_at(text, std::num::wrapping_sub_usize(i, 1)));
+        return is_lead(pack::bytes::byte_at(text, i.wrapping_sub(1)));
     }
     31 < b && b < 127 && b != b'<' && b != b'&'
 }
 
 // A name as text: what would not be text is a question mark.
 pub fn name(rt: &impl Print, text: &[u8]) -> io::Result<()> {
-    for i in 0..text.len() {
+    for (i, &b) in text.iter().enumerate() {
         if is_plain(text, i) {
-            put(rt, &[text[i]])?;
+            put(rt, &[b])?;
         } else {
             put(rt, b"?")?;
         }

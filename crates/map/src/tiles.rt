@@ -12,53 +12,39 @@ use tile::{Edge, Node};
 // The longest tile.
 pub const ROOM: usize = 49152;
 
-// A tile's bytes in the room, so many; the directory has none; or they can't be read or are refused.
-#[derive(Drop)]
-pub enum Got {
-    Tile(usize),
-    NoTile,
-    Damaged,
-}
-
 // What the directory says of a key; an entry that can't be read is as one that is refused.
 fn located(file: &File, h: Header, key: TileKey) -> Result<Option<(u32, u32)>, Refusal> {
     let offset = h.entry(key)?;
     let mut entry = [0u8; 8];
-    if ride::host::read_at(file, offset, &mut entry) != 0 {
-        return Err(Refusal::PastPack);
-    }
+    ride::host::read_at(file, offset, &mut entry)?;
     h.locate(&entry)
 }
 
-pub fn lesser(a: usize, b: usize) -> usize
-    ensures { result ≤ b }
-{
-    if a < b {
-        return a;
-    }
-    b
+// The tile at an offset of the file, read into the room: its bytes there.
+fn read<'a>(
+    file: &File,
+    h: Header,
+    key: TileKey,
+    offset: u32,
+    len: u32,
+    room: &'a mut [u8],
+) -> Result<&'a [u8], Refusal> {
+    let tile = room.get_mut(..len as usize).ok_or(Refusal::NoRoom)?;
+    ride::host::read_at(file, offset as u64, tile)?;
+    tile::parse(tile, key, h.tile)?;
+    Ok(tile)
 }
 
-// The tile at an offset of the file, read into the room.
-fn read(file: &File, h: Header, key: TileKey, offset: u32, len: u32, room: &mut [u8]) -> Got {
-    let n = lesser(len as usize, room.len());
-    if n < len as usize {
-        return Got::Damaged;
-    }
-    if ride::host::read_at(file, offset as u64, &mut room[0..n]) != 0 {
-        return Got::Damaged;
-    }
-    match tile::parse(&room[0..n], key, h.tile) {
-        Err(_) => Got::Damaged,
-        Ok(_) => Got::Tile(n),
-    }
-}
-
-pub fn get(file: &File, h: Header, key: TileKey, room: &mut [u8]) -> Got {
-    match located(file, h, key) {
-        Err(_) => Got::Damaged,
-        Ok(None) => Got::NoTile,
-        Ok(Some((offset, len))) => read(file, h, key, offset, len, room),
+// A tile's bytes in the room; none where the directory has none; a refusal where they can't be read or are damaged.
+pub fn get<'a>(
+    file: &File,
+    h: Header,
+    key: TileKey,
+    room: &'a mut [u8],
+) -> Result<Option<&'a [u8]>, Refusal> {
+    match located(file, h, key)? {
+        None => Ok(None),
+        Some((offset, len)) => Ok(Some(read(file, h, key, offset, len, room)?)),
     }
 }
 
@@ -84,9 +70,10 @@ fn put_point(
 
 fn nth(from: usize, k: usize, forward: bool) -> usize {
     if forward {
-        return std::num::wrapping_add_usize(from, k);
+        from.wrapping_add(k)
+    } else {
+        from.wrapping_sub(k)
     }
-    std::num::wrapping_sub_usize(from, k)
 }
 
 // So many points of an edge, from one on, in its direction or against it.
@@ -160,12 +147,10 @@ fn leg(rt: &impl Print, bytes: &[u8], h: Header, f: Frame, key: TileKey, i: u16)
     }
 }
 
+// A loop over counts of its own in each of `legs` and `junctions`: one function of both would take two closures more and be no plainer.
 fn legs(rt: &impl Print, bytes: &[u8], h: Header, f: Frame, key: TileKey) -> io::Result<()> {
-    let count = view::through::edge_count(bytes);
-    for i in 0..65535u16 {
-        if count <= i as usize {
-            return Ok(());
-        }
+    let count = u16::try_from(view::through::edge_count(bytes)).unwrap_or(u16::MAX);
+    for i in 0..count {
         leg(rt, bytes, h, f, key, i)?;
     }
     Ok(())
@@ -194,11 +179,8 @@ fn junction(
 }
 
 fn junctions(rt: &impl Print, bytes: &[u8], h: Header, f: Frame, key: TileKey) -> io::Result<()> {
-    let count = view::through::node_count(bytes);
-    for i in 0..65535u16 {
-        if count <= i as usize {
-            return Ok(());
-        }
+    let count = u16::try_from(view::through::node_count(bytes)).unwrap_or(u16::MAX);
+    for i in 0..count {
         junction(rt, bytes, h, f, key, i)?;
     }
     Ok(())
@@ -210,10 +192,7 @@ fn corner(x: u16, y: u16) -> Node {
 }
 
 fn short(n: u32) -> u16 {
-    if 65535 < n {
-        return 65535;
-    }
-    n as u16
+    u16::try_from(n).unwrap_or(u16::MAX)
 }
 
 // A tile's box: the four corners, from the south-west one on.
@@ -245,15 +224,21 @@ fn put_damaged(rt: &impl Print, h: Header, f: Frame, key: TileKey) -> io::Result
 }
 
 // The ground of a place of the grid: white under a tile, crossed where it is damaged, hatched where there is none.
-fn put_ground(rt: &impl Print, h: Header, f: Frame, key: TileKey, got: Got) -> io::Result<()> {
+fn put_ground(
+    rt: &impl Print,
+    h: Header,
+    f: Frame,
+    key: TileKey,
+    got: Result<Option<&[u8]>, Refusal>,
+) -> io::Result<()> {
     match got {
-        Got::Damaged => put_damaged(rt, h, f, key),
-        Got::Tile(_) => {
+        Err(_) => put_damaged(rt, h, f, key),
+        Ok(Some(_)) => {
             svg::put(rt, b"<polygon class=\"box tile\" points=\"")?;
             put_box(rt, h, f, key)?;
             svg::put(rt, b"\"/>\n")
         }
-        Got::NoTile => {
+        Ok(None) => {
             svg::put(rt, b"<polygon class=\"box missing\" points=\"")?;
             put_box(rt, h, f, key)?;
             svg::put(rt, b"\"/>\n")
@@ -267,15 +252,13 @@ fn put_roads(
     h: Header,
     f: Frame,
     key: TileKey,
-    got: Got,
-    room: &[u8],
+    got: Result<Option<&[u8]>, Refusal>,
 ) -> io::Result<()> {
     match got {
-        Got::Damaged | Got::NoTile => Ok(()),
-        Got::Tile(len) => {
-            let n = lesser(len, room.len());
-            legs(rt, &room[0..n], h, f, key)?;
-            junctions(rt, &room[0..n], h, f, key)
+        Ok(None) | Err(_) => Ok(()),
+        Ok(Some(bytes)) => {
+            legs(rt, bytes, h, f, key)?;
+            junctions(rt, bytes, h, f, key)
         }
     }
 }
@@ -292,7 +275,7 @@ fn place(
 ) -> io::Result<()> {
     let got = get(file, h, key, room);
     if roads {
-        put_roads(rt, h, f, key, got, &room[..])
+        put_roads(rt, h, f, key, got)
     } else {
         put_ground(rt, h, f, key, got)
     }
@@ -318,11 +301,7 @@ pub fn all(
     room: &mut [u8],
     roads: bool,
 ) -> io::Result<()> {
-    let count = page::places(h);
-    for n in 0..1048576u32 {
-        if count <= n as u64 {
-            return Ok(());
-        }
+    for n in 0..page::short(page::places(h)) {
         place(rt, file, h, f, key_of(h.cols, n), room, roads)?;
     }
     Ok(())

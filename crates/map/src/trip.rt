@@ -1,6 +1,5 @@
 // The fixes of a drive on the map, and the leg that each was matched to.
 use crate::page::Frame;
-use crate::tiles::Got;
 use crate::{page, profile, svg, tiles};
 use engine::{Engine, Fix, Matched};
 use pack::{Header, TileKey};
@@ -12,40 +11,27 @@ use tile::Edge;
 // How far ahead the road is followed, in metres.
 const HORIZON: f32 = 10000.0;
 
-// A place of the page; none where `is` is false.
-#[derive(Drop)]
+// A place of the page.
+#[derive(Clone, Copy)]
 struct Spot {
-    is: bool,
     x: u64,
     y: u64,
 }
 
-fn no_spot() -> Spot {
-    Spot {
-        is: false,
-        x: 0,
-        y: 0,
-    }
-}
-
 // Where a fix lies, if it lies in the grid.
-fn spot_of(h: Header, f: Frame, fix: Fix) -> Spot {
+fn spot_of(h: Header, f: Frame, fix: Fix) -> Option<Spot> {
     match h.key(fix.lat, fix.lon) {
-        Ok(None) | Err(_) => no_spot(),
-        Ok(Some(_)) => Spot {
-            is: true,
+        Ok(None) | Err(_) => None,
+        Ok(Some(_)) => Some(Spot {
             x: page::across(f, page::past(fix.lon, h.west)),
             y: page::down(f, page::past(fix.lat, h.south)),
-        },
+        }),
     }
 }
 
 fn match_of(r: Ride, arena: &[u8]) -> Option<Matched> {
     let e = r.engine;
-    match e.ahead(arena) {
-        Ok(a) => a.matched,
-        Err(_) => None,
-    }
+    e.ahead(arena).ok()?.matched
 }
 
 // What a fix was matched to, in words.
@@ -63,10 +49,10 @@ fn put_match(rt: &impl Print, m: Option<Matched>) -> io::Result<()> {
 }
 
 // A fix: a dot, its number where there is room, and its match for who points at it.
-fn put_fix(rt: &impl Print, number: u16, s: Spot, m: Option<Matched>) -> io::Result<()> {
-    if !s.is {
+fn put_fix(rt: &impl Print, number: u16, s: Option<Spot>, m: Option<Matched>) -> io::Result<()> {
+    let Some(s) = s else {
         return Ok(());
-    }
+    };
     svg::field(rt, b"<circle class=\"fix\" cx=\"", s.x)?;
     svg::field(rt, b"\" cy=\"", s.y)?;
     svg::field(rt, b"\" r=\"70\"><title>fix ", number as u64)?;
@@ -75,11 +61,7 @@ fn put_fix(rt: &impl Print, number: u16, s: Spot, m: Option<Matched>) -> io::Res
     if 30 < number && number % 10 != 0 {
         return Ok(());
     }
-    svg::field(
-        rt,
-        b"<text class=\"small\" x=\"",
-        std::num::wrapping_add_u64(s.x, 130),
-    )?;
+    svg::field(rt, b"<text class=\"small\" x=\"", s.x.wrapping_add(130))?;
     svg::field(rt, b"\" y=\"", s.y)?;
     svg::field(rt, b"\">", number as u64)?;
     svg::put(rt, b"</text>\n")
@@ -94,19 +76,14 @@ fn put_leg(
     m: Option<Matched>,
     room: &mut [u8],
 ) -> io::Result<()> {
-    match m {
-        None => Ok(()),
-        Some(n) => {
-            let id = n.tile;
-            let key = id.key;
-            match tiles::get(card.file, h, key, room) {
-                Got::NoTile | Got::Damaged => Ok(()),
-                Got::Tile(len) => {
-                    let end = tiles::lesser(len, room.len());
-                    tiles::matched(rt, &room[0..end], h, f, key, n.edge)
-                }
-            }
-        }
+    let Some(n) = m else {
+        return Ok(());
+    };
+    let id = n.tile;
+    let key = id.key;
+    match tiles::get(card.file, h, key, room) {
+        Ok(None) | Err(_) => Ok(()),
+        Ok(Some(bytes)) => tiles::matched(rt, bytes, h, f, key, n.edge),
     }
 }
 
@@ -167,12 +144,11 @@ fn put_ahead(
     let id = m.tile;
     let key = id.key;
     match tiles::get(card.file, h, key, room) {
-        Got::NoTile | Got::Damaged => Ok(()),
-        Got::Tile(len) => {
-            let end = tiles::lesser(len, room.len());
+        Ok(None) | Err(_) => Ok(()),
+        Ok(Some(bytes)) => {
             svg::put(rt, b"<polyline class=\"ahead\" points=\"")?;
             svg::point(rt, s.x, s.y)?;
-            rest_of(rt, &room[0..end], h, f, key, m, forward)?;
+            rest_of(rt, bytes, h, f, key, m, forward)?;
             svg::put(rt, b"\"/>\n")
         }
     }
@@ -183,22 +159,16 @@ fn ahead(
     card: Card<'_>,
     h: Header,
     f: Frame,
-    s: Spot,
+    s: Option<Spot>,
     m: Option<Matched>,
     room: &mut [u8],
 ) -> io::Result<()> {
-    if !s.is {
+    let (Some(s), Some(n)) = (s, m) else {
         return Ok(());
-    }
-    match m {
+    };
+    match n.forward {
         None => Ok(()),
-        Some(n) => {
-            let forward = n.forward;
-            match forward {
-                None => Ok(()),
-                Some(on) => put_ahead(rt, card, h, f, s, n, on, room),
-            }
-        }
+        Some(on) => put_ahead(rt, card, h, f, s, n, on, room),
     }
 }
 
@@ -208,7 +178,7 @@ fn end(
     card: Card<'_>,
     h: Header,
     f: Frame,
-    s: Spot,
+    s: Option<Spot>,
     r: Ride,
     arena: &[u8],
     room: &mut [u8],
@@ -216,7 +186,7 @@ fn end(
     ahead(rt, card, h, f, s, match_of(r, arena), room)?;
     let e = r.engine;
     match e.ahead(arena) {
-        Ok(a) => profile::show(rt, &a.samples[..tiles::lesser(a.len, predict::MAX_SAMPLES)]),
+        Ok(a) => profile::show(rt, &a.samples[..a.len.min(predict::MAX_SAMPLES)]),
         Err(_) => profile::show(rt, &[]),
     }
 }
@@ -272,11 +242,9 @@ fn show(
 ) -> io::Result<()> {
     let engine = Engine::new(&arena[..], HORIZON);
     let mut r = Ride { engine, reads: 0 };
-    let mut s = no_spot();
+    let mut s = None;
     let mut at = 0;
-    let mut number: u16 = 0;
-    while number < 65535 {
-        number += 1;
+    for number in 1..=65535u16 {
         let line = ride::fixes::read_line(text, at);
         match line {
             Line::Fix(fix, next) => {
@@ -306,24 +274,22 @@ pub fn drive(
     room: &mut [u8],
     legs: bool,
 ) -> io::Result<()> {
-    if text.len() == 0 {
+    if text.is_empty() {
         return Ok(());
     }
     show(rt, card, h, f, text, arena, room, legs)
 }
 
-// The number of the first line that is no fix; 0 where there is none.
-pub fn first_bad(text: &[u8]) -> u16 {
+// The number of the first line that is no fix, or of the last that a drive may have.
+pub fn first_bad(text: &[u8]) -> Option<u16> {
     let mut at = 0;
-    let mut number: u16 = 0;
-    while number < 65535 {
-        number += 1;
+    for number in 1..=65535u16 {
         let line = ride::fixes::read_line(text, at);
         match line {
             Line::Fix(_, next) => at = next,
-            Line::End => return 0,
-            Line::Bad => return number,
+            Line::End => return None,
+            Line::Bad => return Some(number),
         }
     }
-    number
+    Some(65535)
 }

@@ -41,23 +41,19 @@ fn turn_of(s: Stepped, reads: u64) -> Turned {
     Turned { status, ride }
 }
 
-// Fills the buffer from an offset of the file on: 0, or 1 where the read fails, or 2 where it passes the file's end.
-pub fn read_at(file: &File, offset: u64, buf: &mut [u8]) -> u32 {
+// Fills the buffer from an offset of the file on; `Media` where the read fails, `PastPack` where it passes the file's end.
+pub fn read_at(file: &File, offset: u64, buf: &mut [u8]) -> Result<(), Refusal> {
     if OFFSETS <= offset {
-        return 2;
+        return Err(Refusal::PastPack);
     }
     match file.read_at(buf, offset) {
-        Ok(n) => {
-            if n < buf.len() {
-                return 2;
-            }
-            0
-        }
-        Err(_) => 1,
+        Err(_) => Err(Refusal::Media),
+        Ok(n) if n < buf.len() => Err(Refusal::PastPack),
+        Ok(_) => Ok(()),
     }
 }
 
-// The bytes of a read, or why there are none.
+// The bytes of a read, or why there are none: by its number, as a host in C tells it.
 fn read_and_deliver(
     file: &File,
     e: Engine,
@@ -65,35 +61,31 @@ fn read_and_deliver(
     offset: u64,
     buf: &mut [u8],
 ) -> Stepped {
-    let failure = read_at(file, offset, buf);
-    if failure != 0 {
-        return e.deliver(arena, failure, b"");
+    match read_at(file, offset, buf) {
+        Err(refusal) => e.deliver(arena, refusal.number(), b""),
+        Ok(()) => e.deliver(arena, 0, &buf[..]),
     }
-    e.deliver(arena, 0, &buf[..])
 }
 
 // A fetch answered from the file. None is longer than the buffer; one that were would count as missed.
 fn delivered(file: &File, e: Engine, arena: &mut [u8], offset: u64, len: usize) -> Stepped {
     if LONGEST < len {
-        return e.deliver(arena, 1, b"");
+        return e.deliver(arena, Refusal::Media.number(), b"");
     }
     let mut chunk = [0u8; LONGEST];
     read_and_deliver(file, e, arena, offset, &mut chunk[0..len])
 }
 
 fn is_missed(every: u64, reads: u64) -> bool {
-    if every == 0 {
-        return false;
-    }
-    reads % every == 0
+    every != 0 && reads % every == 0
 }
 
 // A fetch answered, or reported missed.
 fn answered(card: Card<'_>, r: Ride, arena: &mut [u8], offset: u64, len: usize) -> Turned {
-    let reads = std::num::wrapping_add_u64(r.reads, 1);
+    let reads = r.reads.wrapping_add(1);
     let e = r.engine;
     if is_missed(card.every, reads) {
-        let s = e.deliver(arena, 1, b"");
+        let s = e.deliver(arena, Refusal::Media.number(), b"");
         return turn_of(s, reads);
     }
     let s = delivered(card.file, e, arena, offset, len);

@@ -1,8 +1,0 @@
-use Rattle.std.proofs.Common.{length, ◌-◌, ◌≡◌, ◌≤◌}
-use Rattle.drive.proofs.drive.Given as goal
-
-abbrev pub invariant-loop-number : goal.invariant-loop-number
-invariant-loop-number g l = (l.number ≤ 65535) × (length l.arena ≡ length l.initial.arena)
-
-abbrev pub decreases-loop-number : goal.decreases-loop-number
-decreases-loop-number g l = 65535 - l.number
