@@ -27,7 +27,7 @@ point_at h k bs edge index = Points.point_of h k (Layout.point_of bs (Layout.edg
 abbrev pub MeetsTransect : Point → Point → Header → TileKey → List ℕ → ℕ → ℕ → Type 0
 MeetsTransect first second h k bs edge segment = Meet first second (point_at h k bs edge segment) (point_at h k bs edge (segment + 1))
 
--- ---- refusals, in document 01's order
+-- ---- refusals, each tested in this order
 
 unfoldable pub refusal : Point → Point → Header → TileKey → List ℕ → Result Unit Refusal
 refusal first second h k bs =

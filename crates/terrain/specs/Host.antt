@@ -46,7 +46,7 @@ abbrev pub count_told : Result ℕ Refusal → CountTold
 count_told (Ok n) = record { number = 0; count = n }
 count_told (Err e) = record { number = number_of e; count = 0 }
 
--- the number, and 1 where there is what was asked for
+-- of an answer of which a list of calls keeps only whether it has what was asked for: the number, and 1 where it has
 abbrev pub known_told : Result Bool Refusal → CountTold
 known_told (Ok false) = record { number = 0; count = 0 }
 known_told (Ok true) = record { number = 0; count = 1 }

@@ -171,7 +171,7 @@ pub fn terrain_header_parse(sector: &[u8; 512]) -> TerrainHeaderParsed
         },
         Err(e) => TerrainHeaderParsed {
             number: e.number(),
-            header: crate::records::no_header(),
+            header: crate::records::header_out(crate::host::no_header()),
         },
     }
 }

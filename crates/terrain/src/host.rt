@@ -339,8 +339,8 @@ fn header_record(number: u32, known: u32, h: Header) -> HeaderTold
     }
 }
 
-// The header that stands where none is known.
-fn no_header() -> Header
+// The header that C gets where there is none, or its sector is refused.
+pub(crate) fn no_header() -> Header
     ensures { result ≡ State.no_header }
 {
     Header {

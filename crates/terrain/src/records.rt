@@ -1,7 +1,6 @@
 // The records that cross to other languages by value: plain structs of the fields' own widths, so that nothing is cut; and the library's own records
 // from them and back.
 ghost use Rattle.std.specs.Prelude.{◌≡◌};
-ghost use Rattle.pack.specs.Sector.{no_header};
 ghost use Rattle.terrain.specs.Records as Records;
 
 use geo::{Metres, Point};
@@ -101,26 +100,6 @@ pub fn header_out(h: Header) -> TerrainHeader
         created: h.created,
         attribution_offset: h.attribution_offset,
         attribution_len: h.attribution_len,
-    }
-}
-
-// The header of a sector that is refused.
-pub fn no_header() -> TerrainHeader
-    ensures { result ≡ Records.header_out no_header }
-{
-    TerrainHeader {
-        tile: 0,
-        south: 0,
-        west: 0,
-        rows: 0,
-        cols: 0,
-        directory: 0,
-        data: 0,
-        total: 0,
-        tiles: 0,
-        created: 0,
-        attribution_offset: 0,
-        attribution_len: 0,
     }
 }
 
