@@ -2,7 +2,7 @@
  * A slice is a pointer and a count of its elements; an empty one may have any pointer that is not null. What is lent to be written must not overlap anything else that is lent.
  * Every function is total: each bit pattern has an answer. None allocates, keeps a state or stops the program.
  * No call keeps a pointer. Words and numbers of 32 bits are aligned to 4 bytes, heights and numbers of 16 bits to 2, as C aligns a uint32_t and an int16_t, and to no more; bytes (arena, delivery, pack) may lie anywhere. The archive is for x86-64 Linux, and of the C library it calls memcpy and memset alone. On the drive
- * that hosts/run measures terrain_step takes 15 KB of stack, terrain_deliver and terrain_step_from 35 KB and terrain_ahead 16 KB.
+ * that hosts/run measures terrain_step takes 22 KB of stack, terrain_deliver and terrain_step_from 40 KB and terrain_ahead 20 KB (kit 13f).
  *
  * The numbers that refuse a call:
  *   1 a read was missed                       8 a point beyond 360 degrees, a figure not finite, a heading beyond 360
@@ -422,8 +422,8 @@ struct terrain_predicted terrain_predict(struct terrain_engine *engine, const ui
 struct terrain_printed { uint32_t number; size_t length; };
 struct terrain_printed terrain_profile_page(const int16_t *samples, size_t count, uint32_t page, uint8_t *out, size_t room);
 
-/* ---- The writer. Made for a tool beside the engine: a pack is written whole, into one output that the caller lends. terrain_write_pack takes 271 KB of stack, 262,144 bytes of
- * it marks of keys, terrain_write_tile 9 KB. Up to 262,144 places of the grid, or with tiles in row order, the time grows as tiles, their bytes and places do. */
+/* ---- The writer. Made for a tool beside the engine: a pack is written whole, into one output that the caller lends. terrain_write_pack takes 266 KB of stack, 262,144 bytes of
+ * it marks of keys, terrain_write_tile of a tile with 400 nodes 1 KB (kit 13f). Up to 262,144 places of the grid, or with tiles in row order, the time grows as tiles, their bytes and places do. */
 
 /* How many bytes were written; or the refusal's number, and 0. A refusal leaves all of `out` as it was, and a result what lies past it. */
 struct terrain_written { uint32_t number, length; };
