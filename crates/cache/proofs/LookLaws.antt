@@ -2,7 +2,6 @@
 -- `touched_next`), so that all lookups of one call agree, in whatever order they come (`looked-look`). What `get` answers is the look in
 -- pages (`got-ready`, `got-missing`), and the late check of what the lookup landed on (`checked-landed`). The idea: `touched` has the record
 -- outside, so that what a lookup reads is the old by computation.
-use Rattle.refusal.specs.declared.Refusal.{Refusal}
 use Rattle.std.specs.Prelude.{Ok, Err}
 use Rattle.std.proofs.Common.{◌≡◌, ℕ, ◌+◌, ◌*◌, ◌≤◌, Bool, true, false, cond, leb, List, [], ◌∷◌, ◌++◌, length, refl, ◌∙◌, arith, leb-true}
 use Rattle.pack.specs.declared.TileKey.{TileKey}
@@ -11,7 +10,7 @@ use Rattle.tile.specs.Parse.{accepts}
 use Rattle.cache.specs.declared.Cache.{Cache}
 use Rattle.cache.specs.declared.Lookup.{Lookup}
 use Rattle.cache.specs.declared.look.Landing.{Landing}
-use Rattle.cache.specs.Lookups.{lands_on, run_bytes, passes, len_at, touched, got_ready, got_at, got, landed_by, landed, checked, next_at, next_step}
+use Rattle.cache.specs.Lookups.{lands_on, run_bytes, passes, len_at, touched, got_ready, got_at, got, landed_by, landed, checked, by_number, next_at, next_step}
 use Rattle.cache.specs.Keys.{ready_at}
 use Rattle.cache.specs.Direct.{Look, ready, missing, stale, look_at, look, looked, Aged}
 use Rattle.cache.specs.Uses.{uses_of, used_at, with_uses}
@@ -106,16 +105,16 @@ module _ (arena : List ℕ) (size : ℕ) where
 
   -- ---- in two steps: what a lookup lands on, then its late check
 
-  ready_checked : (ok : Bool) (c : Cache) (i : ℕ) → cond ok (Ok (Lookup.Ready i (len_at c i))) (Err Refusal.BadState) ≡ (got_ready ok c i).answer
+  ready_checked : (ok : Bool) (c : Cache) (i : ℕ) → cond ok (Ok (Lookup.Ready i (len_at c i))) (Err 12) ≡ by_number (got_ready ok c i).answer
   ready_checked true c i = refl
   ready_checked false c i = refl
 
-  at_checked : (l : Landing) (c : Cache) (key : TileKey) → checked (Ok (landed_by l c)) arena size key ≡ (got_at l c arena size key).answer
+  at_checked : (l : Landing) (c : Cache) (key : TileKey) → checked (Ok (landed_by l c)) arena size key ≡ by_number (got_at l c arena size key).answer
   at_checked Landing.Missing c key = refl
   at_checked Landing.Nothing c key = refl
   at_checked (Landing.At i) c key = ready_checked (passes arena i (len_at c i) key size) c i
 
-  pub checked-landed : (c : Cache) (key : TileKey) → checked (Ok (landed c key)) arena size key ≡ (got c arena size key).answer
+  pub checked-landed : (c : Cache) (key : TileKey) → checked (Ok (landed c key)) arena size key ≡ by_number (got c arena size key).answer
   unfolding landed got
   checked-landed c key = at_checked (lands_on c key) c key
 

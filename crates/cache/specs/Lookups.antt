@@ -1,6 +1,7 @@
 -- Lookups: `cache.rs`, `get` and `pages`, and what the next step towards a tile is. A ready run is handed out only if it still passes
 -- `Tile::parse` (document 01, number 12: "a ready run looked up that no longer passes"). Order of refusals: 12, 9, then the late 12
 -- (document 01: it "waits for its lookup"). Ready moves clock and age; nothing else does.
+use Rattle.refusal.specs.Refusal.{number_of}
 use Rattle.refusal.specs.declared.Refusal.{Refusal}
 use Rattle.std.specs.Prelude.{Option, Some, None, Result, Ok, Err}
 use Rattle.cache.specs.declared.Loading.{Loading}
@@ -86,11 +87,17 @@ landed_by (Landing.At i) c = Lookup.Ready i (len_at c i)
 unfoldable pub landed : Cache → TileKey → Lookup
 landed c key = landed_by (lands_on c key) c
 
-abbrev pub checked : Result Lookup Refusal → List ℕ → ℕ → TileKey → Result Lookup Refusal
-checked (Ok (Lookup.Ready first len)) arena size key = cond (passes arena first len key size) (Ok (Lookup.Ready first len)) (Err Refusal.BadState)
+-- a refusal is its number here, of any number: the function is public, and `checked-landed` has an answer's refusal by its number
+abbrev pub checked : Result Lookup ℕ → List ℕ → ℕ → TileKey → Result Lookup ℕ
+checked (Ok (Lookup.Ready first len)) arena size key = cond (passes arena first len key size) (Ok (Lookup.Ready first len)) (Err 12)
 checked (Ok Lookup.Missing) arena size key = Ok Lookup.Missing
 checked (Ok Lookup.Absent) arena size key = Ok Lookup.Absent
-checked (Err e) arena size key = Err e
+checked (Err number) arena size key = Err number
+
+-- an answer with its refusal's number in place of the refusal
+abbrev pub by_number : {T : Type 0} → Result T Refusal → Result T ℕ
+by_number (Ok v) = Ok v
+by_number (Err refusal) = Err (number_of refusal)
 
 -- ---- pages
 

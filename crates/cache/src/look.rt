@@ -123,12 +123,13 @@ pub fn landed(c: Cache, key: TileKey) -> Lookup
 }
 
 // The late check of what a lookup landed on: a run that no longer passes is refused. A lookup that was refused stays so.
+// A refusal is a number here and no `Refusal`: the function is public and named in docs/, and takes a lookup that was refused with any number.
 pub fn checked(
-    landed: Result<Lookup, Refusal>,
+    landed: Result<Lookup, u32>,
     arena: &[u8],
     size: u32,
     key: TileKey,
-) -> Result<Lookup, Refusal>
+) -> Result<Lookup, u32>
     ensures { result ≡ Lookups.checked landed arena.now size key }
 {
     match landed? {
@@ -138,7 +139,7 @@ pub fn checked(
             if passes(arena, first, len, key, size) {
                 return Ok(Lookup::Ready(first, len));
             }
-            Err(Refusal::BadState)
+            Err(Refusal::BadState.number())
         }
     }
 }

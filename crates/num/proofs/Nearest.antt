@@ -1,7 +1,9 @@
 -- `nearest_to n i`, the single float nearest to n * 2 ^ i / 2 ^ 1074, from n's 64 leading digits: m = n * 2 ^ z, where z is the count of n's leading zeros, and
 -- t = 64 - z + i, the number of digits of n * 2 ^ i. Of these the float keeps 24 and drops t - 949, or keeps fewer where its exponent is the least.
-use Rattle.std.proofs.Common.{◌≡◌, ℕ, zero, suc, ◌+◌, ◌-◌, ◌*◌, ◌/◌, ◌^◌, ◌<◌, ◌≤◌, Bool, true, false, cond, not, ltb, pos, negsuc, sym, refl, ap, ◌∙◌, ap₂, lt_of_lt_of_le, mul-le-mul_right, mul_assoc, div-lt_iff_lt-mul, mul-le-mul, mul-lt-mul_of_pos_right, mul-pos, pow-suc, le-div_iff_mul-le, zero-mul, mul-one, add-one, arith, pow_pos, pow_mono, pow-add, shl_lt, ltb-false, ltb-true}
+use Rattle.std.proofs.Common.{◌≡◌, ℕ, zero, suc, ◌+◌, ◌-◌, ◌*◌, ◌/◌, ◌^◌, ◌<◌, ◌≤◌, Bool, true, false, cond, not, ltb, ℤ, pos, negsuc, sym, refl, ap, ◌∙◌, ap₂, lt_of_lt_of_le, mul-le-mul_right, mul_assoc, div-lt_iff_lt-mul, mul-le-mul, mul-lt-mul_of_pos_right, mul-pos, pow-suc, le-div_iff_mul-le, zero-mul, mul-one, add-one, arith, pow_pos, pow_mono, pow-add, shl_lt, ltb-false, ltb-true, true≢false}
 use lib.Count.{count_leading_zeros, leading_top}
+use lib.IntN.{nat_abs}
+use lib.Signed.{lt_z}
 use lib.Ieee.{Format, inf, binary32, prec, emax, low, size, odd, units, round, neg, of_int, of_bits}
 use lib.Ieee.Digits.{size-le}
 use lib.Ieee.Fits.{round_is}
@@ -163,3 +165,13 @@ round-neg f s a b =
 pub nearest_negative : (k : ℕ) → neg (nearest_to (k + 1) 1074) ≡ of_int binary32 (negsuc k)
 nearest_negative k =
     ap (λ (n : ℕ). neg (nearest_to n 1074)) (add-one k) ∙ ap neg (nearest_whole (suc k)) ∙ (unfold of_int in round-neg binary32 false (suc k) 1)
+
+-- ---- a whole number by its size and its sign
+
+pub nearest_below : (z : ℤ) → lt_z z (pos 0) ≡ true → neg (nearest_to (nat_abs z) 1074) ≡ of_int binary32 z
+nearest_below (pos n) h = absurd (omega (arith, ltb-true n 0 h))
+nearest_below (negsuc k) h = ap (λ (n : ℕ). neg (nearest_to n 1074)) (sym (add-one k)) ∙ nearest_negative k
+
+pub nearest_above : (z : ℤ) → lt_z z (pos 0) ≡ false → nearest_to (nat_abs z) 1074 ≡ of_int binary32 z
+nearest_above (pos n) h = nearest_whole n
+nearest_above (negsuc k) h = absurd (true≢false h)

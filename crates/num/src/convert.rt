@@ -66,8 +66,16 @@ pub fn f32_of_usize(n: usize) -> f32
     if n <= 16777216 {
         n as f32
     } else {
-        std::num::nearest_usize_to_f32(n)
+        nearest(n as u64, 1074)
     }
+}
+
+// A large number rounded: its size, and then its sign.
+fn rounded_i64(z: i64) -> f32
+    ensures { result ≡ of_int binary32 z }
+{
+    let size = nearest(z.unsigned_abs(), 1074);
+    if z < 0 { -size } else { size }
 }
 
 // Rust's `z as f32`.
@@ -77,7 +85,7 @@ pub fn f32_of_i64(z: i64) -> f32
     if -16777216 <= z && z <= 16777216 {
         z as f32
     } else {
-        std::num::nearest_i64_to_f32(z)
+        rounded_i64(z)
     }
 }
 
