@@ -6,8 +6,8 @@ use Rattle.pack.specs.declared.Corner.{Corner}
 use Rattle.tile.specs.declared.Head.{Head}
 use Rattle.tile.specs.declared.Node.{Node}
 use Rattle.tile.specs.declared.Edge.{Edge}
+use Rattle.tile.specs.declared.Entries.{Entries}
 use Rattle.tile.specs.declared.Incident.{Incident}
-use Rattle.std.specs.declared.ops.Range.{Range}
 use Rattle.refusal.specs.Refusal.{number_of, number_of_result}
 use Rattle.refusal.specs.declared.Refusal.{Refusal}
 use Rattle.std.specs.Prelude.{Option, Some, None, Result, Ok, Err, ℕ, false, pos}
@@ -68,7 +68,7 @@ abbrev pub edge_read_out : Result Edge Refusal → TerrainEdgeRead
 edge_read_out (Ok e) = record { number = 0; edge = edge_out e }
 edge_read_out (Err n) = record { number = number_of n; edge = no_edge }
 
-abbrev pub entries_out : Result (Range ℕ) Refusal → TerrainEntries
+abbrev pub entries_out : Result Entries Refusal → TerrainEntries
 entries_out (Ok entries) = record { number = 0; start = entries.start; end = entries.end }
 entries_out (Err n) = record { number = number_of n; start = 0; end = 0 }
 

@@ -18,7 +18,7 @@ use Rattle.tile.specs.Layout.{nodes_of, edges_of, vertices_of, head_of, length, 
 use Rattle.tile.specs.Parse.{accepts, parse, clauses, node_ok, edge_fits, edge_ok, entry_ok, nodes_ordered}
 use Rattle.tile.specs.Readers as Readers
 use Rattle.tile.specs.declared.Head.{Head}
-use Rattle.std.specs.declared.ops.Range.{Range}
+use Rattle.tile.specs.declared.Entries.{Entries}
 use Rattle.tile.proofs.Laws.{and_left, and_right, all_at, clause}
 use Rattle.tile.proofs.Slices.{length_right, node_there, entry_there, edge_there}
 
@@ -89,7 +89,7 @@ module _ (bs : List ℕ) where
 abbrev pub entries_end : List ℕ → ℕ → ℕ
 entries_end bs i = max (adjacency_end bs i) (adjacency_start bs i)
 
-abbrev pub entries : List ℕ → ℕ → Range ℕ
+abbrev pub entries : List ℕ → ℕ → Entries
 entries bs i = record { start = adjacency_start bs i; end = entries_end bs i }
 
 -- a node's entries are read where the records of all nodes are within the bytes

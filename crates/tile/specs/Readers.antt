@@ -5,9 +5,9 @@ use Rattle.refusal.specs.declared.Refusal.{Refusal}
 use Rattle.tile.specs.Layout.{nodes_of, edges_of, vertices_of, node_start, edge_start, entry_start, vertex_start, node_of, edge_of, entry_of, point_of, adjacency_start, adjacency_end}
 use Rattle.tile.specs.Below.{any_below}
 pub use Rattle.tile.specs.Order.{before}
-use Rattle.std.specs.declared.ops.Range.{Range}
 use Rattle.tile.specs.declared.Node.{Node}
 use Rattle.tile.specs.declared.Edge.{Edge}
+use Rattle.tile.specs.declared.Entries.{Entries}
 use Rattle.tile.specs.declared.Incident.{Incident}
 
 -- ---- which records are there
@@ -41,7 +41,7 @@ abbrev pub last_read : List ℕ → ℕ → ℕ
 last_read bs i = cond (ltb (i + 1) (nodes_of bs)) (i + 1) i
 
 -- a node's entries, from the first up to the last: where starts fall there are none
-unfoldable pub incident : List ℕ → ℕ → Result (Range ℕ) Refusal
+unfoldable pub incident : List ℕ → ℕ → Result Entries Refusal
 incident bs i =
     cond (has_node bs (last_read bs i)) (Ok (record { start = adjacency_start bs i; end = max (adjacency_end bs i) (adjacency_start bs i) }))
     (Err Refusal.PastTile)

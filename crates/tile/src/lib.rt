@@ -85,6 +85,13 @@ pub struct Incident {
     pub ends: bool,
 }
 
+// The adjacency entries of a node: places from `start` up to `end`.
+#[derive(Clone, Copy, PartialEq, Eq, Debug)]
+pub struct Entries {
+    pub start: u32,
+    pub end: u32,
+}
+
 // Bytes that a tile of these counts takes, exactly.
 pub fn length(nodes: u32, edges: u32, vertices: u32) -> u64
     ensures { result ≡ Layout.length nodes edges vertices }

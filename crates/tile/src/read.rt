@@ -3,10 +3,9 @@ ghost use Rattle.std.specs.Prelude.{◌≡◌};
 ghost use Rattle.tile.specs.Layout as Layout;
 ghost use Rattle.tile.specs.Readers as Readers;
 
-use crate::{Edge, Head, Incident, Node, TileId, raw};
+use crate::{Edge, Entries, Head, Incident, Node, TileId, raw};
 use pack::TileKey;
 use refusal::Refusal;
-use std::ops::Range;
 
 // The fields of a tile's header, as they stand.
 pub fn head(bytes: &[u8]) -> Head
@@ -59,7 +58,7 @@ pub fn edge(bytes: &[u8], index: u16) -> Result<Edge, Refusal>
 
 // The adjacency entries of a node. Starts may fall: then there are none.
 #[tactic(auto, using(std::proofs::lemmas::Bool::Decides::nat_tests), unfolding(crate::specs::Readers::incident))]
-pub fn incident(bytes: &[u8], node: u16) -> Result<Range<u32>, Refusal>
+pub fn incident(bytes: &[u8], node: u16) -> Result<Entries, Refusal>
     ensures { result ≡ Readers.incident bytes.now node }
 {
     if !raw::has_node(bytes, raw::last_read(bytes, node)) {
@@ -67,7 +66,10 @@ pub fn incident(bytes: &[u8], node: u16) -> Result<Range<u32>, Refusal>
     }
     let start = raw::adjacency_start(bytes, node as u32) as u32;
     let end = raw::adjacency_end(bytes, node);
-    Ok(start..end.max(start))
+    Ok(Entries {
+        start,
+        end: end.max(start),
+    })
 }
 
 // An edge at a node, by its place among all adjacency entries.

@@ -19,8 +19,7 @@ ghost use Rattle.view.specs.Views as Views;
 use geo::Point;
 use pack::{Header, TileKey};
 use refusal::Refusal;
-use std::ops::Range;
-use tile::{Edge, Head, Incident, Node, TileId};
+use tile::{Edge, Entries, Head, Incident, Node, TileId};
 
 // Key, counts and micrometres per micro-degree stand in the head, as `tile::read::head` has it. The readers go by the bytes alone, so that no count can
 // disagree with them.
@@ -87,7 +86,7 @@ impl<'a> Tile<'a> {
     }
 
     // The adjacency entries of a node.
-    pub fn incident(self, node: u16) -> Result<Range<u32>, Refusal>
+    pub fn incident(self, node: u16) -> Result<Entries, Refusal>
         ensures { result ≡ Readers.incident self.entry.bytes.now node }
     {
         tile::read::incident(self.bytes, node)

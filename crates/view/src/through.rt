@@ -8,8 +8,7 @@ use crate::Tile;
 use geo::Point;
 use pack::Header;
 use refusal::Refusal;
-use std::ops::Range;
-use tile::{Edge, Incident, Node};
+use tile::{Edge, Entries, Incident, Node};
 
 pub fn node_count(bytes: &[u8]) -> usize
     ensures { result ≡ Layout.nodes_of bytes.now }
@@ -29,7 +28,7 @@ pub fn node(bytes: &[u8], index: u16) -> Result<Node, Refusal>
     Tile::view(bytes).node(index)
 }
 
-pub fn incident(bytes: &[u8], node: u16) -> Result<Range<u32>, Refusal>
+pub fn incident(bytes: &[u8], node: u16) -> Result<Entries, Refusal>
     ensures { result ≡ Readers.incident bytes.now node }
 {
     Tile::view(bytes).incident(node)
