@@ -82,7 +82,8 @@ match_leaves (Ok Found.Nothing) f next fix pages = matched f next fix
 match_leaves (Ok (Found.Need key)) f next fix pages = match_asks f pages key
 match_leaves (Err refusal) f next fix pages = matched f next fix
 
-abbrev pub match_tells : Result MatchOutcome.Outcome Refusal → Due → ℕ → Status
+-- whatever a refusal is: a number, or one of the table
+abbrev pub match_tells : {E : Type 0} → Result MatchOutcome.Outcome E → Due → ℕ → Status
 match_tells (Ok (Found.Found m)) due pages = Status.Working
 match_tells (Ok Found.Nothing) due pages = Status.Working
 match_tells (Ok (Found.Need key)) due pages = cond (may_ask due pages) Status.Working Status.Idle
@@ -109,20 +110,20 @@ road_leaves (Ok (Road.Need key)) f a pages fix found = road_asks f pages fix fou
 road_leaves (Ok Road.Rematch) f a pages fix found = rematch f
 road_leaves (Err refusal) f a pages fix found = rematch f
 
--- the refusal of a step that worked out a road: after 10 the fix is matched again
+-- the number that a road is refused with, any number, and 0 where it is not
+abbrev pub road_number : Result RoadOutcome.Outcome ℕ → ℕ
+road_number (Ok outcome) = 0
+road_number (Err number) = number
+
+-- whether it refuses the step: after 10 the fix is matched again
+abbrev pub road_fails : Result RoadOutcome.Outcome ℕ → Bool
+road_fails (Ok outcome) = false
+road_fails (Err number) = not (number == 10)
+
+-- the refusal of a step that worked out a road, if its number fails the step (`refused_just_where`, `refused_by_number`)
 abbrev pub road_refusal : Result RoadOutcome.Outcome Refusal → Option Refusal
 road_refusal (Ok outcome) = None
-road_refusal (Err refusal) = cond (number_of refusal == 10) None (Some refusal)
-
--- whether there is one
-abbrev pub road_fails : Result RoadOutcome.Outcome Refusal → Bool
-road_fails (Ok outcome) = false
-road_fails (Err refusal) = not (number_of refusal == 10)
-
--- the number that a road is refused with, 0 where it is not
-abbrev pub road_number : Result RoadOutcome.Outcome Refusal → ℕ
-road_number (Ok outcome) = 0
-road_number (Err refusal) = number_of refusal
+road_refusal (Err refusal) = cond (road_fails (Err (number_of refusal))) (Some refusal) None
 
 -- ---- what a step of a load makes of the follower and of the phase, and its answer
 

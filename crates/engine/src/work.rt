@@ -215,7 +215,8 @@ fn match_leaves(
 }
 
 // How a step that matched ends, where the match is not refused.
-pub fn match_tells(due: Due, pages: usize, answer: Result<matcher::Outcome, Refusal>) -> Status
+// Generic over the refusal: the function is public and named in docs/, and takes a match that was refused with any number, or with a `Refusal`.
+pub fn match_tells<E: Copy>(due: Due, pages: usize, answer: Result<matcher::Outcome, E>) -> Status
     ensures { result ≡ Plans.match_tells answer due pages }
 {
     match answer {
@@ -349,38 +350,37 @@ fn road_leaves(
     }
 }
 
-// The refusal of a step that worked out a road: after 10 the fix is matched again.
+// The number that a road is refused with, 0 where it is not.
+// A number and no `Refusal`: the function is public and named in docs/, and takes a road that was refused with any number.
+pub fn road_number(answer: Result<Outcome, u32>) -> u32
+    ensures { result ≡ Plans.road_number answer }
+{
+    match answer {
+        Ok(_) => 0,
+        Err(number) => number,
+    }
+}
+
+// Whether a road refuses the step: after 10 the fix is matched again.
+// A number and no `Refusal`: the function is public and named in docs/, and takes a road that was refused with any number.
+pub fn road_fails(answer: Result<Outcome, u32>) -> bool
+    ensures { result ≡ Plans.road_fails answer }
+{
+    answer.is_err() && road_number(answer) != 10
+}
+
+// The refusal of a step that worked out a road, if its number fails the step.
 pub fn road_refusal(answer: Result<Outcome, Refusal>) -> Option<Refusal>
     ensures { result ≡ Plans.road_refusal answer }
 {
     match answer {
         Ok(_) => None,
         Err(refusal) => {
-            if refusal.number() == 10 {
-                return None;
+            if road_fails(Err(refusal.number())) {
+                return Some(refusal);
             }
-            Some(refusal)
+            None
         }
-    }
-}
-
-// Whether there is one.
-pub fn road_fails(answer: Result<Outcome, Refusal>) -> bool
-    ensures { result ≡ Plans.road_fails answer }
-{
-    match answer {
-        Ok(_) => false,
-        Err(refusal) => refusal.number() != 10,
-    }
-}
-
-// The number that a road is refused with, 0 where it is not.
-pub fn road_number(answer: Result<Outcome, Refusal>) -> u32
-    ensures { result ≡ Plans.road_number answer }
-{
-    match answer {
-        Ok(_) => 0,
-        Err(refusal) => refusal.number(),
     }
 }
 

@@ -4,7 +4,6 @@
 -- (`gathered_run`), so that the match made of it is `updated` (`made_by_cache`). The idea: the lookups so far changed clock and ages alone, so that
 -- `get` in the cache that they left answers as in the cache given (`updated_uses`); and a lookup that lands on a run either passes and uses it, or
 -- ends the match before it is gone through.
-use Rattle.refusal.specs.declared.Refusal.{Refusal}
 use Rattle.std.specs.Prelude.{Option, Some, None, Result, Ok, Err}
 use Prim.Native.Nat.{ℕ, zero, suc, ◌+◌, ◌-◌, ◌*◌, ◌<◌, ◌≤◌}
 use mathlib.Core.Path.{◌≡◌, refl, sym, ap, ◌∙◌}
@@ -81,15 +80,15 @@ module _ (at : Landings) (arena : List ℕ) (q : Query) (near : NearKeys) where
       → so_far kept (tiles + 1) ≡ gathered_to at arena q near (i + 1)
   gather_none i kept tiles k is = gather_next i None kept tiles k is
 
-  pub gather_turn : (i : ℕ) (key : TileKey) (answer : Result Lookup Refusal) (kept : Kept) (tiles : ℕ) → key_at near i ≡ Some key
+  pub gather_turn : (i : ℕ) (key : TileKey) (answer : Result Lookup ℕ) (kept : Kept) (tiles : ℕ) → key_at near i ≡ Some key
       → answer ≡ checked (landed_at at i) arena q.header.tile key
       → so_far kept tiles ≡ gathered_to at arena q near i
       → gathered_with (so_far kept tiles) answer arena q key ≡ gathered_to at arena q near (i + 1)
   gather_turn i key answer kept tiles k told is =
-      ap (λ (a : Result Lookup Refusal). gathered_with (so_far kept tiles) a arena q key) told ∙ gather_next i (Some key) kept tiles k is
+      ap (λ (a : Result Lookup ℕ). gathered_with (so_far kept tiles) a arena q key) told ∙ gather_next i (Some key) kept tiles k is
 
   -- once a lookup ended the match nothing is added
-  over_step : (end : Ending) (m : Option TileKey) (l : Result Lookup Refusal) (g : Gathered) → is_over end ≡ true → gather_step end m l g arena q ≡ g
+  over_step : (end : Ending) (m : Option TileKey) (l : Result Lookup ℕ) (g : Gathered) → is_over end ≡ true → gather_step end m l g arena q ≡ g
   over_step Ending.All m l g e = absurd (true≢false (sym e))
   over_step (Ending.Need key) m l g e = refl
   over_step Ending.Stale m l g e = refl
@@ -109,13 +108,13 @@ module _ (at : Landings) (arena : List ℕ) (q : Query) (near : NearKeys) where
 
   -- ---- a tile that is not gone through is not counted
 
-  with_tiles : (g : Gathered) (answer : Result Lookup Refusal) (key : TileKey) → (gathered_with g answer arena q key).tiles ≤ g.tiles + 1
+  with_tiles : (g : Gathered) (answer : Result Lookup ℕ) (key : TileKey) → (gathered_with g answer arena q key).tiles ≤ g.tiles + 1
   with_tiles g (Ok (Lookup.Ready first len)) key = omega arith
   with_tiles g (Ok Lookup.Missing) key = omega arith
   with_tiles g (Ok Lookup.Absent) key = omega arith
   with_tiles g (Err number) key = omega arith
 
-  step_tiles : (end : Ending) (m : Option TileKey) (l : Result Lookup Refusal) (g : Gathered) → (gather_step end m l g arena q).tiles ≤ g.tiles + 1
+  step_tiles : (end : Ending) (m : Option TileKey) (l : Result Lookup ℕ) (g : Gathered) → (gather_step end m l g arena q).tiles ≤ g.tiles + 1
   step_tiles Ending.All None l g = omega arith
   step_tiles Ending.All (Some key) l g = with_tiles g (checked l arena q.header.tile key) key
   step_tiles (Ending.Need key) m l g = omega arith
@@ -149,7 +148,7 @@ pub uses_turn : (at : Landings) (from : Aging) (i : ℕ) → uses_after at from 
 unfolding uses_after
 uses_turn at from i = up_turn (λ (a : Aging) (i : ℕ). used_by (landed_at at i) a) from i
 
-used_size : (l : Result Lookup Refusal) (a : Aging) (n : ℕ) → length a.used ≡ n → length (used_by l a).used ≡ n
+used_size : (l : Result Lookup ℕ) (a : Aging) (n : ℕ) → length a.used ≡ n → length (used_by l a).used ≡ n
 used_size (Ok (Lookup.Ready first len)) a n e = length-set a.used first (after a.clock) ∙ e
 used_size (Ok Lookup.Missing) a n e = e
 used_size (Ok Lookup.Absent) a n e = e
@@ -201,14 +200,14 @@ module _ (c : Cache) (arena : List ℕ) (q : Query) (near : NearKeys) where
       gone = is_so_far.all (ap is_over on)
 
       -- clock and ages once this tile too was gone through
-      used_more : (l : Result Lookup Refusal) → (land (key_at near n) c).lookup ≡ l → uses_after at (uses_of c) (g.tiles + 1) ≡ used_by l (uses_of now)
+      used_more : (l : Result Lookup ℕ) → (land (key_at near n) c).lookup ≡ l → uses_after at (uses_of c) (g.tiles + 1) ≡ used_by l (uses_of now)
       used_more l e =
           uses_turn at (uses_of c) g.tiles
           ∙ ap (used_by (landed_at at g.tiles)) is_so_far.uses
-          ∙ ap (λ (x : Result Lookup Refusal). used_by x (uses_of now)) (ap (landed_at at) gone ∙ landed_at_lem n below ∙ e)
+          ∙ ap (λ (x : Result Lookup ℕ). used_by x (uses_of now)) (ap (landed_at at) gone ∙ landed_at_lem n below ∙ e)
 
       module _ (key : TileKey) (here : (land (key_at near n) c).lookup ≡ Ok (landed c key)) where
-        ready_turn : (i : ℕ) → lands_on c key ≡ Landing.At i → ◌≡◌ {A = Result Lookup Refusal} (Ok (landed c key)) (Ok (Lookup.Ready i (len_at c i))) → (ok : Bool)
+        ready_turn : (i : ℕ) → lands_on c key ≡ Landing.At i → ◌≡◌ {A = Result Lookup ℕ} (Ok (landed c key)) (Ok (Lookup.Ready i (len_at c i))) → (ok : Bool)
             → passes arena i (len_at c i) key size ≡ ok
             → Follows (n + 1) (gathered_with g (checked (Ok (Lookup.Ready i (len_at c i))) arena size key) arena q key)
             (look_step (look_at (Landing.At i) c.pages.slots arena size key) r q key)
@@ -227,7 +226,7 @@ module _ (c : Cache) (arena : List ℕ) (q : Query) (near : NearKeys) where
         ready_turn i e l false p =
             rw p (record { kept = is_so_far.kept; end = refl; all = λ x. absurd (true≢false x); uses = is_so_far.uses })
 
-        land_turn : (l : Landing) → lands_on c key ≡ l → ◌≡◌ {A = Result Lookup Refusal} (Ok (landed c key)) (Ok (landed_by l c))
+        land_turn : (l : Landing) → lands_on c key ≡ l → ◌≡◌ {A = Result Lookup ℕ} (Ok (landed c key)) (Ok (landed_by l c))
             → Follows (n + 1) (gathered_with g (checked (Ok (landed_by l c)) arena size key) arena q key)
             (look_step (look_at l c.pages.slots arena size key) r q key)
         land_turn Landing.Missing e l =
@@ -288,7 +287,7 @@ module _ (c : Cache) (arena : List ℕ) (q : Query) (near : NearKeys) where
       ≡ gather_step (run n).end (key_at near n) (land (key_at near n) c).lookup g arena q
       = gather_more (landings c near) arena q near n
       ∙ ap (λ (end : Ending). gather_step end (key_at near n) (landed_at (landings c near) n) g arena q) before.end
-      ∙ ap (λ (l : Result Lookup Refusal). gather_step (run n).end (key_at near n) l g arena q) (landed_at_lem n below) in
+      ∙ ap (λ (l : Result Lookup ℕ). gather_step (run n).end (key_at near n) l g arena q) (landed_at_lem n below) in
       rw (more, run_more n) (turn n below g (run n) before (run n).end before.end)
 
   gathered_run : (n : ℕ) → n ≤ 4 → Follows n (gathered_to (landings c near) arena q near n) (run n)

@@ -118,25 +118,25 @@ unfoldable pub landings : Cache → NearKeys → Landings
 landings c near = record { v = land (key_at near 0) c ∷ land (key_at near 1) c ∷ land (key_at near 2) c ∷ land (key_at near 3) c ∷ [] }
 
 -- past the fourth stands the record of first variants, as the checker reads an array; no step asks there
-abbrev pub landed_at : Landings → ℕ → Result Lookup Refusal
+abbrev pub landed_at : Landings → ℕ → Result Lookup ℕ
 landed_at at i = (get_or at.v i (record { lookup = Ok (Lookup.Ready 0 0) })).lookup
 
 -- what was gathered while no lookup ended the match
 abbrev pub so_far : Kept → ℕ → Gathered
 so_far kept tiles = record { kept = kept; tiles = tiles; end = Ending.All }
 
-abbrev pub gathered_with : Gathered → Result Lookup Refusal → List ℕ → Query → TileKey → Gathered
+abbrev pub gathered_with : Gathered → Result Lookup ℕ → List ℕ → Query → TileKey → Gathered
 gathered_with g (Ok (Lookup.Ready first len)) arena q key = so_far (search g.kept q (bytes_of arena first len)) (g.tiles + 1)
 gathered_with g (Ok Lookup.Missing) arena q key = so_far g.kept (g.tiles + 1)
 gathered_with g (Ok Lookup.Absent) arena q key = record { kept = g.kept; tiles = g.tiles; end = Ending.Need key }
-gathered_with g (Err e) arena q key = record { kept = g.kept; tiles = g.tiles; end = Ending.Stale }
+gathered_with g (Err number) arena q key = record { kept = g.kept; tiles = g.tiles; end = Ending.Stale }
 
-abbrev pub gather_key : Option TileKey → Result Lookup Refusal → Gathered → List ℕ → Query → Gathered
+abbrev pub gather_key : Option TileKey → Result Lookup ℕ → Gathered → List ℕ → Query → Gathered
 gather_key None l g arena q = so_far g.kept (g.tiles + 1)
 gather_key (Some key) l g arena q = gathered_with g (checked l arena q.header.tile key) arena q key
 
 -- nothing more once they ended
-abbrev pub gather_step : Ending → Option TileKey → Result Lookup Refusal → Gathered → List ℕ → Query → Gathered
+abbrev pub gather_step : Ending → Option TileKey → Result Lookup ℕ → Gathered → List ℕ → Query → Gathered
 gather_step Ending.All k l g arena q = gather_key k l g arena q
 gather_step (Ending.Need key) k l g arena q = g
 gather_step Ending.Stale k l g arena q = g
@@ -165,11 +165,11 @@ searched m at arena h fix heading near = ended m heading (gathered_to at arena (
 -- ---- clock and ages
 
 -- the run that a lookup landed on is the most recently used
-abbrev pub used_by : Result Lookup Refusal → Aging → Aging
+abbrev pub used_by : Result Lookup ℕ → Aging → Aging
 used_by (Ok (Lookup.Ready first len)) a = used_at a first
 used_by (Ok Lookup.Missing) a = a
 used_by (Ok Lookup.Absent) a = a
-used_by (Err e) a = a
+used_by (Err number) a = a
 
 -- once the first n tiles were gone through; `from` has clock and ages before the first
 unfoldable pub uses_after : Landings → Aging → ℕ → Aging

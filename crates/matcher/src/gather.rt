@@ -130,7 +130,7 @@ pub fn searched(
 }
 
 // Clock and ages with the run that a lookup landed on as the most recently used.
-fn used_by(lookup: Result<Lookup, Refusal>, a: Aging) -> Aging
+fn used_by(lookup: Result<Lookup, u32>, a: Aging) -> Aging
     ensures { result ≡ Gather.used_by lookup a }
 {
     match lookup {

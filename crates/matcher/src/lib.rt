@@ -154,9 +154,10 @@ pub struct NearKeys {
 }
 
 // What the lookup of one of them lands on, before its late check; Missing where there is no tile.
+// A refusal is a number here and no `Refusal`: `gather::searched` is public and named in docs/, and takes a lookup that was refused with any number.
 #[derive(Clone, Copy)]
 pub struct Landed {
-    pub lookup: Result<Lookup, Refusal>,
+    pub lookup: Result<Lookup, u32>,
 }
 
 // Of each of the four.

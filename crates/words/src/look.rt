@@ -15,7 +15,6 @@ use cache::Lookup;
 use cache::ages::LOOKUPS;
 use matcher::{Landed, Landings, NearKey, NearKeys};
 use pack::TileKey;
-use refusal::Refusal;
 
 // What a lookup lands on, with the length of the run, which is not checked yet.
 fn landed(ws: &[u32; crate::WORDS], key: TileKey) -> Lookup
@@ -78,7 +77,7 @@ fn use_run(ws: &mut [u32; crate::WORDS], first: usize)
 }
 
 // What a lookup landed on, if it is a run, is the most recently used.
-fn use_landed(ws: &mut [u32; crate::WORDS], lookup: Result<Lookup, Refusal>)
+fn use_landed(ws: &mut [u32; crate::WORDS], lookup: Result<Lookup, u32>)
     requires { Words.accepted ws.old ≡ true }
     ensures { ws.new ≡ Put.uses_in (Gather.used_by lookup (Uses.uses_of (Words.cache_of ws.old 15))) ws.old }
 {
