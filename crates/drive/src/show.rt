@@ -100,7 +100,7 @@ fn heights(a: Ahead) -> [u8; 1002]
 {
     let mut out = [0u8; 1002];
     for (pair, z) in out.chunks_exact_mut(2).zip(a.samples) {
-        pair.copy_from_slice(&z.to_le_bytes());
+        pair.copy_from_slice(&num::cast::u16_of_i16(z).to_le_bytes());
     }
     out
 }

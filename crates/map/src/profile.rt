@@ -43,7 +43,8 @@ fn range(heights: &[i16]) -> Heights {
 fn above(low: i16, z: i16) -> u64
     ensures { result ≤ 65535 }
 {
-    z.abs_diff(low) as u64
+    let n = num::cast::u16_of_i16(z);
+    n.wrapping_sub(num::cast::u16_of_i16(low)) as u64
 }
 
 // Where sample i of so many lies.

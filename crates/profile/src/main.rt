@@ -3,15 +3,14 @@
 
 use profile_text::ROOM;
 use std::io;
-use std::io::Read;
 
 // More than any good input has: what is longer is bad input, however long it is.
-const MOST: u64 = 4096;
+const MOST: usize = 4096;
 
 fn main(rt: HostRuntime) -> io::Result<()> {
-    let mut input = Vec::new(rt.alloc());
-    rt.reader().take(MOST).read_to_end(&mut input)?;
+    let mut input = [0u8; MOST];
+    let n = reading::read_full(&mut rt.reader(), &mut input)?;
     let mut out = [0u8; ROOM];
-    let len = profile_text::text(&input, &mut out);
+    let len = profile_text::text(&input[..n], &mut out);
     rt.write_all(&out[..len])
 }

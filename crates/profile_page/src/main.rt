@@ -2,29 +2,34 @@
 // page that has a sample, or page 0 where there is none, with a form feed between two.
 #![tactic(auto)]
 
+ghost use Rattle.std.specs.Prelude.{◌≡◌, length};
+
 use profile_text::page::page;
-use std::alloc::Global;
 use std::io;
-use std::io::Read;
 use std::rt::Env;
 
 // The heading and fifty lines, of 41 bytes each.
 const PAGE: usize = 2091;
 
 // More than any good input has: what is longer is bad input, however long it is.
-const MOST: u64 = 4096;
+const MOST: usize = 4096;
+
+// Heights in the longest good input.
+const HEIGHTS: usize = 501;
 
 fn bad_input(rt: &impl Print) -> io::Result<()> {
     println!(rt; "bad input")
 }
 
-// Two bytes each, the low one first.
-fn heights(alloc: Global, input: &[u8]) -> io::Result<Vec<i16>> {
-    let mut samples = Vec::new(alloc);
-    for pair in input.chunks_exact(2) {
-        samples.push(i16::from_le_bytes([pair[0], pair[1]]))?;
+// Two bytes each, the low one first; zeros behind them.
+fn heights(input: &[u8]) -> [i16; HEIGHTS]
+    ensures { 501 ≡ length result }
+{
+    let mut samples = [0; HEIGHTS];
+    for (sample, pair) in samples.iter_mut().zip(input.chunks_exact(2)) {
+        *sample = i16::from_le_bytes([pair[0], pair[1]]);
     }
-    Ok(samples)
+    samples
 }
 
 fn show(rt: &impl Print, samples: &[i16], p: u32) -> io::Result<()> {
@@ -65,20 +70,21 @@ fn show_named(rt: &(impl Env + Print), samples: &[i16]) -> io::Result<()> {
     }
 }
 
-fn print(rt: &(impl Env + Print + AllocGlobal), input: &[u8]) -> io::Result<()> {
+fn print(rt: &(impl Env + Print), input: &[u8]) -> io::Result<()> {
     if 1002 < input.len() || input.len() % 2 != 0 || reading::has_argument(rt, 2) {
         return bad_input(rt);
     }
-    let samples = heights(rt.alloc(), input)?;
+    let all = heights(input);
+    let samples = &all[..input.len() / 2];
     if reading::has_argument(rt, 1) {
-        show_named(rt, &samples)
+        show_named(rt, samples)
     } else {
-        show_all(rt, &samples)
+        show_all(rt, samples)
     }
 }
 
 fn main(rt: HostRuntime) -> io::Result<()> {
-    let mut input = Vec::new(rt.alloc());
-    rt.reader().take(MOST).read_to_end(&mut input)?;
-    print(&rt, &input)
+    let mut input = [0u8; MOST];
+    let n = reading::read_full(&mut rt.reader(), &mut input)?;
+    print(&rt, &input[..n])
 }

@@ -14,43 +14,38 @@ const EDGES: usize = 17192;
 
 const VERTICES: usize = 24558;
 
-// Room for a tile, for the bytes of all, for how many they are, and for the pack: those bytes and a directory of 98,240 places.
-const TILE: usize = 49152;
-
+// Room for the bytes of all tiles, for how many they are, and for the pack: those bytes and a directory of 98,240 places.
 const TILES: usize = 3145728;
 
 const COUNT: usize = 16384;
 
-const PACK: usize = 3932160;
+pub const PACK: usize = 3932160;
+
+// A word more than the longest record has: a line with more is none.
+const WORDS: usize = 9;
 
 // The tile whose records are being read, and its line.
-#[derive(Drop)]
+#[derive(Clone, Copy)]
 struct Open {
     line: u32,
     key: TileKey,
     lon_um: u32,
-    nodes: Vec<u16>,
-    edges: Vec<u32>,
-    vertices: Vec<u16>,
 }
 
-// A tile that is done: its line and length; how many tiles there are with it, and where its bytes end among those of all.
-#[derive(Clone, Copy)]
-struct Done {
-    line: u32,
-    length: u32,
-    count: usize,
-    end: usize,
-}
-
+// Each list has its room from the start on: one that grew would take up to twice as much at the end.
 #[derive(Drop)]
 pub struct Build {
-    alloc: Global,
     // With its line.
     grid: Option<(u32, Grid)>,
     open: Option<Open>,
+    // The numbers of the open tile's records.
+    nodes: Vec<u16>,
+    edges: Vec<u32>,
+    vertices: Vec<u16>,
+    // The tiles that are done: their bytes, and the length and the line of each.
     bytes: Vec<u8>,
-    done: Vec<Done>,
+    lengths: Vec<u32>,
+    lines: Vec<u32>,
 }
 
 // The numbers of a record put behind those before it. More than there is room for make a tile over 49,152 bytes.
@@ -67,47 +62,53 @@ fn put<T: Copy + Drop>(
     Ok(())
 }
 
-impl Open {
-    // A record of the tile, put behind those before it.
-    fn record(&mut self, line: u32, word: &[u8], rest: &[&[u8]]) -> Result<(), Fault> {
+impl Build {
+    pub(crate) fn new(alloc: Global) -> Result<Build, Fault> {
+        Ok(Build {
+            grid: None,
+            open: None,
+            nodes: Vec::with_capacity(alloc, NODES)?,
+            edges: Vec::with_capacity(alloc, EDGES)?,
+            lengths: Vec::with_capacity(alloc, COUNT)?,
+            lines: Vec::with_capacity(alloc, COUNT)?,
+            vertices: Vec::with_capacity(alloc, VERTICES)?,
+            bytes: Vec::with_capacity(alloc, TILES)?,
+        })
+    }
+
+    // A record of the tile of line `tile`, put behind those before it.
+    fn record(&mut self, tile: u32, line: u32, word: &[u8], rest: &[&[u8]]) -> Result<(), Fault> {
         let unread = Fault::Unread(line);
         match word {
             b"node" => {
                 let node: [u16; 3] = numbers(rest).ok_or(unread)?;
-                put(&mut self.nodes, &node, NODES, self.line)
+                put(&mut self.nodes, &node, NODES, tile)
             }
             b"edge" => {
                 let edge: [u32; 7] = numbers(rest).ok_or(unread)?;
-                put(&mut self.edges, &edge, EDGES, self.line)
+                put(&mut self.edges, &edge, EDGES, tile)
             }
             b"vertex" => {
                 let vertex: [u16; 3] = numbers(rest).ok_or(unread)?;
-                put(&mut self.vertices, &vertex, VERTICES, self.line)
+                put(&mut self.vertices, &vertex, VERTICES, tile)
             }
             _ => Err(unread),
         }
     }
-}
 
-impl Build {
-    pub(crate) fn new(alloc: Global) -> Build {
-        Build {
-            alloc,
-            grid: None,
-            open: None,
-            bytes: Vec::new(alloc),
-            done: Vec::new(alloc),
-        }
-    }
-
-    // A line: nothing, the grid, the beginning of a tile, or a record of the open one.
-    pub(crate) fn line(&mut self, number: u32, line: &[u8]) -> Result<(), Fault> {
+    // A line: nothing, the grid, the beginning of a tile, or a record of the open one. `out` is where a tile is written before its length is known.
+    pub(crate) fn line(&mut self, number: u32, line: &[u8], out: &mut [u8]) -> Result<(), Fault> {
         let unread = Fault::Unread(number);
-        let words = line
-            .split(is_blank)
-            .filter(|word| !word.is_empty())
-            .collect::<Vec<&[u8]>>(self.alloc)?;
-        let Some((word, rest)) = words.split_first() else {
+        let mut room = [b"".as_slice(); WORDS];
+        let words = line.split(is_blank).filter(|word| !word.is_empty());
+        for (i, word) in words.enumerate() {
+            if WORDS <= i {
+                break;
+            }
+            room[i] = word;
+        }
+        let count = room.iter().position(|word| word.is_empty());
+        let Some((word, rest)) = room[..count.unwrap_or(WORDS)].split_first() else {
             return Ok(());
         };
         if word.starts_with(b"#") {
@@ -120,13 +121,17 @@ impl Build {
             return self.begin(number, words::grid(rest).ok_or(unread)?);
         };
         if *word == b"tile".as_slice() {
-            self.close(grid)?;
+            self.close(grid, out)?;
             let (key, lon_um) = words::tile(rest).ok_or(unread)?;
-            self.open = Some(self.opened(number, key, lon_um));
+            self.open = Some(Open {
+                line: number,
+                key,
+                lon_um,
+            });
             return Ok(());
         }
-        match &mut self.open {
-            Some(open) => open.record(number, word, rest),
+        match self.open {
+            Some(open) => self.record(open.line, number, word, rest),
             None => Err(unread),
         }
     }
@@ -140,108 +145,72 @@ impl Build {
         Ok(())
     }
 
-    fn opened(&self, line: u32, key: TileKey, lon_um: u32) -> Open {
-        Open {
-            line,
-            key,
-            lon_um,
-            nodes: Vec::new(self.alloc),
-            edges: Vec::new(self.alloc),
-            vertices: Vec::new(self.alloc),
-        }
-    }
-
     // The open tile, if there is one, written behind those before it.
-    fn close(&mut self, grid: Grid) -> Result<(), Fault> {
+    fn close(&mut self, grid: Grid, out: &mut [u8]) -> Result<(), Fault> {
         let Some(open) = self.open.take() else {
             return Ok(());
         };
-        let mut room = [0u8; TILE];
-        let left = TILES.saturating_sub(self.bytes.len()).min(TILE);
+        let left = TILES.saturating_sub(self.bytes.len()).min(out.len());
         let length = writer::tile(
             open.key,
             grid.size,
             open.lon_um,
-            &open.nodes,
-            &open.edges,
-            &open.vertices,
-            &mut room[..left],
+            &self.nodes,
+            &self.edges,
+            &self.vertices,
+            &mut out[..left],
         )
         .map_err(|refusal| Fault::Refused(open.line, refusal))?;
-        if COUNT <= self.done.len() {
+        if COUNT <= self.lengths.len() {
             return Err(Fault::Refused(open.line, Refusal::NoRoom));
         }
-        self.bytes
-            .extend_from_slice(&room[..(length as usize).min(TILE)])?;
-        self.done.push(Done {
-            line: open.line,
-            length,
-            count: self.done.len() + 1,
-            end: self.bytes.len(),
-        })?;
+        let end = out.len().min(length as usize);
+        self.bytes.extend_from_slice(&out[..end])?;
+        self.lengths.push(length)?;
+        self.lines.push(open.line)?;
+        self.nodes.clear();
+        self.edges.clear();
+        self.vertices.clear();
         Ok(())
     }
 
-    // The pack of the grid and the first `count` tiles, whose bytes end at `end`.
-    fn packed(
-        &self,
-        grid: Grid,
-        count: usize,
-        end: usize,
-        lengths: &[u32],
-        out: &mut [u8],
-    ) -> Result<u32, Refusal> {
-        writer::pack(
-            grid,
-            &self.bytes[..end.min(self.bytes.len())],
-            &lengths[..count.min(lengths.len())],
-            out,
-        )
+    // The pack of the grid and the first `count` tiles.
+    fn packed(&self, grid: Grid, count: usize, out: &mut [u8]) -> Result<u32, Refusal> {
+        let lengths = &self.lengths[..count.min(self.lengths.len())];
+        let end = lengths
+            .iter()
+            .fold(0usize, |end, length| end.saturating_add(*length as usize));
+        writer::pack(grid, &self.bytes[..end.min(self.bytes.len())], lengths, out)
+    }
+
+    // How many tiles there are up to the one of this line.
+    fn count_to(&self, line: u32) -> usize {
+        self.lines.partition_point(|other| *other <= line)
     }
 
     // The line to blame where the pack is refused: that of the first tile with which it is, or the grid's. What is wrong with some tiles stays wrong with more,
     // and 13 comes before 14.
-    fn blamed(
-        &self,
-        grid_line: u32,
-        grid: Grid,
-        refusal: Refusal,
-        lengths: &[u32],
-        out: &mut [u8],
-    ) -> u32 {
-        if self.packed(grid, 0, 0, lengths, out) == Err(refusal) {
+    fn blamed(&self, grid_line: u32, grid: Grid, refusal: Refusal, out: &mut [u8]) -> u32 {
+        if self.packed(grid, 0, out) == Err(refusal) {
             return grid_line;
         }
-        let first = self.done.partition_point(|tile| self.packed(
-            grid, tile.count, tile.end, lengths, out,
-        ) != Err(refusal));
-        match self.done.get(first) {
-            Some(tile) => tile.line,
+        let first = self.lines.partition_point(|line| self.packed(grid, self.count_to(*line), out)
+            != Err(refusal));
+        match self.lines.get(first) {
+            Some(line) => *line,
             None => grid_line,
         }
     }
 
-    // The text's end, where line `number` would be, closes the last tile; without a grid it can't be read.
-    pub(crate) fn pack(mut self, number: u32) -> Result<Vec<u8>, Fault> {
+    // The text's end, where line `number` would be, closes the last tile; without a grid it can't be read. The pack's length, in `out`.
+    pub(crate) fn pack(mut self, number: u32, out: &mut [u8]) -> Result<u32, Fault> {
         let Some((line, grid)) = self.grid else {
             return Err(Fault::Unread(number));
         };
-        self.close(grid)?;
-        let lengths = self
-            .done
-            .iter()
-            .map(|tile| tile.length)
-            .collect::<Vec<u32>>(self.alloc)?;
-        let mut out = vec![in self.alloc; 0u8; PACK]?;
-        match self.packed(grid, self.done.len(), self.bytes.len(), &lengths, &mut out) {
-            Ok(length) => {
-                out.truncate(length as usize);
-                Ok(out)
-            }
-            Err(refusal) => Err(Fault::Refused(
-                self.blamed(line, grid, refusal, &lengths, &mut out),
-                refusal,
-            )),
-        }
+        self.close(grid, out)?;
+        self.packed(grid, self.lengths.len(), out).map_err(|refusal| Fault::Refused(
+            self.blamed(line, grid, refusal, out),
+            refusal,
+        ))
     }
 }

@@ -1,7 +1,5 @@
 // The numbers of a line: the words behind its first. None where one is missing or too many, or doesn't fit its type.
 use pack::TileKey;
-use std::str;
-use std::str::FromStr;
 use writer::Grid;
 
 // What stands between words: blanks, tabs, and the return that some editors put before a line's end.
@@ -9,23 +7,44 @@ pub(crate) fn is_blank(b: &u8) -> bool {
     matches!(b, b' ' | b'\t' | b'\r')
 }
 
-// Digits alone, with a '-' before them where the type has a sign: `parse` takes a '+' too.
-fn number<T: FromStr + Drop>(word: &[u8]) -> Option<T>
-where
-    T::Err: Drop,
-{
-    if word.starts_with(b"+") {
+// One digit or more, and nothing else. A number past 64 bits is held to them, which no field has either. By hand: `parse` takes a '+' too, and asks for a text, whose
+// check takes as long as the reading.
+fn digits(word: &[u8]) -> Option<u64> {
+    if word.is_empty() {
         return None;
     }
-    str::from_utf8(word).ok()?.parse().ok()
+    let mut size = 0u64;
+    for b in word {
+        if !b.is_ascii_digit() {
+            return None;
+        }
+        size = size.saturating_mul(10).saturating_add(u64::from(b % 16));
+    }
+    Some(size)
+}
+
+fn number<T: TryFrom<u64>>(word: &[u8]) -> Option<T>
+where
+    T::Error: Drop,
+{
+    T::try_from(digits(word)?).ok()
+}
+
+// The same with a '-' before it where it is negative.
+fn signed(word: &[u8]) -> Option<i32> {
+    if let Some((b'-', rest)) = word.split_first() {
+        let size = i64::try_from(digits(rest)?).ok()?;
+        return i32::try_from(-size).ok();
+    }
+    number(word)
 }
 
 // So many numbers.
-pub(crate) fn numbers<T: FromStr + Copy + Default, const N: usize>(
+pub(crate) fn numbers<T: TryFrom<u64> + Copy + Default, const N: usize>(
     words: &[&[u8]],
 ) -> Option<[T; N]>
 where
-    T::Err: Drop,
+    T::Error: Drop,
 {
     if words.len() != N {
         return None;
@@ -42,8 +61,8 @@ pub(crate) fn grid(words: &[&[u8]]) -> Option<Grid> {
         return None;
     };
     Some(Grid {
-        south: number(south)?,
-        west: number(west)?,
+        south: signed(south)?,
+        west: signed(west)?,
         size: number(size)?,
         rows: number(rows)?,
         cols: number(cols)?,
