@@ -32,7 +32,7 @@ struct Open {
     lon_um: u32,
 }
 
-// Each list has its room from the start on: one that grew would take up to twice as much at the end.
+// Each list has its room from the start on, the tiles' bytes once there is a grid: one that grew would take up to twice as much at the end.
 #[derive(Drop)]
 pub struct Build {
     // With its line.
@@ -72,7 +72,7 @@ impl Build {
             lengths: Vec::with_capacity(alloc, COUNT)?,
             lines: Vec::with_capacity(alloc, COUNT)?,
             vertices: Vec::with_capacity(alloc, VERTICES)?,
-            bytes: Vec::with_capacity(alloc, TILES)?,
+            bytes: Vec::new(alloc),
         })
     }
 
@@ -142,6 +142,7 @@ impl Build {
             return Err(Fault::Refused(line, Refusal::BadValue));
         }
         self.grid = Some((line, grid));
+        self.bytes.reserve_exact(TILES)?;
         Ok(())
     }
 
